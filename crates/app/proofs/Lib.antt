@@ -1,0 +1,2 @@
+pub mod Apps
+pub mod Injective

@@ -1,0 +1,2 @@
+pub mod Byes
+pub mod Injective

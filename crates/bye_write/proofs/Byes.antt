@@ -1,0 +1,148 @@
+-- The cases of a BYE's size and bytes, each from what the code has tested or called.
+use borrow.Author.Needs.{needs}
+use Prim.Native.Nat.{ℕ, zero, suc, _+_, _-_, _*_, _/_, _%_, _<_, _≤_}
+use mathlib.Core.Path.{_≡_, refl, sym, ap, _∙_}
+use mathlib.Core.Bool.{Bool, true, false}
+use mathlib.Core.List.{List, [], _∷_, _++_}
+use native.Mathlib.Nat.{add-zero, le-antisymm}
+use native.Mathlib.Numerals.{add-one}
+use native.Mathlib.Omega.{arith}
+use borrow.Author.Tests.{le-leb, lt-leb, leb-true, not-true, not-false}
+use lib.ListN.{length, drop, set, getD, replicate, length-append, length-drop, length-replicate, length-set, drop-of-length-le}
+use lib.Seq.{drop-cons}
+use lib.Dec.{leb}
+use Rattle.rfc3550.specs.Answer.{Answer, ok, refused, refusal, need, _>>_}
+use Rattle.rfc3550.specs.Bytes.{be, put, store}
+use Rattle.rfc3550.specs.Packet.{Content, bye, contentBytes, layout, leavingBytes}
+use Rattle.rfc3550.specs.Write.{Given, giveBye, leavingOf, packetGiven, contentGiven, paddingBytes, paddingOk, ownTests, calculateSize}
+use Rattle.rfc3550.proofs.Answer.{need-inv, need-ok, and-inv}
+use Rattle.rfc3550.proofs.Bytes.{length-be, length-store}
+use Rattle.rfc3550.proofs.Write.{length-paddingBytes}
+use Rattle.utils.specs.Writer.{writtenOf, header}
+use Rattle.utils.specs.declared.writer.Written.{Written}
+use Rattle.utils.specs.declared.writer.Written.the-variants.{Size, Refused}
+use Rattle.utils.proofs.WriterStores.{store-nil, store-store, store-puts}
+use Rattle.utils.proofs.WriterPackets.{writes, padding-most, sized, size-ok, size-refused, parts-laid, header-long, packet-laid}
+use Rattle.bye_write.specs.Bye.{sourcesBytes, ByeFits}
+
+-- ---- sources
+
+pub length-sources : (ss : List ℕ) → length (sourcesBytes ss) ≡ length ss * 4
+unfolding sourcesBytes put
+length-sources [] = refl
+length-sources (s ∷ ss) = rw (length-append (be 4 s), length-be, length-sources ss) (omega arith)
+
+-- after i turns the words of the rest are still to be stored
+pub record Sources (at : ℕ) (ss l : List ℕ) (i : ℕ) (l₁ : List ℕ) : Type 0 where
+  pub within : i ≤ length ss
+  pub long : length l₁ ≡ length l
+  pub rest : store (at + i * 4) (sourcesBytes (drop i ss)) l₁ ≡ store at (sourcesBytes ss) l
+
+module _ (at : ℕ) (ss l : List ℕ) where
+  pub sources-start : Sources at ss l 0 l
+  sources-start = record { within = omega arith; long = refl; rest = rw add-zero }
+
+  pub sources-again : (i : ℕ) (l₁ l₂ : List ℕ) → at + length ss * 4 ≤ length l → Sources at ss l i l₁ → i < length ss → l₂ ≡ store (at + i * 4) (be 4 (getD ss i 0)) l₁ → Sources at ss l (i + 1) l₂
+  unfolding sourcesBytes put
+  sources-again i l₁ l₂ h w f e =
+      let n : length (sourcesBytes (drop (suc i) ss)) ≡ length (drop (suc i) ss) * 4 = length-sources (drop (suc i) ss) in
+      let d : length (drop (suc i) ss) ≡ length ss - suc i = length-drop (suc i) ss in
+      let lb = length-be 4 (getD ss i 0) in
+      let s : store (at + suc i * 4) (sourcesBytes (drop (suc i) ss)) l₂ ≡ store (at + i * 4) (be 4 (getD ss i 0) ++ sourcesBytes (drop (suc i) ss)) l₁ =
+      rw e (store-store (at + i * 4) (at + suc i * 4) (be 4 (getD ss i 0)) (sourcesBytes (drop (suc i) ss)) l₁ (omega arith) (omega (arith, w .long))) in
+      record {
+        within = omega arith;
+        long = ap length e ∙ length-store (at + i * 4) (be 4 (getD ss i 0)) l₁ (omega (arith, w .long)) ∙ w .long;
+        rest = rw (add-one i, s) (rw (drop-cons ss i 0 f) at (w .rest));
+      }
+
+  pub sources-done : (i : ℕ) (l₁ : List ℕ) → Sources at ss l i l₁ → length ss ≤ i → l₁ ≡ store at (sourcesBytes ss) l
+  unfolding sourcesBytes put
+  sources-done i l₁ w f =
+      let z : drop i ss ≡ [] = drop-of-length-le ss {i = i} f in
+      sym (store-nil (at + i * 4) l₁) ∙ rw z at (w .rest)
+
+-- ---- reason
+
+leaving-some : (r : List ℕ) → (length r ≡ 0 → ⊥) → leavingBytes (leavingOf r) ≡ (length r ∷ r) ++ replicate ((4 - (1 + length r) % 4) % 4) 0
+leaving-some [] h = absurd (h refl)
+leaving-some (b ∷ r) h = refl
+
+pub reason-none : (r : List ℕ) → length r ≡ 0 → (0 ≡ length (leavingBytes (leavingOf r))) × (0 ≤ 256)
+reason-none [] h = (refl, omega arith)
+reason-none (b ∷ r) h = absurd (omega arith)
+
+pub reason-some : (r : List ℕ) → (length r ≡ 0 → ⊥) → (length r + 4) / 4 * 4 ≡ length (leavingBytes (leavingOf r))
+reason-some r h = sym (rw (leaving-some r h) (simp (length-append, length-replicate) (omega arith)))
+
+pub reason-not-laid : (at : ℕ) (r l : List ℕ) → length r ≡ 0 → l ≡ store at (leavingBytes (leavingOf r)) l
+reason-not-laid at [] l h = sym (store-nil at l)
+reason-not-laid at (b ∷ r) l h = absurd (omega arith)
+
+pub reason-laid : (at : ℕ) (r l l₁ l₂ : List ℕ) → (length r ≡ 0 → ⊥) → at + length (leavingBytes (leavingOf r)) ≤ length l
+    → l₁ ≡ store (at + 1) r (set l at (length r)) → l₂ ≡ store (at + 1 + length r) (replicate ((4 - (1 + length r) % 4) % 4) 0) l₁ → l₂ ≡ store at (leavingBytes (leavingOf r)) l
+reason-laid at r l l₁ l₂ h f e₁ e₂ =
+    let m = reason-some r h in
+    let s : l₁ ≡ store at (length r ∷ r) l = e₁ ∙ rw (store-puts at (length r) [] l (omega arith)) (store-store at (at + 1) (length r ∷ []) r l refl (omega arith)) in
+    e₂ ∙ rw (s, leaving-some r h) (store-store at (at + 1 + length r) (length r ∷ r) (replicate ((4 - (1 + length r) % 4) % 4) 0) l (omega arith) (rw length-replicate (omega arith)))
+
+pub reason-le : (r : List ℕ) → length r ≤ 255 → length (leavingBytes (leavingOf r)) ≤ 256
+reason-le [] h = omega arith
+reason-le (b ∷ r) h = omega (arith, reason-some (b ∷ r) (λ e. omega arith))
+
+pub reason-long : (r : List ℕ) → length r ≤ 255 → (length r ≡ 0 → ⊥) → ((length r + 4) / 4 * 4 ≡ length (leavingBytes (leavingOf r))) × ((length r + 4) / 4 * 4 ≤ 256)
+reason-long r f h = (reason-some r h, omega arith)
+
+-- ---- the size
+
+module _ (ss r : List ℕ) (k : ℕ) where
+  pub too-many : 31 < length ss → refused (refusal 15 (length ss) 31) ≡ calculateSize (giveBye ss r k)
+  unfolding ownTests need _>>_
+  too-many h = size-refused (giveBye ss r k) (simp (lt-leb _ _ h))
+
+  pub bad-padding : (t : Bool) → length ss ≤ 31 → t ≡ paddingOk k → t ≡ false → refused (refusal 11 k 0) ≡ calculateSize (giveBye ss r k)
+  unfolding ownTests need _>>_
+  bad-padding t h e q = size-refused (giveBye ss r k) (simp (le-leb _ _ h, ← e, q))
+
+  pub too-long : (t : Bool) → length ss ≤ 31 → t ≡ paddingOk k → t ≡ true → 255 < length r → refused (refusal 16 (length r) 255) ≡ calculateSize (giveBye ss r k)
+  unfolding ownTests need _>>_
+  too-long t h e q f = size-refused (giveBye ss r k) (simp (le-leb _ _ h, ← e, q, lt-leb _ _ f))
+
+  content-length : length (contentBytes (bye ss (leavingOf r))) ≡ length ss * 4 + length (leavingBytes (leavingOf r))
+  unfolding contentBytes sourcesBytes
+  content-length = length-append (put (replicate (length ss) 4) ss) (leavingBytes (leavingOf r)) ∙ ap (λ (n : ℕ). n + length (leavingBytes (leavingOf r))) (length-sources ss)
+
+  pub bye-size : (t : Bool) (m : ℕ) → length ss ≤ 31 → t ≡ paddingOk k → t ≡ true → length r ≤ 255 → m ≡ length (leavingBytes (leavingOf r)) → ok (4 + length ss * 4 + m + k) ≡ calculateSize (giveBye ss r k)
+  unfolding ownTests need _>>_
+  bye-size t m h e q f g =
+      let p : k ≤ 252 = padding-most t k e q in
+      size-ok (giveBye ss r k) (4 + length ss * 4 + m + k) (simp (le-leb _ _ h, ← e, q, le-leb _ _ f)) (omega (arith, content-length)) (omega (arith, reason-le r f))
+
+  pub bye-fits : (w : Written) (n room : ℕ) → writtenOf w ≡ calculateSize (giveBye ss r k) → w ≡ Size n → n ≤ room → ByeFits ss r k n room
+  unfolding ownTests
+  bye-fits w n room e q h =
+      let z = sized (giveBye ss r k) n (sym e ∙ ap writtenOf q) in
+      let a = need-inv _ _ _ _ _ (z .own) in
+      let b = need-inv _ _ _ _ _ (a .1) in
+      record {
+        sources = leb-true _ _ (a .0);
+        reason = leb-true _ _ (need-ok _ _ _ _ (b .1));
+        padding = padding-most _ k refl (b .0);
+        size = omega (arith, content-length);
+        most = z .most;
+        room = h;
+      }
+
+  pub bye-laid : (size : ℕ) (l l₁ l₂ l₃ l₄ : List ℕ) → ByeFits ss r k size (length l) → l₁ ≡ store 0 (header k (length ss) 203 size) l → l₂ ≡ store 4 (sourcesBytes ss) l₁
+      → l₃ ≡ store (4 + length ss * 4) (leavingBytes (leavingOf r)) l₂ → l₄ ≡ store (size - k) (paddingBytes k) l₃ → l₄ ≡ store 0 (layout (packetGiven (giveBye ss r k))) l
+  unfolding contentBytes sourcesBytes
+  bye-laid size l l₁ l₂ l₃ l₄ f e₁ e₂ e₃ e₄ =
+      let n = length-sources ss in
+      let c = content-length in
+      let z = f .size in
+      let m = f .room in
+      let ln = header-long k (length ss) 203 size l l₁ (omega arith) e₁ in
+      let p = parts-laid 4 (4 + length ss * 4) (sourcesBytes ss) (leavingBytes (leavingOf r)) l₁ l₂ l₃ e₂ e₃ (omega arith) (omega arith) in
+      packet-laid (bye ss (leavingOf r)) k size (size - k) l l₁ l₃ l₄ (omega arith) m (omega arith) e₁ p e₄
+
+pub ruleset byes = (writes, not-true, not-false, sources-start, sources-again, sources-done, reason-none, reason-long, reason-not-laid, reason-laid, too-many, bad-padding, too-long, bye-size, bye-fits, bye-laid)

@@ -1,0 +1,3 @@
+// SDES items and chunks, written.
+pub mod chunk;
+pub mod item;

@@ -1,0 +1,369 @@
+-- A datagram: the steps of a packet's frame, the packet behind it, and the loop over the packets.
+use borrow.Author.Needs.{needs}
+use mathlib.Core.Path.{_≡_, refl, sym, ap, _∙_, subst}
+use mathlib.Core.Bool.{Bool, true, false, _||_, not}
+use mathlib.Core.List.{List, [], _∷_}
+use Prim.Native.Nat.{ℕ, zero, suc, _+_, _-_, _<_, _≤_, _^_}
+use native.Mathlib.Nat.{zero-add, add-zero}
+use native.Mathlib.Omega.{arith}
+use borrow.Author.Tests.{lt-leb, le-leb, lt-ltb, le-ltb, eq-eqb, ne-eqb, eqb-true, leb-true, not-true, not-false}
+use lib.ListN.{length, take, drop, getD, length-drop, drop-of-length-le}
+use lib.Seq.{length-take-le, take-all, drop-drop, getD-take, drop-cons}
+use lib.Dec.{eqb}
+use Rattle.rfc3550.specs.Answer.{Refusal, Answer, ok, refused, refuse, need, _>>_, _>>=_, mapOk, pick}
+use Rattle.rfc3550.specs.Packet.{Packet as Read, hasCname, some}
+use Rattle.rfc3550.specs.Read.{kindOf, versionIn, padded, typeIn, lowIn, stated, readAs}
+use Rattle.rfc3550.specs.Compound.{readPacket, readPackets, readCompound}
+use Rattle.rfc3550.specs.Walk.{openWalk, step}
+use Rattle.rfc3550.proofs.Answer.{need-inv, ok-injective, refused≢ok, mapOk-inv, or-assoc}
+use Rattle.rfc3550.proofs.Compound.{packet-span, packets-turns}
+use Rattle.utils.specs.Error.{refusalIn}
+use Rattle.utils.specs.declared.error.RtcpParseError.{RtcpParseError}
+use Rattle.utils.proofs.Reading.{mapOk-refused}
+use Rattle.compound.specs.Packet.{packetView, parsedOf, named}
+use Rattle.compound.specs.Compound.{paddingLast, reportFirst, frame, spanOf, readOf, spanned, compoundView, parsedCompoundOf, walkAt, stepView}
+use Rattle.compound.specs.declared.packet.Packet.{Packet}
+use Rattle.compound.specs.declared.packet.ParsedPacket.{ParsedPacket}
+use Rattle.compound.specs.declared.packet.ParsedPacket.the-variants as parsed
+use Rattle.compound.specs.declared.compound.Span.{Span}
+use Rattle.compound.specs.declared.compound.Span.the-variants as span
+use Rattle.compound.specs.declared.compound.ReadPacket.{ReadPacket}
+use Rattle.compound.specs.declared.compound.ReadPacket.the-variants as read
+use Rattle.compound.specs.declared.compound.Compound.{Compound}
+use Rattle.compound.specs.declared.compound.ParsedCompound.{ParsedCompound}
+use Rattle.compound.specs.declared.compound.ParsedCompound.the-variants as compound
+use Rattle.compound.proofs.Packets.{named-is}
+
+-- ---- the two tests of the frame
+
+module _ (s : List ℕ) (n : ℕ) (b : Bool) (e : b ≡ padded s) where
+  pub padding-set : b ≡ true → eqb n (length s) ≡ paddingLast s n
+  padding-set q = rw (← e, q)
+
+  pub padding-clear : b ≡ false → true ≡ paddingLast s n
+  padding-clear q = rw (← e, q)
+
+module _ (t : ℕ) where
+  pub later : (first : Bool) → not first ≡ true → true ≡ reportFirst first t
+  later first e = rw e
+
+  module _ (first : Bool) (e : not first ≡ false) where
+    pub sender-first : t ≡ 200 → true ≡ reportFirst first t
+    sender-first q = rw (e, q)
+
+    pub receiver-first : (t ≡ 200 → ⊥) → eqb t 201 ≡ reportFirst first t
+    receiver-first q = rw (e, ne-eqb t 200 q)
+
+-- ---- the frame
+
+module _ (first : Bool) (s : List ℕ) where
+  pub frame-short : length s < 4 → refuse 2 4 (length s) ≡ frame first s
+  unfolding frame need _>>_
+  frame-short h = simp (lt-leb _ _ h)
+
+  module _ (v : ℕ) (h : 4 ≤ length s) (e : v ≡ versionIn s) where
+    pub frame-version : (v ≡ 2 → ⊥) → refuse 1 v 0 ≡ frame first s
+    unfolding frame need _>>_
+    frame-version w = simp (le-leb _ _ h, ← e, ne-eqb _ _ w)
+
+    module _ (n : ℕ) (w : v ≡ 2) (g : n ≡ stated s) where
+      pub frame-past : length s < n → refuse 2 n (length s) ≡ frame first s
+      unfolding frame need _>>_
+      frame-past l = simp (le-leb _ _ h, ← e, eq-eqb _ _ w, ← g, lt-leb _ _ l)
+
+      module _ (p : Bool) (l : n ≤ length s) (q : p ≡ paddingLast s n) where
+        pub frame-padding : p ≡ false → refuse 9 0 0 ≡ frame first s
+        unfolding frame need _>>_
+        frame-padding z = simp (le-leb _ _ h, ← e, eq-eqb _ _ w, ← g, le-leb _ _ l, ← q, z)
+
+        module _ (t : ℕ) (r : Bool) (y : p ≡ true) (f : t ≡ typeIn s) (o : r ≡ reportFirst first t) where
+          pub frame-report : r ≡ false → refuse 7 t 0 ≡ frame first s
+          unfolding frame need _>>_
+          frame-report z = simp (le-leb _ _ h, ← e, eq-eqb _ _ w, ← g, le-leb _ _ l, ← q, y, ← f, ← o, z)
+
+          pub frame-passed : r ≡ true → ok n ≡ frame first s
+          unfolding frame need _>>_
+          frame-passed z = simp (le-leb _ _ h, ← e, eq-eqb _ _ w, ← g, le-leb _ _ l, ← q, y, ← f, ← o, z)
+
+-- ---- the packet behind the frame
+
+then-bind : {A B : Type 0} (m : Answer (Unit {0})) (r : Answer A) (f : A → Answer B) → ((m >> r) >>= f) ≡ (m >> (r >>= f))
+unfolding _>>_ _>>=_
+then-bind (ok u) r f = refl
+then-bind (refused x) r f = refl
+
+ok-bind : {A B : Type 0} (a : A) (f : A → Answer B) → (ok a >>= f) ≡ f a
+unfolding _>>=_
+ok-bind a f = refl
+
+framed : (first : Bool) (s : List ℕ) → readPacket first s ≡ (frame first s >>= λ (n : ℕ). readAs (kindOf (typeIn s) (lowIn s)) (take n s))
+unfolding readPacket frame
+framed first s = simp (then-bind, ok-bind)
+
+record Framed (first : Bool) (s : List ℕ) (n : ℕ) : Type 0 where
+  long : 4 ≤ n
+  within : n ≤ length s
+  stated : n ≡ stated s
+
+frame-inv : (first : Bool) (s : List ℕ) (n : ℕ) → ok n ≡ frame first s → Framed first s n
+unfolding frame stated
+frame-inv first s n e =
+    let a = need-inv _ _ _ _ _ (sym e) in
+    let b = need-inv _ _ _ _ _ (a .1) in
+    let c = need-inv _ _ _ _ _ (b .1) in
+    let d = need-inv _ _ _ _ _ (c .1) in
+    let f = need-inv _ _ _ _ _ (d .1) in
+    let q = ok-injective (f .1) in
+    let l : stated s ≤ length s = leb-true _ _ (c .0) in
+    record { long = omega arith; within = omega arith; stated = sym q }
+
+kind-cut : (n : ℕ) (s : List ℕ) → 4 ≤ n → kindOf (typeIn (take n s)) (lowIn (take n s)) ≡ kindOf (typeIn s) (lowIn s)
+unfolding typeIn lowIn
+kind-cut n s h = rw (getD-take n s 0 0 (omega arith), getD-take n s 1 0 (omega arith))
+
+module _ (first : Bool) (s : List ℕ) (o : Span) (h : spanOf o ≡ frame first s) where
+  pub frame-refused : (v : RtcpParseError) (r : Refusal) → o ≡ span.Refused v → r ≡ refusalIn (spanOf o) → refused r ≡ mapOk (spanned s) (readPacket first s)
+  unfolding mapOk _>>=_
+  frame-refused v r e q = rw (framed first s) (simp (← h, e, q))
+
+  module _ (n : ℕ) (e : o ≡ span.Bytes n) where
+    pub frame-within : n ≤ length s
+    frame-within = frame-inv first s n (sym (ap spanOf e) ∙ h) .within
+
+    pub frame-length : n ≡ length (take n s)
+    frame-length = sym (length-take-le n s frame-within)
+
+    pub frame-long : 4 ≤ length (take n s)
+    frame-long = let f = frame-inv first s n (sym (ap spanOf e) ∙ h) in rw (length-take-le n s (f .within)) (f .long)
+
+    behind : readPacket first s ≡ readAs (kindOf (typeIn (take n s)) (lowIn (take n s))) (take n s)
+    unfolding _>>=_
+    behind =
+        let f = frame-inv first s n (sym (ap spanOf e) ∙ h) in
+        framed first s ∙ rw (← h, e, kind-cut n s (f .long))
+
+    module _ (q : ParsedPacket) (g : parsedOf q ≡ mapOk packetView (readAs (kindOf (typeIn (take n s)) (lowIn (take n s))) (take n s))) where
+      pub packet-refused : (v : RtcpParseError) (r : Refusal) → q ≡ parsed.Refused v → r ≡ refusalIn (parsedOf q) → refused r ≡ mapOk (spanned s) (readPacket first s)
+      unfolding mapOk
+      packet-refused v r w z =
+          let k : mapOk packetView (readAs (kindOf (typeIn (take n s)) (lowIn (take n s))) (take n s)) ≡ refused r =
+          sym g ∙ ap parsedOf w ∙ ap refused (sym (z ∙ ap (λ (q : ParsedPacket). refusalIn (parsedOf q)) w)) in
+          rw (behind, mapOk-refused packetView (readAs (kindOf (typeIn (take n s)) (lowIn (take n s))) (take n s)) k)
+
+      pub packet-read : (p : Packet) → q ≡ parsed.Packet p → ok (p, n) ≡ mapOk (spanned s) (readPacket first s)
+      unfolding mapOk
+      packet-read p w =
+          let f = frame-inv first s n (sym (ap spanOf e) ∙ h) in
+          rw behind (go (readAs (kindOf (typeIn (take n s)) (lowIn (take n s))) (take n s)) (sym (ap parsedOf w) ∙ g) (f .stated))
+        where
+          go : (m : Answer Read) → ok p ≡ mapOk packetView m → n ≡ stated s → ok (p, n) ≡ mapOk (spanned s) m
+          go (ok x) k st = let z : p ≡ packetView x = ok-injective k in rw (z, st)
+          go (refused x) k st = absurd (refused≢ok (sym k))
+
+-- ---- the loop: from a place on
+
+rest-is : (s : List ℕ) (at : ℕ) → take (length s - at) (drop at s) ≡ drop at s
+rest-is s at = take-all (length s - at) (drop at s) (rw length-drop (omega arith))
+
+-- the packets from a place on
+abbrev from : List ℕ → ℕ → Answer (List Read)
+from s at = pick (eqb at 0) (readPacket true s >>= λ (p : Read). readPackets (length s) (drop (stated s) s) >>= λ (ps : List Read). ok (p ∷ ps)) (readPackets (length s) (drop at s))
+
+-- the answer, where n packets and whether one of them has a CNAME are known and others are left
+unfoldable pub finish : Bool → ℕ → Answer (List Read) → Answer Compound
+finish c n (ok ps) = need (c || some hasCname ps) 8 0 0 >> ok (record { «n_packets» = n + length ps })
+finish c n (refused r) = refused r
+
+abbrev answer : List ℕ → Answer Compound
+answer s = mapOk compoundView (readCompound s)
+
+start : (r : Answer Read) (m : Answer (List Read))
+    → finish false 0 (r >>= λ (p : Read). m >>= λ (ps : List Read). ok (p ∷ ps))
+    ≡ mapOk compoundView (r >>= λ (p : Read). m >>= λ (ps : List Read). need (some hasCname (p ∷ ps)) 8 0 0 >> ok (p ∷ ps))
+unfolding finish mapOk _>>=_ _>>_ need
+start (ok p) (ok ps) = rw zero-add (go (some hasCname (p ∷ ps)))
+  where
+    go : (b : Bool) → (need b 8 0 0 >> ok (record { «n_packets» = length (p ∷ ps) })) ≡ mapOk compoundView (need b 8 0 0 >> ok (p ∷ ps))
+    go true = refl
+    go false = refl
+start (ok p) (refused x) = refl
+start (refused x) m = refl
+
+from-start : (s : List ℕ) → finish false 0 (from s 0) ≡ answer s
+unfolding readCompound
+from-start s = start (readPacket true s) (readPackets (length s) (drop (stated s) s))
+
+-- a packet at a place, and what follows it
+abbrev onward : List ℕ → ℕ → Answer Read → Answer (List Read)
+onward s at r = r >>= λ (p : Read). readPackets (length s) (drop (at + stated (drop at s)) s) >>= λ (ps : List Read). ok (p ∷ ps)
+
+turn : (f b : ℕ) (l : List ℕ) → length (b ∷ l) ≤ f
+    → readPackets f (b ∷ l) ≡ (readPacket false (b ∷ l) >>= λ (p : Read). readPackets f (drop (stated (b ∷ l)) (b ∷ l)) >>= λ (ps : List Read). ok (p ∷ ps))
+unfolding readPackets stated
+turn zero b l h = absurd (omega arith)
+turn (suc f) b l h =
+    ap (λ (m : Answer (List Read)). readPacket false (b ∷ l) >>= λ (p : Read). m >>= λ (ps : List Read). ok (p ∷ ps))
+    (packets-turns f (suc f) (drop (stated (b ∷ l)) (b ∷ l)) (rw length-drop (omega arith)) (rw length-drop (omega arith)))
+
+from-at : (s : List ℕ) (at : ℕ) → at < length s → from s at ≡ onward s at (readPacket (eqb at 0) (drop at s))
+from-at s at h = go (eqb at 0) refl
+  where
+    go : (b : Bool) → eqb at 0 ≡ b → pick b (readPacket true s >>= λ (p : Read). readPackets (length s) (drop (stated s) s) >>= λ (ps : List Read). ok (p ∷ ps)) (readPackets (length s) (drop at s))
+        ≡ onward s at (readPacket b (drop at s))
+    go true e = rw (eqb-true at 0 e, zero-add)
+    go false e =
+        let d = drop-cons s at 0 h in
+        rw (← drop-drop (stated (drop at s)) at s, d) (turn (length s) (getD s at 0) (drop (suc at) s) (subst (λ (l : List ℕ). length l ≤ length s) d (rw length-drop (omega arith))))
+
+cons : (c : Bool) (n : ℕ) (x : Read) (m : Answer (List Read)) → finish (c || hasCname x) (n + 1) m ≡ finish c n (m >>= λ (ps : List Read). ok (x ∷ ps))
+unfolding finish _>>=_
+cons c n x (ok ps) =
+    let e : n + 1 + length ps ≡ n + length (x ∷ ps) = omega arith in
+    rw (e, or-assoc c (hasCname x) (some hasCname ps))
+cons c n x (refused r) = refl
+
+from-after : (s : List ℕ) (at : ℕ) → 0 < at → from s at ≡ readPackets (length s) (drop at s)
+from-after s at h = rw (ne-eqb at 0 (omega arith))
+
+-- the answer of a read packet, whose bytes are the rest as a part
+here : (s : List ℕ) (at : ℕ) (q : ReadPacket) → readOf q ≡ mapOk (spanned (take (length s - at) (drop at s))) (readPacket (eqb at 0) (take (length s - at) (drop at s)))
+    → readOf q ≡ mapOk (spanned (drop at s)) (readPacket (eqb at 0) (drop at s))
+here s at q e = e ∙ ap (λ (l : List ℕ). mapOk (spanned l) (readPacket (eqb at 0) l)) (rest-is s at)
+
+-- what a packet that was read tells
+record Came (first : Bool) (s : List ℕ) (p : Packet) (k : ℕ) : Type 0 where
+  packet : Read
+  is-read : readPacket first s ≡ ok packet
+  view : packetView packet ≡ p
+  span : stated s ≡ k
+
+came : (first : Bool) (s : List ℕ) (q : ReadPacket) (p : Packet) (k : ℕ) → readOf q ≡ mapOk (spanned s) (readPacket first s) → q ≡ read.Packet p k → Came first s p k
+came first s q p k g e =
+    let m = mapOk-inv (spanned s) (readPacket first s) (sym g ∙ ap readOf e) in
+    record { packet = m .0; is-read = m .1; view = ap (λ (x : Packet × ℕ). x .0) (m .2); span = ap (λ (x : Packet × ℕ). x .1) (m .2) }
+
+gone : (first : Bool) (s : List ℕ) (q : ReadPacket) (v : RtcpParseError) (r : Refusal) → readOf q ≡ mapOk (spanned s) (readPacket first s) → q ≡ read.Refused v → r ≡ refusalIn (readOf q)
+    → readPacket first s ≡ refused r
+gone first s q v r g e z =
+    let w : mapOk (spanned s) (readPacket first s) ≡ refused r = sym g ∙ ap readOf e ∙ ap refused (sym (z ∙ ap (λ (q : ReadPacket). refusalIn (readOf q)) e)) in
+    mapOk-refused (spanned s) (readPacket first s) w
+
+record Next (s : List ℕ) (at n : ℕ) (c : Bool) (p : Packet) (k : ℕ) : Type 0 where
+  some : 4 ≤ k
+  within : at + k ≤ length s
+  same : finish (c || named p) (n + 1) (from s (at + k)) ≡ finish c n (from s at)
+
+module _ (s : List ℕ) (at n : ℕ) (c : Bool) (h : at < length s) (q : ReadPacket) (g : readOf q ≡ mapOk (spanned (drop at s)) (readPacket (eqb at 0) (drop at s))) where
+  turn-refused : (v : RtcpParseError) (r : Refusal) → q ≡ read.Refused v → r ≡ refusalIn (readOf q) → refused r ≡ finish c n (from s at)
+  unfolding finish _>>=_
+  turn-refused v r e z = rw (from-at s at h, gone (eqb at 0) (drop at s) q v r g e z)
+
+  turn-next : (p : Packet) (k : ℕ) → q ≡ read.Packet p k → Next s at n c p k
+  unfolding _>>=_
+  turn-next p k e =
+      let w = came (eqb at 0) (drop at s) q p k g e in
+      let l = packet-span (eqb at 0) (drop at s) (w .is-read) in
+      let d = length-drop at s in
+      let m : 4 ≤ k = omega (arith, w .span) in
+      record {
+        some = m;
+        within = omega (arith, w .span);
+        same =
+            rw (from-after s (at + k) (omega arith), ← w .span, ← w .view, named-is (w .packet), from-at s at h, w .is-read)
+            (cons c n (w .packet) (readPackets (length s) (drop (at + stated (drop at s)) s)));
+      }
+
+-- at the end
+none-left : (f : ℕ) → readPackets f [] ≡ ok []
+unfolding readPackets
+none-left zero = refl
+none-left (suc f) = refl
+
+from-end : (s : List ℕ) (at : ℕ) → 0 < length s → at ≡ length s → from s at ≡ ok []
+from-end s at p e = from-after s at (omega arith) ∙ rw (drop-of-length-le s {i = at} (omega arith)) (none-left (length s))
+
+named-end : (s : List ℕ) (at n : ℕ) (c : Bool) → 0 < length s → at ≡ length s → c ≡ true → ok (record { «n_packets» = n }) ≡ finish c n (from s at)
+unfolding finish need _>>_
+named-end s at n c p e z = rw (from-end s at p e, z, add-zero n)
+
+unnamed-end : (s : List ℕ) (at n : ℕ) (c : Bool) → 0 < length s → at ≡ length s → c ≡ false → refuse 8 0 0 ≡ finish c n (from s at)
+unfolding finish need _>>_
+unnamed-end s at n c p e z = rw (from-end s at p e, z)
+
+-- no byte
+pub no-byte : (s : List ℕ) → length s ≡ 0 → refuse 2 4 0 ≡ answer s
+unfolding readCompound readPacket need _>>_ _>>=_ mapOk
+no-byte [] e = refl
+no-byte (b ∷ s) e = absurd (omega arith)
+
+-- what is known before each turn: the packets that are left give the answer
+pub record Loop (s : List ℕ) (at n : ℕ) (c : Bool) : Type 0 where
+  pub some : 0 < length s
+  pub within : at ≤ length s
+  pub count : n ≤ at
+  pub same : finish c n (from s at) ≡ answer s
+
+pub loop-start : (s : List ℕ) → (length s ≡ 0 → ⊥) → Loop s 0 0 false
+loop-start s h = record { some = omega (arith, h); within = omega arith; count = omega arith; same = from-start s }
+
+module _ (s : List ℕ) (at n : ℕ) (c : Bool) (g : Loop s at n c) where
+  pub loop-named : length s ≤ at → c ≡ true → ok (record { «n_packets» = n }) ≡ answer s
+  loop-named l z = named-end s at n c (g .some) (omega (arith, g .within)) z ∙ g .same
+
+  pub loop-unnamed : length s ≤ at → c ≡ false → refuse 8 0 0 ≡ answer s
+  loop-unnamed l z = unnamed-end s at n c (g .some) (omega (arith, g .within)) z ∙ g .same
+
+  module _ (h : at < length s) (q : ReadPacket) (e : readOf q ≡ mapOk (spanned (take (length s - at) (drop at s))) (readPacket (eqb at 0) (take (length s - at) (drop at s)))) where
+    pub loop-refused : (v : RtcpParseError) (r : Refusal) → q ≡ read.Refused v → r ≡ refusalIn (readOf q) → refused r ≡ answer s
+    loop-refused v r w z = turn-refused s at n c h q (here s at q e) v r w z ∙ g .same
+
+    module _ (p : Packet) (k : ℕ) (w : q ≡ read.Packet p k) where
+      pub loop-fits : length s < 2 ^ 64 → at + k < 2 ^ 64
+      loop-fits b = let x = turn-next s at n c h q (here s at q e) p k w in omega arith
+
+      pub loop-counts : length s < 2 ^ 64 → n + 1 < 2 ^ 64
+      loop-counts b = omega (arith, g .count)
+
+      pub loop-less : length s - (at + k) < length s - at
+      loop-less = let x = turn-next s at n c h q (here s at q e) p k w in omega arith
+
+      pub loop-again : (b : Bool) → b ≡ (c || named p) → Loop s (at + k) (n + 1) b
+      loop-again b f =
+          let x = turn-next s at n c h q (here s at q e) p k w in
+          record { some = g .some; within = x .within; count = omega (arith, g .count); same = rw f (x .same ∙ g .same) }
+
+-- ---- a walk
+
+module _ (s : List ℕ) (at : ℕ) where
+  pub step-none : length s ≤ at → refuse 25 0 0 ≡ mapOk stepView (step s at)
+  unfolding step need _>>_ mapOk
+  step-none h = simp (le-ltb _ _ h)
+
+  module _ (h : at < length s) (q : ReadPacket) (g : readOf q ≡ mapOk (spanned (take (length s - at) (drop at s))) (readPacket (eqb at 0) (take (length s - at) (drop at s)))) where
+    pub step-refused : (v : RtcpParseError) (r : Refusal) → q ≡ read.Refused v → r ≡ refusalIn (readOf q) → refused r ≡ mapOk stepView (step s at)
+    unfolding step need _>>_ _>>=_ mapOk
+    step-refused v r e z = rw (lt-ltb at (length s) h, gone (eqb at 0) (drop at s) q v r (here s at q g) e z)
+
+    pub step-some : (p : Packet) (k : ℕ) → q ≡ read.Packet p k → ok (p, walkAt (at + k)) ≡ mapOk stepView (step s at)
+    unfolding step need _>>_ _>>=_ mapOk
+    step-some p k e =
+        let w = came (eqb at 0) (drop at s) q p k (here s at q g) e in
+        rw (lt-ltb at (length s) h, w .is-read, w .span, w .view)
+
+    pub step-fits : (p : Packet) (k : ℕ) → q ≡ read.Packet p k → length s < 2 ^ 64 → at + k < 2 ^ 64
+    step-fits p k e b = let x = turn-next s at 0 false h q (here s at q g) p k e in omega arith
+
+module _ (s : List ℕ) (q : ParsedCompound) (g : parsedCompoundOf q ≡ answer s) where
+  pub open-refused : (v : RtcpParseError) (r : Refusal) → q ≡ compound.Refused v → r ≡ refusalIn (parsedCompoundOf q) → refused r ≡ mapOk walkAt (openWalk s)
+  unfolding openWalk _>>=_ mapOk
+  open-refused v r e z =
+      let w : mapOk compoundView (readCompound s) ≡ refused r = sym g ∙ ap parsedCompoundOf e ∙ ap refused (sym (z ∙ ap (λ (q : ParsedCompound). refusalIn (parsedCompoundOf q)) e)) in
+      rw (mapOk-refused compoundView (readCompound s) w)
+
+  pub open-ok : (x : Compound) → q ≡ compound.Compound x → ok (walkAt 0) ≡ mapOk walkAt (openWalk s)
+  unfolding openWalk _>>=_ mapOk
+  open-ok x e = rw (mapOk-inv compoundView (readCompound s) (sym g ∙ ap parsedCompoundOf e) .1)
+
+pub ruleset frames = (needs, not-true, not-false, padding-set, padding-clear, later, sender-first, receiver-first, frame-short, frame-version, frame-past, frame-padding, frame-report, frame-passed, frame-refused, frame-within, frame-length, frame-long, packet-refused, packet-read)
+
+pub ruleset compounds = (needs, not-true, not-false, no-byte, loop-start, loop-named, loop-unnamed, loop-refused, loop-fits, loop-counts, loop-less, loop-again, step-none, step-refused, step-some, step-fits, open-refused, open-ok)

@@ -1,0 +1,5 @@
+pub mod Unknowns
+pub mod Packets
+pub mod Compounds
+pub mod Injective
+pub mod Rebuilt

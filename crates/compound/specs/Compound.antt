@@ -1,0 +1,77 @@
+-- What the code hands over of a datagram and of a walk over it, and the steps of a packet's frame.
+use Prim.Native.Nat.{ℕ}
+use mathlib.Core.Bool.{Bool, _||_, not}
+use mathlib.Core.List.{List}
+use lib.ListN.{length}
+use lib.Dec.{leb, eqb}
+use Rattle.rfc3550.specs.Answer.{Answer, ok, refused, _>>_, need}
+use Rattle.rfc3550.specs.Packet.{Packet as Read, isReport}
+use Rattle.rfc3550.specs.Read.{versionIn, padded, typeIn, stated}
+use Rattle.utils.specs.Error.{parseRefusal}
+use Rattle.compound.specs.Packet.{packetView}
+use Rattle.compound.specs.declared.packet.Packet.{Packet}
+use Rattle.compound.specs.declared.compound.Span.{Span}
+use Rattle.compound.specs.declared.compound.Span.the-variants as span
+use Rattle.compound.specs.declared.compound.ReadPacket.{ReadPacket}
+use Rattle.compound.specs.declared.compound.ReadPacket.the-variants as read
+use Rattle.compound.specs.declared.compound.Compound.{Compound}
+use Rattle.compound.specs.declared.compound.ParsedCompound.{ParsedCompound}
+use Rattle.compound.specs.declared.compound.ParsedCompound.the-variants as parsed
+use Rattle.compound.specs.declared.compound.Walk.{Walk}
+use Rattle.compound.specs.declared.compound.OpenedWalk.{OpenedWalk}
+use Rattle.compound.specs.declared.compound.OpenedWalk.the-variants as opened
+use Rattle.compound.specs.declared.compound.Stepped.{Stepped}
+use Rattle.compound.specs.declared.compound.Stepped.the-variants as stepped
+
+-- ---- a packet's frame: what is tested before its own steps
+
+abbrev pub paddingLast : List ℕ → ℕ → Bool
+paddingLast s n = not (padded s) || eqb n (length s)
+
+abbrev pub reportFirst : Bool → ℕ → Bool
+reportFirst first t = not first || isReport t
+
+unfoldable pub frame : Bool → List ℕ → Answer ℕ
+frame first s = do
+  need (leb 4 (length s)) 2 4 (length s)
+  need (eqb (versionIn s) 2) 1 (versionIn s) 0
+  need (leb (stated s) (length s)) 2 (stated s) (length s)
+  need (paddingLast s (stated s)) 9 0 0
+  need (reportFirst first (typeIn s)) 7 (typeIn s) 0
+  ok (stated s)
+
+abbrev pub spanOf : Span → Answer ℕ
+spanOf (span.Bytes n) = ok n
+spanOf (span.Refused e) = refused (parseRefusal e)
+
+-- ---- the packet at the start of the bytes s, and its length
+
+abbrev pub readOf : ReadPacket → Answer (Packet × ℕ)
+readOf (read.Packet p n) = ok (p, n)
+readOf (read.Refused e) = refused (parseRefusal e)
+
+abbrev pub spanned : List ℕ → Read → Packet × ℕ
+spanned s p = (packetView p, stated s)
+
+-- ---- a datagram, and a walk over it
+
+abbrev pub compoundView : List Read → Compound
+compoundView ps = record { «n_packets» = length ps }
+
+abbrev pub parsedCompoundOf : ParsedCompound → Answer Compound
+parsedCompoundOf (parsed.Compound c) = ok c
+parsedCompoundOf (parsed.Refused e) = refused (parseRefusal e)
+
+abbrev pub walkAt : ℕ → Walk
+walkAt at = record { at = at }
+
+abbrev pub stepView : Read × ℕ → Packet × Walk
+stepView x = (packetView (x .0), walkAt (x .1))
+
+abbrev pub openedOf : OpenedWalk → Answer Walk
+openedOf (opened.Walk w) = ok w
+openedOf (opened.Refused e) = refused (parseRefusal e)
+
+abbrev pub steppedOf : Stepped → Answer (Packet × Walk)
+steppedOf (stepped.Packet p w) = ok (p, w)
+steppedOf (stepped.Refused e) = refused (parseRefusal e)

@@ -1,0 +1,4 @@
+pub mod Unknown
+pub mod Packet
+pub mod Compound
+pub mod Rebuilt

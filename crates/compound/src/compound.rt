@@ -1,0 +1,221 @@
+// A datagram: packets laid end to end, a report first, a CNAME in some SDES chunk, padding in the last packet only.
+use super::packet::Packet;
+use super::packet::ParsedPacket;
+use report::receiver::ReceiverReport;
+use report::sender::SenderReport;
+use utils::error::RtcpParseError;
+ghost use mathlib.Core.Path.{_≡_};
+ghost use mathlib.Core.Bool.{_||_};
+ghost use Prim.Native.Nat.{_≤_};
+ghost use lib.ListN.{length};
+ghost use Rattle.rfc3550.specs.Answer.{mapOk};
+ghost use Rattle.rfc3550.specs.Compound.{readPacket, readCompound};
+ghost use Rattle.rfc3550.specs.Walk.{openWalk, step};
+ghost use Rattle.utils.specs.Error.{parseRefusal, refusalIn};
+ghost use Rattle.compound.specs.Compound.{frame, paddingLast, reportFirst, spanOf, readOf, spanned, parsedCompoundOf, compoundView, walkAt, openedOf, steppedOf, stepView};
+ghost use Rattle.compound.specs.Packet.{named};
+
+// The length of the packet at the start of the bytes left.
+enum Span {
+    Bytes(usize),
+    Refused(RtcpParseError),
+}
+
+impl Span {
+    fn refusal(self) -> RtcpParseError
+        ensures { λ r. ⌜ parseRefusal r ≡ refusalIn (spanOf self) ⌝ }
+    {
+        match self {
+            Span::Bytes(_) => RtcpParseError::NothingLeft,
+            Span::Refused(e) => e,
+        }
+    }
+}
+
+// The packet at the start of the bytes left, and its length.
+enum ReadPacket {
+    Packet(Packet, usize),
+    Refused(RtcpParseError),
+}
+
+impl ReadPacket {
+    fn refusal(self) -> RtcpParseError
+        ensures { λ r. ⌜ parseRefusal r ≡ refusalIn (readOf self) ⌝ }
+    {
+        match self {
+            ReadPacket::Packet(_, _) => RtcpParseError::NothingLeft,
+            ReadPacket::Refused(e) => e,
+        }
+    }
+}
+
+// No padding, or nothing that follows the packet.
+fn padding_last(rest: &[u8], stated: usize) -> bool
+    requires { ⌜ 4 ≤ length (now rest) ⌝ }
+    ensures { λ r. ⌜ r ≡ paddingLast (now (rest .entry)) stated ⌝ }
+{
+    if utils::parser::parse_padding_bit(rest) {
+        return stated == rest.len();
+    }
+    true
+}
+
+// A report, or a packet that is not the first.
+fn report_first(first: bool, packet_type: u8) -> bool
+    ensures { λ r. ⌜ r ≡ reportFirst first «packet_type» ⌝ }
+{
+    if !first {
+        return true;
+    }
+    if packet_type == SenderReport::PACKET_TYPE {
+        return true;
+    }
+    packet_type == ReceiverReport::PACKET_TYPE
+}
+
+// The steps of a packet's frame: it gives the packet's length.
+fn check_frame(rest: &[u8], first: bool) -> Span
+    ensures { λ r. ⌜ spanOf r ≡ frame first (now (rest .entry)) ⌝ }
+{
+    if rest.len() < 4 {
+        return Span::Refused(RtcpParseError::Truncated {
+            expected: 4,
+            actual: rest.len(),
+        });
+    }
+    let version = utils::parser::parse_version(rest);
+    if version != 2 {
+        return Span::Refused(RtcpParseError::UnsupportedVersion(version));
+    }
+    let stated = utils::parser::parse_length(rest);
+    if rest.len() < stated {
+        return Span::Refused(RtcpParseError::Truncated {
+            expected: stated,
+            actual: rest.len(),
+        });
+    }
+    if !padding_last(rest, stated) {
+        return Span::Refused(RtcpParseError::NonLastCompoundPacketPadding);
+    }
+    let packet_type = utils::parser::parse_packet_type(rest);
+    if !report_first(first, packet_type) {
+        return Span::Refused(RtcpParseError::FirstPacketNoReport(packet_type));
+    }
+    Span::Bytes(stated)
+}
+
+fn read_packet(rest: &[u8], first: bool) -> ReadPacket
+    ensures { λ r. ⌜ readOf r ≡ mapOk (spanned (now (rest .entry))) (readPacket first (now (rest .entry))) ⌝ }
+{
+    let framed = check_frame(rest, first);
+    let Span::Bytes(len) = framed else {
+        return ReadPacket::Refused(framed.refusal());
+    };
+    let parsed = Packet::parse_unchecked(&rest[..len]);
+    let ParsedPacket::Packet(packet) = parsed else {
+        return ReadPacket::Refused(parsed.refusal());
+    };
+    ReadPacket::Packet(packet, len)
+}
+
+fn or_cname(has_cname: bool, packet: Packet) -> bool
+    ensures { λ r. ⌜ r ≡ («has_cname» || named packet) ⌝ }
+{
+    if has_cname { true } else { packet.has_cname() }
+}
+
+// An accepted datagram: the number of its packets.
+pub struct Compound {
+    pub n_packets: usize,
+}
+
+pub enum ParsedCompound {
+    Compound(Compound),
+    Refused(RtcpParseError),
+}
+
+impl ParsedCompound {
+    // Why it is refused; NothingLeft where it is not.
+    pub fn refusal(self) -> RtcpParseError
+        ensures { λ r. ⌜ parseRefusal r ≡ refusalIn (parsedCompoundOf self) ⌝ }
+    {
+        match self {
+            ParsedCompound::Compound(_) => RtcpParseError::NothingLeft,
+            ParsedCompound::Refused(e) => e,
+        }
+    }
+}
+
+impl Compound {
+    pub fn parse(s: &[u8]) -> ParsedCompound
+        ensures { λ r. ⌜ parsedCompoundOf r ≡ mapOk compoundView (readCompound (now (s .entry))) ⌝ }
+    {
+        if s.len() == 0 {
+            return ParsedCompound::Refused(RtcpParseError::Truncated {
+                expected: 4,
+                actual: 0,
+            });
+        }
+        let mut at = 0;
+        let mut n_packets = 0;
+        let mut has_cname = false;
+        while at < s.len() {
+            let rest = &s[at..];
+            let answer = read_packet(rest, at == 0);
+            let ReadPacket::Packet(packet, len) = answer else {
+                return ParsedCompound::Refused(answer.refusal());
+            };
+            has_cname = or_cname(has_cname, packet);
+            at = at + len;
+            n_packets = n_packets + 1;
+        }
+        if !has_cname {
+            return ParsedCompound::Refused(RtcpParseError::NoCname);
+        }
+        ParsedCompound::Compound(Compound { n_packets })
+    }
+}
+
+// A walk over the packets of a datagram: the place of the next one.
+pub struct Walk {
+    pub at: usize,
+}
+
+pub enum OpenedWalk {
+    Walk(Walk),
+    Refused(RtcpParseError),
+}
+
+pub enum Stepped {
+    Packet(Packet, Walk),
+    Refused(RtcpParseError),
+}
+
+impl Walk {
+    // Opens only on an accepted datagram.
+    pub fn open(s: &[u8]) -> OpenedWalk
+        ensures { λ r. ⌜ openedOf r ≡ mapOk walkAt (openWalk (now (s .entry))) ⌝ }
+    {
+        let parsed = Compound::parse(s);
+        let ParsedCompound::Compound(_) = parsed else {
+            return OpenedWalk::Refused(parsed.refusal());
+        };
+        OpenedWalk::Walk(Walk { at: 0 })
+    }
+
+    // The packet at the walk's place, and the walk after it.
+    pub fn step(self, s: &[u8]) -> Stepped
+        ensures { λ r. ⌜ steppedOf r ≡ mapOk stepView (step (now (s .entry)) (self .at)) ⌝ }
+    {
+        let at = self.at;
+        if s.len() <= at {
+            return Stepped::Refused(RtcpParseError::NothingLeft);
+        }
+        let rest = &s[at..];
+        let answer = read_packet(rest, at == 0);
+        let ReadPacket::Packet(packet, len) = answer else {
+            return Stepped::Refused(answer.refusal());
+        };
+        Stepped::Packet(packet, Walk { at: at + len })
+    }
+}

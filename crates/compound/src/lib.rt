@@ -1,0 +1,4 @@
+// Compounds: the datagram reader and its walk, in the place of compound.rs of rtcp-types.
+pub mod compound;
+pub mod packet;
+pub mod unknown;

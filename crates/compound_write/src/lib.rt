@@ -1,0 +1,3 @@
+// Compounds, written.
+pub mod cname;
+pub mod writer;

@@ -1,0 +1,77 @@
+-- What is promised to the buyer, each claim stated whole. Demand 3 comes last.
+use Prim.Native.Nat.{ℕ, _^_, _<_}
+use mathlib.Core.Path.{_≡_, refl, sym, ap, _∙_}
+use mathlib.Core.Logic.{_↔_}
+use mathlib.Core.List.{List, [], _∷_, map}
+use lib.ListN.{length}
+use Rattle.rfc3550.specs.Answer.{Refusal, Answer, ok, refused, after}
+use Rattle.rfc3550.specs.Bytes.{Bytes}
+use Rattle.rfc3550.specs.Packet.{Chunk, chunkBytes, Packet, layout, layouts, chunksOf, Valid, Compound}
+use Rattle.rfc3550.specs.Read.{Kind, SDES, kindFor, nth, readChunk, readAs}
+use Rattle.rfc3550.specs.Compound.{readCompound}
+use Rattle.rfc3550.specs.Walk.{openWalk, step, SdesWalk, openSdes, sdesStep, openItems, itemStep, gave, walked}
+use Rattle.rfc3550.specs.Write.{Given, Typed, packetGiven, write}
+use Rattle.rfc3550.specs.Writer.{Writer, fresh, Request, add, close, addTests, closeTests, call}
+use Rattle.rfc3550.specs.Book.{empty}
+use Rattle.rfc3550.specs.Claim.{Event, Made, answers, fed, booked, compounds}
+use Rattle.rfc3550.proofs.Packet
+use Rattle.rfc3550.proofs.Compound as C
+use Rattle.rfc3550.proofs.Walk as W
+use Rattle.rfc3550.proofs.Write.{Wrote}
+use Rattle.rfc3550.proofs.Write as Writes
+use Rattle.rfc3550.proofs.Claim as Calls
+
+-- ---- demand 1: a refused write changes no byte, and a refused call changes no state
+
+pub refused-write : (g : Given) (l : List ℕ) (r : Refusal) → write g l .0 ≡ refused r → write g l .1 ≡ l
+refused-write g l r e = Writes.write-refused g l e
+
+pub refused-call : (q : Request) (w : Writer) (l : List ℕ) (r : Refusal) → call q w l .0 ≡ refused r → (call q w l .1 ≡ w) × (call q w l .2 ≡ l)
+unfolding call
+refused-call (add g) w l r e = rw e (refl, refl)
+refused-call close w l r e = rw e (refl, refl)
+
+-- ---- demand 2: the layouts fix every field read and every byte written
+
+-- the reading gives p of bytes exactly when p is valid, of that kind, and laid out as those bytes
+pub reading : (k : Kind) (s : List ℕ) (p : Packet) → Bytes s → (readAs k s ≡ ok p) ↔ (Valid p × (kindFor (p .content) ≡ k) × (layout p ≡ s))
+reading k s p h = Packet.packet-iff k s p h
+
+pub one-packet : (p q : Packet) → Valid p → Valid q → layout p ≡ layout q → p ≡ q
+one-packet p q v w e = Packet.layout-injective p q v w e
+
+-- a write not refused lays down the layout of the packet given, its size is the bytes' number, and all else in the buffer is as it was
+pub writing : (g : Given) (l : List ℕ) (n : ℕ) → Typed g → write g l .0 ≡ ok n → Valid (packetGiven g) × Wrote (layout (packetGiven g)) l n (write g l .1)
+writing g l n t e = Writes.write-lays g l t e
+
+-- and it is read back
+pub written-reads-back : (g : Given) (l : List ℕ) (n : ℕ) → Typed g → write g l .0 ≡ ok n
+    → readAs (kindFor (packetGiven g .content)) (layout (packetGiven g)) ≡ ok (packetGiven g)
+written-reads-back g l n t e = Packet.packet-complete (packetGiven g) (Writes.write-lays g l t e .0)
+
+-- ---- demand 3: the compound reader accepts exactly the datagrams that some list of packets has, and no other list has them
+
+pub accepting : (s : List ℕ) (ps : List Packet) → Bytes s → (readCompound s ≡ ok ps) ↔ (Compound ps × (layouts ps ≡ s))
+accepting s ps h = C.compound-iff s ps h
+
+pub one-list : (ps qs : List Packet) → Compound ps → Compound qs → layouts ps ≡ layouts qs → ps ≡ qs
+one-list ps qs c d e = C.compound-unique ps qs c d e
+
+-- for every number of steps from a walk just opened, step i gives packet i, and 25 once all are given
+pub walking : (s : List ℕ) (ps : List Packet) → Bytes s → readCompound s ≡ ok ps
+    → (openWalk s ≡ ok 0) × ((i : ℕ) → gave (step s (walked (step s) 0 i)) ≡ nth i ps)
+walking s ps h e = W.walk-gives s ps h e
+
+-- so with an SDES packet's chunks, and with a chunk's items
+pub walking-chunks : (s : List ℕ) (p : Packet) → Bytes s → readAs SDES s ≡ ok p
+    → (w : SdesWalk) × (openSdes s ≡ ok w) × ((i : ℕ) → gave (sdesStep s (walked (sdesStep s) w i)) ≡ nth i (chunksOf (p .content)))
+walking-chunks s p h e = W.sdes-walk-gives s p h e
+
+pub walking-items : (s : List ℕ) (x : Chunk × List ℕ) → Bytes s → readChunk s ≡ ok x
+    → (openItems s ≡ ok 4) × ((i : ℕ) → gave (itemStep s (walked (itemStep s) 4 i)) ≡ nth i (x .0 .items))
+walking-items s x h e = W.item-walk-gives s x h e
+
+-- for every list of the writer's calls from a fresh writer, refused ones included: each answer is the book's, after it the datagram so far is
+-- the book's packets laid end to end, and once closed it is accepted and read as exactly these
+pub calls : (es : List (Event compounds)) → Made compounds es fresh [] → answers compounds es [] ≡ booked compounds (map (fed compounds) es) empty
+calls es m = Calls.demand3 es m

@@ -1,0 +1,61 @@
+-- Document 01's trial rows marked ★, as one list by one theorem.
+use Prim.Native.Nat.{ℕ}
+use mathlib.Core.Path.{_≡_, refl}
+use mathlib.Core.List.{List, [], _∷_, _++_}
+use lib.ListN.{replicate}
+use Rattle.rfc3550.specs.Answer.{Answer, ok, refuse, need, _>>_, _>>=_}
+use Rattle.rfc3550.specs.Bytes.{be, val, put, get, sum, store}
+use Rattle.rfc3550.specs.Packet.{Item, item, Chunk, receiver, Content, report, sdes, Packet, All, blocksBytes, itemsBytes, chunkBytes, chunksBytes, contentBytes, layout}
+use Rattle.rfc3550.specs.Read.{Kind, RR, SDES, kindOf, versionIn, padded, lowIn, typeIn, stated, paddingCount, paddingFits, checkHeader, readBlocks, readReport, itemOf, readItem, readFill, readItems, readChunk, readChunks, readContent, readAs}
+use Rattle.rfc3550.specs.Write.{Given, giveBye, ownTests, tests, calculateSize, room, write}
+use Rattle.rfc3550.specs.Compound.{readPacket, readPackets, readCompound}
+
+pub data Row : Type 0 where
+  reads : Kind → List ℕ → Answer Packet → Row
+  compound : List ℕ → Answer (List Packet) → Row
+  writes : Given → List ℕ → Answer ℕ × List ℕ → Row
+
+abbrev Holds : Row → Type 0
+Holds (reads k s a) = readAs k s ≡ a
+Holds (compound s a) = readCompound s ≡ a
+Holds (writes g l a) = write g l ≡ a
+
+abbrev row1 : List ℕ
+row1 = 0x80 ∷ 0xC9 ∷ 0x00 ∷ 0x01 ∷ 0x11 ∷ 0x22 ∷ 0x33 ∷ 0x44 ∷ []
+
+abbrev row2 : List ℕ
+row2 = 0x81 ∷ 0xCA ∷ 0x00 ∷ 0x03 ∷ 0x11 ∷ 0x22 ∷ 0x33 ∷ 0x44 ∷ 0x01 ∷ 0x03 ∷ 0x61 ∷ 0x40 ∷ 0x62 ∷ 0x00 ∷ 0x00 ∷ 0x00 ∷ []
+
+abbrev plain : Content → Packet
+plain c = record { content = c; padding = [] }
+
+abbrev rr : Packet
+rr = plain (report (receiver 0x11223344) [] [])
+
+abbrev cname : Packet
+cname = plain (sdes (record { ssrc = 0x11223344; items = item 1 (0x61 ∷ 0x40 ∷ 0x62 ∷ []) ∷ [] } ∷ []))
+
+abbrev rows : List Row
+rows =
+    reads RR row1 (ok rr)
+    ∷ reads SDES row2 (ok cname)
+    ∷ compound (row1 ++ row2) (ok (rr ∷ cname ∷ []))
+    ∷ compound row1 (refuse 8 0 0)
+    ∷ compound row2 (refuse 7 202 0)
+    ∷ compound [] (refuse 2 4 0)
+    ∷ reads SDES
+    (0x82 ∷ 0xCA ∷ 0x00 ∷ 0x04 ∷ 0x00 ∷ 0x00 ∷ 0x00 ∷ 0x01 ∷ 0x00 ∷ 0x00 ∷ 0x00 ∷ 0x00 ∷ 0x00 ∷ 0x00 ∷ 0x00 ∷ 0x10 ∷ 0x00 ∷ 0x00 ∷ 0x00 ∷ 0x00 ∷ [])
+    (ok (plain (sdes (record { ssrc = 1; items = [] } ∷ record { ssrc = 16; items = [] } ∷ []))))
+    ∷ reads SDES (0xA0 ∷ 0xCA ∷ 0x00 ∷ 0x00 ∷ []) (refuse 4 0 0)
+    ∷ reads SDES (0x81 ∷ 0xCA ∷ 0x00 ∷ 0x03 ∷ 0x00 ∷ 0x00 ∷ 0x00 ∷ 0x01 ∷ 0x08 ∷ 0x01 ∷ 0x05 ∷ 0x00 ∷ 0x00 ∷ 0x00 ∷ 0x00 ∷ 0x00 ∷ []) (refuse 5 5 0)
+    ∷ reads SDES
+    (0x81 ∷ 0xCA ∷ 0x00 ∷ 0x03 ∷ 0x00 ∷ 0x00 ∷ 0x00 ∷ 0x01 ∷ 0x01 ∷ 0x03 ∷ 0x61 ∷ 0x62 ∷ 0x63 ∷ 0x02 ∷ 0x00 ∷ 0x00 ∷ [])
+    (ok (plain (sdes (record { ssrc = 1; items = item 1 (0x61 ∷ 0x62 ∷ 0x63 ∷ []) ∷ item 2 [] ∷ [] } ∷ []))))
+    ∷ reads SDES (0x81 ∷ 0xCA ∷ 0x00 ∷ 0x01 ∷ 0x00 ∷ 0x00 ∷ 0x00 ∷ 0x01 ∷ []) (refuse 2 8 4)
+    ∷ writes (giveBye (0x11223344 ∷ []) (0x61 ∷ 0x62 ∷ []) 4) (replicate 18 0xEE)
+    (ok 16, 0xA1 ∷ 0xCB ∷ 0x00 ∷ 0x03 ∷ 0x11 ∷ 0x22 ∷ 0x33 ∷ 0x44 ∷ 0x02 ∷ 0x61 ∷ 0x62 ∷ 0x00 ∷ 0x00 ∷ 0x00 ∷ 0x00 ∷ 0x04 ∷ 0xEE ∷ 0xEE ∷ [])
+    ∷ []
+
+pub rows-hold : All Holds rows
+unfolding be val put get sum store blocksBytes itemsBytes chunkBytes chunksBytes contentBytes layout kindOf versionIn padded lowIn typeIn stated paddingCount paddingFits checkHeader readBlocks readReport itemOf readItem readFill readItems readChunk readChunks readContent readAs ownTests tests calculateSize room write readPacket readPackets readCompound need _>>_ _>>=_
+rows-hold = (refl, (refl, (refl, (refl, (refl, (refl, (refl, (refl, (refl, (refl, (refl, (refl, tt))))))))))))

@@ -1,0 +1,133 @@
+// Rows of document 01. Each line `NAME OP ARG.. HEX` of standard input names a C function and what it gets; the program writes NAME and the answer:
+// `ok` with every field, a part as OFFSET+LEN:HEX, or a refusal as N(a, b). HEX is `-` where there is no byte.
+mod show;
+mod text;
+
+use rtcp::read_app;
+use rtcp::read_bye;
+use rtcp::read_report;
+use rtcp::read_sdes;
+
+fn report(op: &[u8], s: &[u8], i: u64) -> bool {
+    if check::same(op, b"block_parse") {
+        show::block(read_report::rtcp_block_parse(s));
+        return true;
+    }
+    if check::same(op, b"rr_parse") {
+        show::rr(s, read_report::rtcp_rr_parse(s));
+        return true;
+    }
+    if check::same(op, b"sr_parse") {
+        show::sr(s, read_report::rtcp_sr_parse(s));
+        return true;
+    }
+    if check::same(op, b"rr_report_block") {
+        show::block(read_report::rtcp_rr_report_block(s, i));
+        return true;
+    }
+    if check::same(op, b"sr_report_block") {
+        show::block(read_report::rtcp_sr_report_block(s, i));
+        return true;
+    }
+    false
+}
+
+fn other(op: &[u8], s: &[u8], i: u64) -> bool {
+    if check::same(op, b"app_parse") {
+        show::app(s, read_app::rtcp_app_parse(s));
+        return true;
+    }
+    if check::same(op, b"bye_parse") {
+        show::bye(s, read_bye::rtcp_bye_parse(s));
+        return true;
+    }
+    if check::same(op, b"bye_source") {
+        show::source(read_bye::rtcp_bye_source(s, i));
+        return true;
+    }
+    if check::same(op, b"sdes_parse") {
+        show::sdes(s, read_sdes::rtcp_sdes_parse(s));
+        return true;
+    }
+    false
+}
+
+fn description(op: &[u8], s: &[u8]) -> bool {
+    if check::same(op, b"item_parse") {
+        show::item(s, read_sdes::rtcp_item_parse(s));
+        return true;
+    }
+    if check::same(op, b"item_priv_prefix") {
+        show::prefix(s, read_sdes::rtcp_item_priv_prefix(s));
+        return true;
+    }
+    if check::same(op, b"chunk_parse") {
+        show::chunk(read_sdes::rtcp_chunk_parse(s));
+        return true;
+    }
+    false
+}
+
+fn walk(op: &[u8], s: &[u8], at: u64, end: u64) -> bool {
+    if check::same(op, b"chunk_walk_open") {
+        show::chunk_walk(read_sdes::rtcp_chunk_walk_open(s));
+        return true;
+    }
+    if check::same(op, b"chunk_walk_step") {
+        show::chunk_step(read_sdes::rtcp_chunk_walk_step(s, at, end));
+        return true;
+    }
+    if check::same(op, b"item_walk_open") {
+        show::item_walk(read_sdes::rtcp_item_walk_open(s));
+        return true;
+    }
+    if check::same(op, b"item_walk_step") {
+        show::item_step(s, read_sdes::rtcp_item_walk_step(s, at));
+        return true;
+    }
+    false
+}
+
+fn answer(op: &[u8], s: &[u8], a: u64, b: u64) {
+    if report(op, s, a) {
+        return;
+    }
+    if other(op, s, a) {
+        return;
+    }
+    if description(op, s) {
+        return;
+    }
+    if walk(op, s, a, b) {
+        return;
+    }
+    show::print(b"no such operation");
+}
+
+fn row(line: &[u8]) {
+    let named = text::rest(line);
+    let args = text::rest(named);
+    let a = text::number(text::word(args));
+    let b = text::number(text::word(text::rest(args)));
+    let mut buf = io::buffer();
+    let n = text::unhex(text::last_word(args), &mut buf);
+    show::print(text::word(line));
+    show::print(b": ");
+    answer(text::word(named), &buf[..n], a, b);
+    show::print(b"\n");
+}
+
+fn rows(lines: &[u8]) {
+    let mut at = 0;
+    while at < lines.len() {
+        let end = text::find(lines, at, b'\n');
+        row(&lines[at..end]);
+        at = end + 1;
+    }
+}
+
+fn main() {
+    let mut buf = io::large_buffer();
+    let n = io::read_full(0, &mut buf);
+    rows(&buf[..n]);
+}

@@ -1,0 +1,39 @@
+-- BYE packets: what C gets, from what the readers answer.
+use mathlib.Core.Path.{_≡_, refl}
+use Prim.Native.Nat.{ℕ, _+_, _-_, _^_, _<_, _≤_}
+use native.Mathlib.Omega.{arith}
+use borrow.Author.Needs.{needs}
+use Rattle.rfc3550.specs.Answer.{Answer, mapOk}
+use Rattle.rfc3550.specs.Packet.{Packet}
+use Rattle.bye.specs.Bye.{parsedOf, byeView}
+use Rattle.bye.specs.declared.Bye.{Bye}
+use Rattle.bye.specs.declared.ParsedBye.{ParsedBye}
+use Rattle.bye.specs.declared.ParsedBye.the-variants as parsed
+use Rattle.rtcp.specs.Result.{bit}
+use Rattle.rtcp.specs.Bye.{byeResult}
+use Rattle.rtcp.proofs.Results.{handed, viewed}
+
+module _ (o : ParsedBye) (b : Bye) (x : Answer Packet) (p : o ≡ parsed.Bye b) (q : parsedOf o ≡ mapOk byeView x) where
+  pub bye-order : b .reason + b .«reason_len» ≤ b .body
+  bye-order = viewed parsedOf parsed.Bye (λ b. refl) byeView (λ (b : Bye). b .reason + b .«reason_len» ≤ b .body) x (λ p e. omega arith) o b p q
+
+  pub bye-fits : b .body < 2 ^ 64 → b .reason + b .«reason_len» < 2 ^ 64
+  bye-fits l = let m = bye-order in omega arith
+
+pub bye-read : (o : ParsedBye) (b : Bye) (x : Answer Bye) (n : ℕ) → n ≡ bit (b .«has_reason») → o ≡ parsed.Bye b → parsedOf o ≡ x
+    → record {
+      number = 0;
+      first = 0;
+      second = 0;
+      «n_sources» = b .«n_sources»;
+      «has_reason» = n;
+      reason = b .reason;
+      «reason_len» = b .«reason_len»;
+      tail = b .reason + b .«reason_len»;
+      «tail_len» = b .body - (b .reason + b .«reason_len»);
+      padding = b .body;
+      «padding_len» = b .padding;
+    } ≡ byeResult x
+bye-read o b x n h p q = rw h (handed byeResult parsedOf parsed.Bye (λ b. refl) o b x p q)
+
+pub ruleset byes = (needs, bye-order, bye-fits, bye-read)

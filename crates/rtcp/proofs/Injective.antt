@@ -1,0 +1,197 @@
+-- A result of C loses nothing of the answer: number 0 says that it is done, and no refusal has it.
+use Prim.Native.Nat.{ℕ, _<_}
+use mathlib.Core.Bool.{Bool, true, false}
+use mathlib.Core.Path.{_≡_, refl, sym, ap, _∙_}
+use native.Mathlib.Omega.{arith}
+use lib.Dec.{eqb}
+use borrow.Author.Tests.{ne-eqb}
+use Rattle.rfc3550.specs.Answer.{Refusal, refusal, Answer, ok, refused, pick}
+use Rattle.utils.specs.Error.{parseRefusal}
+use Rattle.utils.specs.declared.error.RtcpParseError.{RtcpParseError}
+use Rattle.utils.specs.declared.error.RtcpParseError.the-variants as parse
+use Rattle.report.specs.declared.report_block.ReportBlock.{ReportBlock}
+use Rattle.report.specs.declared.receiver.ReceiverReport.{ReceiverReport}
+use Rattle.report.specs.declared.sender.SenderReport.{SenderReport}
+use Rattle.app.specs.declared.App.{App}
+use Rattle.bye.specs.declared.Bye.{Bye}
+use Rattle.sdes_chunk.specs.declared.item.SdesItem.{SdesItem}
+use Rattle.sdes_chunk.specs.declared.chunk.SdesChunk.{SdesChunk}
+use Rattle.sdes_chunk.specs.declared.chunk.ItemWalk.{ItemWalk}
+use Rattle.sdes.specs.declared.sdes.Sdes.{Sdes}
+use Rattle.sdes.specs.declared.sdes.ChunkWalk.{ChunkWalk}
+use Rattle.rtcp.specs.Result.{numberIn, numberOf, firstOf, secondOf, field, bit}
+use Rattle.rtcp.specs.Report.{blockResult, rrResult, srResult}
+use Rattle.rtcp.specs.App.{appResult}
+use Rattle.rtcp.specs.Bye.{byeResult, sourceResult}
+use Rattle.rtcp.specs.Sdes.{sdesResult, itemResult, prefixResult, chunkResult, chunkWalkResult, chunkStepResult, itemWalkResult, itemStepResult}
+use Rattle.rtcp.specs.declared.read_report.RtcpBlock.{RtcpBlock}
+use Rattle.rtcp.specs.declared.read_report.RtcpRr.{RtcpRr}
+use Rattle.rtcp.specs.declared.read_report.RtcpSr.{RtcpSr}
+use Rattle.rtcp.specs.declared.read_app.RtcpApp.{RtcpApp}
+use Rattle.rtcp.specs.declared.read_bye.RtcpBye.{RtcpBye}
+use Rattle.rtcp.specs.declared.read_bye.RtcpSource.{RtcpSource}
+use Rattle.rtcp.specs.declared.read_sdes.RtcpSdes.{RtcpSdes}
+use Rattle.rtcp.specs.declared.read_sdes.RtcpItem.{RtcpItem}
+use Rattle.rtcp.specs.declared.read_sdes.RtcpPart.{RtcpPart}
+use Rattle.rtcp.specs.declared.read_sdes.RtcpChunk.{RtcpChunk}
+use Rattle.rtcp.specs.declared.read_sdes.RtcpChunkWalk.{RtcpChunkWalk}
+use Rattle.rtcp.specs.declared.read_sdes.RtcpChunkStep.{RtcpChunkStep}
+use Rattle.rtcp.specs.declared.read_sdes.RtcpItemWalk.{RtcpItemWalk}
+use Rattle.rtcp.specs.declared.read_sdes.RtcpItemStep.{RtcpItemStep}
+
+-- ---- every refusal has a number above 0
+
+pub parse-numbered : (e : RtcpParseError) → 0 < numberIn (parseRefusal e)
+parse-numbered (parse.UnsupportedVersion version) = omega arith
+parse-numbered (parse.Truncated expected actual) = omega arith
+parse-numbered (parse.TooLarge expected actual) = omega arith
+parse-numbered parse.InvalidPadding = omega arith
+parse-numbered (parse.SdesPrivPrefixTooLarge len available) = omega arith
+parse-numbered (parse.PacketTypeMismatch actual requested) = omega arith
+parse-numbered (parse.FirstPacketNoReport t) = omega arith
+parse-numbered parse.NoCname = omega arith
+parse-numbered parse.NonLastCompoundPacketPadding = omega arith
+parse-numbered parse.NothingLeft = omega arith
+parse-numbered (parse.NotPriv t) = omega arith
+
+module _ {A : Type 0} where
+  abbrev pub Numbered : Answer A → Type 0
+  Numbered (ok a) = Unit {0}
+  Numbered (refused r) = 0 < numberIn r
+
+  abbrev answerFrom : ℕ → ℕ → ℕ → A → Answer A
+  answerFrom number first second a = pick (eqb number 0) (ok a) (refused (refusal number first second))
+
+  answer-back : (a : Answer A) (value : A) → ((x : A) → a ≡ ok x → value ≡ x) → Numbered a → answerFrom (numberOf a) (firstOf a) (secondOf a) value ≡ a
+  answer-back (ok x) value h n = ap ok (h x refl)
+  answer-back (refused (refusal number first second)) value h n = rw (ne-eqb number 0 (λ e. omega arith))
+
+-- one law over the result: it is enough that the value comes back from the fields
+module _ {A R : Type 0} (result : Answer A → R) (value : R → A) (numbers : R → ℕ × ℕ × ℕ) (same : (a : Answer A) → numbers (result a) ≡ (numberOf a, firstOf a, secondOf a))
+    (back : (x : A) → value (result (ok x)) ≡ x) where
+  abbrev from : R → Answer A
+  from r = answerFrom (numbers r .0) (numbers r .1) (numbers r .2) (value r)
+
+  from-back : (a : Answer A) → Numbered a → from (result a) ≡ a
+  from-back a n = rw (same a) (answer-back a (value (result a)) (λ x e. ap (λ (a : Answer A). value (result a)) e ∙ back x) n)
+
+  pub keeps : (a b : Answer A) → Numbered a → Numbered b → result a ≡ result b → a ≡ b
+  keeps a b n m e = sym (from-back a n) ∙ ap from e ∙ from-back b m
+
+bit-back : (b : Bool) → eqb (bit b) 1 ≡ b
+bit-back true = refl
+bit-back false = refl
+
+-- ---- each result
+
+pub blockResult-injective : (a b : Answer ReportBlock) → Numbered a → Numbered b → blockResult a ≡ blockResult b → a ≡ b
+blockResult-injective =
+    keeps blockResult
+    (λ (r : RtcpBlock). record { ssrc = r .ssrc; «fraction_lost» = r .«fraction_lost»; «cumulative_lost» = r .«cumulative_lost»; «extended_sequence_number» = r .«extended_sequence_number»; «interarrival_jitter» = r .«interarrival_jitter»; «last_sender_report_timestamp» = r .«last_sender_report_timestamp»; «delay_since_last_sender_report_timestamp» = r .«delay_since_last_sender_report_timestamp» })
+    (λ (r : RtcpBlock). (r .number, r .first, r .second))
+    (λ a. refl)
+    (λ x. refl)
+
+pub rrResult-injective : (a b : Answer ReceiverReport) → Numbered a → Numbered b → rrResult a ≡ rrResult b → a ≡ b
+rrResult-injective =
+    keeps rrResult
+    (λ (r : RtcpRr). record { ssrc = r .ssrc; «n_reports» = r .«n_reports»; extension = r .extension; body = r .padding; padding = r .«padding_len» })
+    (λ (r : RtcpRr). (r .number, r .first, r .second))
+    (λ a. refl)
+    (λ x. refl)
+
+pub srResult-injective : (a b : Answer SenderReport) → Numbered a → Numbered b → srResult a ≡ srResult b → a ≡ b
+srResult-injective =
+    keeps srResult
+    (λ (r : RtcpSr). record { ssrc = r .ssrc; «ntp_timestamp» = r .«ntp_timestamp»; «rtp_timestamp» = r .«rtp_timestamp»; «packet_count» = r .«packet_count»; «octet_count» = r .«octet_count»; «n_reports» = r .«n_reports»; extension = r .extension; body = r .padding; padding = r .«padding_len» })
+    (λ (r : RtcpSr). (r .number, r .first, r .second))
+    (λ a. refl)
+    (λ x. refl)
+
+pub appResult-injective : (a b : Answer App) → Numbered a → Numbered b → appResult a ≡ appResult b → a ≡ b
+appResult-injective =
+    keeps appResult
+    (λ (r : RtcpApp). record { ssrc = r .ssrc; subtype = r .subtype; body = r .padding; padding = r .«padding_len» })
+    (λ (r : RtcpApp). (r .number, r .first, r .second))
+    (λ a. refl)
+    (λ x. refl)
+
+pub byeResult-injective : (a b : Answer Bye) → Numbered a → Numbered b → byeResult a ≡ byeResult b → a ≡ b
+byeResult-injective =
+    keeps byeResult
+    (λ (r : RtcpBye). record { «n_sources» = r .«n_sources»; «has_reason» = eqb (r .«has_reason») 1; reason = r .reason; «reason_len» = r .«reason_len»; body = r .padding; padding = r .«padding_len» })
+    (λ (r : RtcpBye). (r .number, r .first, r .second))
+    (λ a. refl)
+    (λ x. rw (bit-back (x .«has_reason»)))
+
+pub sourceResult-injective : (a b : Answer ℕ) → Numbered a → Numbered b → sourceResult a ≡ sourceResult b → a ≡ b
+sourceResult-injective =
+    keeps sourceResult
+    (λ (r : RtcpSource). r .ssrc)
+    (λ (r : RtcpSource). (r .number, r .first, r .second))
+    (λ a. refl)
+    (λ x. refl)
+
+pub sdesResult-injective : (a b : Answer Sdes) → Numbered a → Numbered b → sdesResult a ≡ sdesResult b → a ≡ b
+sdesResult-injective =
+    keeps sdesResult
+    (λ (r : RtcpSdes). record { «n_chunks» = r .«n_chunks»; «has_cname» = eqb (r .«has_cname») 1; body = r .body; padding = r .«padding_len» })
+    (λ (r : RtcpSdes). (r .number, r .first, r .second))
+    (λ a. refl)
+    (λ x. rw (bit-back (x .«has_cname»)))
+
+pub itemResult-injective : (a b : Answer SdesItem) → Numbered a → Numbered b → itemResult a ≡ itemResult b → a ≡ b
+itemResult-injective =
+    keeps itemResult
+    (λ (r : RtcpItem). record { «type_» = r .«type_»; length = r .length; prefix = r .«prefix_len» })
+    (λ (r : RtcpItem). (r .number, r .first, r .second))
+    (λ a. refl)
+    (λ x. refl)
+
+pub prefixResult-injective : (a b : Answer ℕ) → Numbered a → Numbered b → prefixResult a ≡ prefixResult b → a ≡ b
+prefixResult-injective =
+    keeps prefixResult
+    (λ (r : RtcpPart). r .len)
+    (λ (r : RtcpPart). (r .number, r .first, r .second))
+    (λ a. refl)
+    (λ x. refl)
+
+pub chunkResult-injective : (a b : Answer SdesChunk) → Numbered a → Numbered b → chunkResult a ≡ chunkResult b → a ≡ b
+chunkResult-injective =
+    keeps chunkResult
+    (λ (r : RtcpChunk). record { ssrc = r .ssrc; length = r .length; cname = r .cname })
+    (λ (r : RtcpChunk). (r .number, r .first, r .second))
+    (λ a. refl)
+    (λ x. refl)
+
+pub chunkWalkResult-injective : (a b : Answer ChunkWalk) → Numbered a → Numbered b → chunkWalkResult a ≡ chunkWalkResult b → a ≡ b
+chunkWalkResult-injective =
+    keeps chunkWalkResult
+    (λ (r : RtcpChunkWalk). record { at = r .at; end = r .end })
+    (λ (r : RtcpChunkWalk). (r .number, r .first, r .second))
+    (λ a. refl)
+    (λ x. refl)
+
+pub chunkStepResult-injective : (at end : ℕ) (a b : Answer (SdesChunk × ChunkWalk)) → Numbered a → Numbered b → (chunkStepResult at end) a ≡ (chunkStepResult at end) b → a ≡ b
+chunkStepResult-injective at end =
+    keeps (chunkStepResult at end)
+    (λ (r : RtcpChunkStep). (record { ssrc = r .ssrc; length = r .length; cname = r .cname }, record { at = r .at; end = r .end }))
+    (λ (r : RtcpChunkStep). (r .number, r .first, r .second))
+    (λ a. refl)
+    (λ x. refl)
+
+pub itemWalkResult-injective : (a b : Answer ItemWalk) → Numbered a → Numbered b → itemWalkResult a ≡ itemWalkResult b → a ≡ b
+itemWalkResult-injective =
+    keeps itemWalkResult
+    (λ (r : RtcpItemWalk). record { at = r .at })
+    (λ (r : RtcpItemWalk). (r .number, r .first, r .second))
+    (λ a. refl)
+    (λ x. refl)
+
+pub itemStepResult-injective : (at : ℕ) (a b : Answer (SdesItem × ItemWalk)) → Numbered a → Numbered b → (itemStepResult at) a ≡ (itemStepResult at) b → a ≡ b
+itemStepResult-injective at =
+    keeps (itemStepResult at)
+    (λ (r : RtcpItemStep). (record { «type_» = r .«type_»; length = r .length; prefix = r .«prefix_len» }, record { at = r .at }))
+    (λ (r : RtcpItemStep). (r .number, r .first, r .second))
+    (λ a. refl)
+    (λ x. refl)

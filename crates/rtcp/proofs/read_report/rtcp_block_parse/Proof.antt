@@ -1,0 +1,18 @@
+use Rattle.report.specs.Block.{parsedBlockOf}
+use Rattle.rtcp.specs.Report.{blockResult}
+use Rattle.rtcp.proofs.Results.{passed}
+use borrow.Author.Needs.{needs}
+use Rattle.rtcp.proofs.read_report.rtcp_block_parse.Statement.{statement}
+use Rattle.rtcp.proofs.read_report.rtcp_block_parse.Tie as tie
+
+parse-requires : tie.Need-parse-requires
+parse-requires c κs = search needs
+
+from-parsed-requires : tie.Need-from-parsed-requires
+from-parsed-requires c κs = search needs
+
+returns : tie.Need-returns
+returns c = search (needs, passed blockResult parsedBlockOf)
+
+pub rtcp-block-parse-spec : {M : Type 1} → statement M
+rtcp-block-parse-spec = tie.close (tie.spec parse-requires from-parsed-requires returns)

@@ -1,0 +1,7 @@
+pub mod Result
+pub mod Report
+pub mod App
+pub mod Bye
+pub mod Sdes
+pub mod WriteResult
+pub mod WriteReport

@@ -1,0 +1,58 @@
+-- Reports and their blocks as C gets them. A part is its offset in the caller's bytes and its length.
+use Prim.Native.Nat.{ℕ, _-_}
+use Rattle.rfc3550.specs.Answer.{Answer}
+use Rattle.report.specs.declared.report_block.ReportBlock.{ReportBlock}
+use Rattle.report.specs.declared.receiver.ReceiverReport.{ReceiverReport}
+use Rattle.report.specs.declared.sender.SenderReport.{SenderReport}
+use Rattle.rtcp.specs.declared.read_report.RtcpBlock.{RtcpBlock}
+use Rattle.rtcp.specs.declared.read_report.RtcpRr.{RtcpRr}
+use Rattle.rtcp.specs.declared.read_report.RtcpSr.{RtcpSr}
+use Rattle.rtcp.specs.Result.{numberOf, firstOf, secondOf, field}
+
+abbrev pub blockResult : Answer ReportBlock → RtcpBlock
+blockResult a =
+    record {
+      number = numberOf a;
+      first = firstOf a;
+      second = secondOf a;
+      ssrc = field (λ b. b .ssrc) a;
+      «fraction_lost» = field (λ b. b .«fraction_lost») a;
+      «cumulative_lost» = field (λ b. b .«cumulative_lost») a;
+      «extended_sequence_number» = field (λ b. b .«extended_sequence_number») a;
+      «interarrival_jitter» = field (λ b. b .«interarrival_jitter») a;
+      «last_sender_report_timestamp» = field (λ b. b .«last_sender_report_timestamp») a;
+      «delay_since_last_sender_report_timestamp» = field (λ b. b .«delay_since_last_sender_report_timestamp») a;
+      reserved = 0;
+    }
+
+abbrev pub rrResult : Answer ReceiverReport → RtcpRr
+rrResult a =
+    record {
+      number = numberOf a;
+      first = firstOf a;
+      second = secondOf a;
+      ssrc = field (λ r. r .ssrc) a;
+      «n_reports» = field (λ r. r .«n_reports») a;
+      extension = field (λ r. r .extension) a;
+      «extension_len» = field (λ r. r .body - r .extension) a;
+      padding = field (λ r. r .body) a;
+      «padding_len» = field (λ r. r .padding) a;
+    }
+
+abbrev pub srResult : Answer SenderReport → RtcpSr
+srResult a =
+    record {
+      number = numberOf a;
+      first = firstOf a;
+      second = secondOf a;
+      ssrc = field (λ r. r .ssrc) a;
+      «ntp_timestamp» = field (λ r. r .«ntp_timestamp») a;
+      «rtp_timestamp» = field (λ r. r .«rtp_timestamp») a;
+      «packet_count» = field (λ r. r .«packet_count») a;
+      «octet_count» = field (λ r. r .«octet_count») a;
+      «n_reports» = field (λ r. r .«n_reports») a;
+      extension = field (λ r. r .extension) a;
+      «extension_len» = field (λ r. r .body - r .extension) a;
+      padding = field (λ r. r .body) a;
+      «padding_len» = field (λ r. r .padding) a;
+    }

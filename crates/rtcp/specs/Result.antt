@@ -1,0 +1,36 @@
+-- What every result of C has first: the paper's number, 0 where it is done, and the two details. On a refusal all that follows is 0.
+use Prim.Native.Nat.{ℕ}
+use mathlib.Core.Bool.{Bool, true, false}
+use Rattle.rfc3550.specs.Answer.{Refusal, refusal, Answer, ok, refused}
+
+abbrev pub numberIn : Refusal → ℕ
+numberIn (refusal number first second) = number
+
+abbrev pub firstIn : Refusal → ℕ
+firstIn (refusal number first second) = first
+
+abbrev pub secondIn : Refusal → ℕ
+secondIn (refusal number first second) = second
+
+module _ {A : Type 0} where
+  abbrev pub numberOf : Answer A → ℕ
+  numberOf (ok a) = 0
+  numberOf (refused r) = numberIn r
+
+  abbrev pub firstOf : Answer A → ℕ
+  firstOf (ok a) = 0
+  firstOf (refused r) = firstIn r
+
+  abbrev pub secondOf : Answer A → ℕ
+  secondOf (ok a) = 0
+  secondOf (refused r) = secondIn r
+
+  -- a field of what is handed over
+  abbrev pub field : (A → ℕ) → Answer A → ℕ
+  field f (ok a) = f a
+  field f (refused r) = 0
+
+-- a bool as C gets it
+abbrev pub bit : Bool → ℕ
+bit true = 1
+bit false = 0

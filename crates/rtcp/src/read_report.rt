@@ -1,0 +1,210 @@
+// Reports and their blocks.
+use report::receiver::ParsedReceiverReport;
+use report::receiver::ReceiverReport;
+use report::report_block::ParsedReportBlock;
+use report::report_block::ReportBlock;
+use report::sender::ParsedSenderReport;
+use report::sender::SenderReport;
+use utils::error::RtcpParseError;
+ghost use mathlib.Core.Path.{_≡_};
+ghost use Rattle.rfc3550.specs.Answer.{mapOk, refused};
+ghost use Rattle.rfc3550.specs.Read.{RR, SR, readAs, readBlock, readBlockAt};
+ghost use Rattle.utils.specs.Error.{parseRefusal};
+ghost use Rattle.report.specs.Block.{parsedBlockOf, blockView};
+ghost use Rattle.report.specs.Report.{receiverView, senderView};
+ghost use Rattle.rtcp.specs.Report.{blockResult, rrResult, srResult};
+
+#[repr(C)]
+pub struct RtcpBlock {
+    pub number: u64,
+    pub first: u64,
+    pub second: u64,
+    pub ssrc: u32,
+    pub fraction_lost: u32,
+    pub cumulative_lost: u32,
+    pub extended_sequence_number: u32,
+    pub interarrival_jitter: u32,
+    pub last_sender_report_timestamp: u32,
+    pub delay_since_last_sender_report_timestamp: u32,
+    pub reserved: u32,
+}
+
+#[repr(C)]
+pub struct RtcpRr {
+    pub number: u64,
+    pub first: u64,
+    pub second: u64,
+    pub ssrc: u64,
+    pub n_reports: u64,
+    pub extension: u64,
+    pub extension_len: u64,
+    pub padding: u64,
+    pub padding_len: u64,
+}
+
+#[repr(C)]
+pub struct RtcpSr {
+    pub number: u64,
+    pub first: u64,
+    pub second: u64,
+    pub ssrc: u64,
+    pub ntp_timestamp: u64,
+    pub rtp_timestamp: u64,
+    pub packet_count: u64,
+    pub octet_count: u64,
+    pub n_reports: u64,
+    pub extension: u64,
+    pub extension_len: u64,
+    pub padding: u64,
+    pub padding_len: u64,
+}
+
+impl RtcpBlock {
+    fn refused(e: RtcpParseError) -> RtcpBlock
+        ensures { λ r. ⌜ r ≡ blockResult (refused (parseRefusal e)) ⌝ }
+    {
+        let code = e.code();
+        RtcpBlock {
+            number: code.number,
+            first: code.first,
+            second: code.second,
+            ssrc: 0,
+            fraction_lost: 0,
+            cumulative_lost: 0,
+            extended_sequence_number: 0,
+            interarrival_jitter: 0,
+            last_sender_report_timestamp: 0,
+            delay_since_last_sender_report_timestamp: 0,
+            reserved: 0,
+        }
+    }
+
+    fn from_parsed(parsed: ParsedReportBlock) -> RtcpBlock
+        ensures { λ r. ⌜ r ≡ blockResult (parsedBlockOf parsed) ⌝ }
+    {
+        match parsed {
+            ParsedReportBlock::Block(block) => RtcpBlock {
+                number: 0,
+                first: 0,
+                second: 0,
+                ssrc: block.ssrc,
+                fraction_lost: block.fraction_lost as u32,
+                cumulative_lost: block.cumulative_lost,
+                extended_sequence_number: block.extended_sequence_number,
+                interarrival_jitter: block.interarrival_jitter,
+                last_sender_report_timestamp: block.last_sender_report_timestamp,
+                delay_since_last_sender_report_timestamp: block.delay_since_last_sender_report_timestamp,
+                reserved: 0,
+            },
+            ParsedReportBlock::Refused(e) => RtcpBlock::refused(e),
+        }
+    }
+}
+
+impl RtcpRr {
+    fn refused(e: RtcpParseError) -> RtcpRr
+        ensures { λ r. ⌜ r ≡ rrResult (refused (parseRefusal e)) ⌝ }
+    {
+        let code = e.code();
+        RtcpRr {
+            number: code.number,
+            first: code.first,
+            second: code.second,
+            ssrc: 0,
+            n_reports: 0,
+            extension: 0,
+            extension_len: 0,
+            padding: 0,
+            padding_len: 0,
+        }
+    }
+}
+
+impl RtcpSr {
+    fn refused(e: RtcpParseError) -> RtcpSr
+        ensures { λ r. ⌜ r ≡ srResult (refused (parseRefusal e)) ⌝ }
+    {
+        let code = e.code();
+        RtcpSr {
+            number: code.number,
+            first: code.first,
+            second: code.second,
+            ssrc: 0,
+            ntp_timestamp: 0,
+            rtp_timestamp: 0,
+            packet_count: 0,
+            octet_count: 0,
+            n_reports: 0,
+            extension: 0,
+            extension_len: 0,
+            padding: 0,
+            padding_len: 0,
+        }
+    }
+}
+
+#[no_mangle]
+pub extern "C" fn rtcp_block_parse(s: &[u8]) -> RtcpBlock
+    ensures { λ r. ⌜ r ≡ blockResult (mapOk blockView (readBlock (now (s .entry)))) ⌝ }
+{
+    RtcpBlock::from_parsed(ReportBlock::parse(s))
+}
+
+#[no_mangle]
+pub extern "C" fn rtcp_rr_parse(s: &[u8]) -> RtcpRr
+    ensures { λ r. ⌜ r ≡ rrResult (mapOk receiverView (readAs RR (now (s .entry)))) ⌝ }
+{
+    match ReceiverReport::parse(s) {
+        ParsedReceiverReport::Report(rr) => RtcpRr {
+            number: 0,
+            first: 0,
+            second: 0,
+            ssrc: rr.ssrc as u64,
+            n_reports: rr.n_reports as u64,
+            extension: rr.extension as u64,
+            extension_len: (rr.body - rr.extension) as u64,
+            padding: rr.body as u64,
+            padding_len: rr.padding as u64,
+        },
+        ParsedReceiverReport::Refused(e) => RtcpRr::refused(e),
+    }
+}
+
+#[no_mangle]
+pub extern "C" fn rtcp_sr_parse(s: &[u8]) -> RtcpSr
+    ensures { λ r. ⌜ r ≡ srResult (mapOk senderView (readAs SR (now (s .entry)))) ⌝ }
+{
+    match SenderReport::parse(s) {
+        ParsedSenderReport::Report(sr) => RtcpSr {
+            number: 0,
+            first: 0,
+            second: 0,
+            ssrc: sr.ssrc as u64,
+            ntp_timestamp: sr.ntp_timestamp,
+            rtp_timestamp: sr.rtp_timestamp as u64,
+            packet_count: sr.packet_count as u64,
+            octet_count: sr.octet_count as u64,
+            n_reports: sr.n_reports as u64,
+            extension: sr.extension as u64,
+            extension_len: (sr.body - sr.extension) as u64,
+            padding: sr.body as u64,
+            padding_len: sr.padding as u64,
+        },
+        ParsedSenderReport::Refused(e) => RtcpSr::refused(e),
+    }
+}
+
+// The block with an index, from 0.
+#[no_mangle]
+pub extern "C" fn rtcp_rr_report_block(s: &[u8], i: u64) -> RtcpBlock
+    ensures { λ r. ⌜ r ≡ blockResult (mapOk blockView (readBlockAt RR (now (s .entry)) i)) ⌝ }
+{
+    RtcpBlock::from_parsed(ReceiverReport::report_block(s, i as usize))
+}
+
+#[no_mangle]
+pub extern "C" fn rtcp_sr_report_block(s: &[u8], i: u64) -> RtcpBlock
+    ensures { λ r. ⌜ r ≡ blockResult (mapOk blockView (readBlockAt SR (now (s .entry)) i)) ⌝ }
+{
+    RtcpBlock::from_parsed(SenderReport::report_block(s, i as usize))
+}

@@ -1,0 +1,37 @@
+// What every write and every size hands over.
+use utils::writer::Written;
+ghost use mathlib.Core.Path.{_≡_};
+ghost use Rattle.utils.specs.Writer.{writtenOf};
+ghost use Rattle.rtcp.specs.WriteResult.{writtenOut};
+
+#[repr(C)]
+pub struct RtcpWritten {
+    pub number: u64,
+    pub first: u64,
+    pub second: u64,
+    pub size: u64,
+}
+
+impl RtcpWritten {
+    pub fn from_written(written: Written) -> RtcpWritten
+        ensures { λ r. ⌜ r ≡ writtenOut (writtenOf written) ⌝ }
+    {
+        match written {
+            Written::Size(size) => RtcpWritten {
+                number: 0,
+                first: 0,
+                second: 0,
+                size: size as u64,
+            },
+            Written::Refused(e) => {
+                let code = e.code();
+                RtcpWritten {
+                    number: code.number,
+                    first: code.first,
+                    second: code.second,
+                    size: 0,
+                }
+            }
+        }
+    }
+}

@@ -1,0 +1,2 @@
+pub mod Sdes
+pub mod Walk

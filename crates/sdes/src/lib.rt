@@ -1,0 +1,2 @@
+// Source descriptions (sdes.rs of rtcp-types).
+pub mod sdes;

@@ -1,0 +1,194 @@
+// A source description packet.
+use sdes_chunk::chunk::ParsedChunk;
+use sdes_chunk::chunk::SdesChunk;
+use utils::error::RtcpParseError;
+use utils::parser;
+use utils::parser::CheckedPacket;
+ghost use mathlib.Core.Path.{_≡_};
+ghost use mathlib.Core.Bool.{_||_};
+ghost use Prim.Native.Nat.{_≤_};
+ghost use lib.Dec.{ltb};
+ghost use lib.ListN.{length, take, drop};
+ghost use Rattle.rfc3550.specs.Answer.{mapOk};
+ghost use Rattle.rfc3550.specs.Packet.{some, chunkHasCname};
+ghost use Rattle.rfc3550.specs.Read.{SDES, readChunks, readAs};
+ghost use Rattle.rfc3550.specs.Walk.{openSdes, sdesStep};
+ghost use Rattle.utils.specs.Error.{parseRefusal, refusalIn};
+ghost use Rattle.utils.specs.Parts.{paddingIn};
+ghost use Rattle.sdes.specs.Sdes.{sdesView, parsedSdesOf, chunksReadOf};
+ghost use Rattle.sdes.specs.Walk.{chunkWalk, sdesWalk, chunkStepped, openedChunksOf, steppedChunkOf};
+
+// The number of chunks, whether one has a CNAME, and the lengths of the body, behind which the padding stands, and of the padding.
+pub struct Sdes {
+    pub n_chunks: usize,
+    pub has_cname: bool,
+    pub body: usize,
+    pub padding: usize,
+}
+
+pub enum ParsedSdes {
+    Sdes(Sdes),
+    Refused(RtcpParseError),
+}
+
+impl ParsedSdes {
+    // Why it is refused; NothingLeft where it is not.
+    pub fn refusal(self) -> RtcpParseError
+        ensures { λ r. ⌜ parseRefusal r ≡ refusalIn (parsedSdesOf self) ⌝ }
+    {
+        match self {
+            ParsedSdes::Sdes(_) => RtcpParseError::NothingLeft,
+            ParsedSdes::Refused(e) => e,
+        }
+    }
+}
+
+// Whether some chunk of a body has a CNAME.
+enum ReadChunks {
+    HasCname(bool),
+    Refused(RtcpParseError),
+}
+
+impl ReadChunks {
+    // Why it is refused; NothingLeft where it is not.
+    fn refusal(self) -> RtcpParseError
+        ensures { λ r. ⌜ parseRefusal r ≡ refusalIn (chunksReadOf self) ⌝ }
+    {
+        match self {
+            ReadChunks::HasCname(_) => RtcpParseError::NothingLeft,
+            ReadChunks::Refused(e) => e,
+        }
+    }
+}
+
+fn or_cname(has_cname: bool, cname: usize) -> bool
+    ensures { λ r. ⌜ r ≡ («has_cname» || ltb 0 cname) ⌝ }
+{
+    if has_cname { true } else { 0 < cname }
+}
+
+// Exactly n chunks, from the end of the header to the end of the body.
+fn read_chunks(body: &[u8], n: usize) -> ReadChunks
+    requires { ⌜ 4 ≤ length (now body) ⌝ }
+    ensures { λ r. ⌜ chunksReadOf r ≡ mapOk (some chunkHasCname) (readChunks n (length (now (body .entry))) (drop 4 (now (body .entry)))) ⌝ }
+{
+    let mut at = Sdes::MIN_PACKET_LEN;
+    let mut left = n;
+    let mut has_cname = false;
+    while 0 < left {
+        let rest = &body[at..];
+        let answer = SdesChunk::parse(rest);
+        let ParsedChunk::Chunk(chunk) = answer else {
+            return ReadChunks::Refused(answer.refusal());
+        };
+        has_cname = or_cname(has_cname, chunk.cname);
+        at = at + chunk.length;
+        left = left - 1;
+    }
+    if at < body.len() {
+        return ReadChunks::Refused(RtcpParseError::TooLarge {
+            expected: at,
+            actual: body.len(),
+        });
+    }
+    ReadChunks::HasCname(has_cname)
+}
+
+impl Sdes {
+    pub const MIN_PACKET_LEN: usize = 4;
+
+    pub const PACKET_TYPE: u8 = 202;
+
+    pub fn parse(s: &[u8]) -> ParsedSdes
+        ensures { λ r. ⌜ parsedSdesOf r ≡ mapOk sdesView (readAs SDES (now (s .entry))) ⌝ }
+    {
+        let checked = parser::check_packet(s, Sdes::MIN_PACKET_LEN, Sdes::PACKET_TYPE);
+        let CheckedPacket::Body(body) = checked else {
+            return ParsedSdes::Refused(checked.refusal());
+        };
+        let n_chunks = parser::parse_count(s) as usize;
+        let answer = read_chunks(&s[..body], n_chunks);
+        let ReadChunks::HasCname(has_cname) = answer else {
+            return ParsedSdes::Refused(answer.refusal());
+        };
+        let padding = s.len() - body;
+        ParsedSdes::Sdes(Sdes {
+            n_chunks,
+            has_cname,
+            body,
+            padding,
+        })
+    }
+
+    pub fn padding_bytes(s: &[u8]) -> &[u8]
+        ensures { λ r. ⌜ now r ≡ paddingIn (readAs SDES (now (s .entry))) ⌝ }
+    {
+        let parsed = Sdes::parse(s);
+        let ParsedSdes::Sdes(sdes) = parsed else {
+            return &s[..0];
+        };
+        let body = sdes.body;
+        &s[body..]
+    }
+}
+
+// A walk over the chunks of a packet: the place of the next one, and the end of the body that it opened on.
+pub struct ChunkWalk {
+    pub at: usize,
+    pub end: usize,
+}
+
+pub enum OpenedChunks {
+    Walk(ChunkWalk),
+    Refused(RtcpParseError),
+}
+
+pub enum SteppedChunk {
+    Chunk(SdesChunk, ChunkWalk),
+    Refused(RtcpParseError),
+}
+
+// How far a step reads: no packet is longer than 262,144 bytes.
+fn reach(s: &[u8]) -> usize
+    ensures { λ r. ⌜ (r ≡ length (take 262144 (now (s .entry)))) × (r ≤ length (now (s .entry))) ⌝ }
+{
+    if s.len() < 262144 { s.len() } else { 262144 }
+}
+
+impl ChunkWalk {
+    // Opens only on an accepted packet.
+    pub fn open(s: &[u8]) -> OpenedChunks
+        ensures { λ r. ⌜ openedChunksOf r ≡ mapOk chunkWalk (openSdes (now (s .entry))) ⌝ }
+    {
+        let parsed = Sdes::parse(s);
+        let ParsedSdes::Sdes(sdes) = parsed else {
+            return OpenedChunks::Refused(parsed.refusal());
+        };
+        OpenedChunks::Walk(ChunkWalk {
+            at: Sdes::MIN_PACKET_LEN,
+            end: sdes.body,
+        })
+    }
+
+    // The chunk at the walk's place, and the walk after it.
+    pub fn step(self, s: &[u8]) -> SteppedChunk
+        ensures { λ r. ⌜ steppedChunkOf r ≡ mapOk chunkStepped (sdesStep (now (s .entry)) (sdesWalk self)) ⌝ }
+    {
+        let at = self.at;
+        let end = self.end;
+        let limit = reach(s);
+        if limit <= at {
+            return SteppedChunk::Refused(RtcpParseError::NothingLeft);
+        }
+        if end <= at {
+            return SteppedChunk::Refused(RtcpParseError::NothingLeft);
+        }
+        let rest = &s[at..limit];
+        let answer = SdesChunk::parse(rest);
+        let ParsedChunk::Chunk(chunk) = answer else {
+            return SteppedChunk::Refused(answer.refusal());
+        };
+        let next = at + chunk.length;
+        SteppedChunk::Chunk(chunk, ChunkWalk { at: next, end })
+    }
+}

@@ -1,0 +1,3 @@
+// The chunks of source descriptions and their items (sdes.rs of rtcp-types).
+pub mod chunk;
+pub mod item;

@@ -1,0 +1,2 @@
+// SDES packets, written.
+pub mod sdes;

@@ -1,0 +1,10 @@
+pub mod Numbers
+pub mod Headers
+pub mod Reading
+pub mod Parts
+pub mod Errors
+pub mod Injective
+pub mod WriterStores
+pub mod WriterCases
+pub mod WriterPackets
+pub mod WriterInjective

@@ -1,0 +1,74 @@
+-- Parts of a list, fields of a part, and elements by index.
+use mathlib.Core.Path.{_≡_, refl, ap, _∙_, sym}
+use mathlib.Core.Bool.{Bool, true, false}
+use mathlib.Core.List.{List, [], _∷_}
+use mathlib.Core.Logic.{_⊎_, inl, inr}
+use Prim.Native.Nat.{ℕ, zero, suc, _+_, _-_, _*_, _<_, _≤_}
+use native.Mathlib.Nat.{sub-zero, zero-sub, suc-sub-suc, mul-suc, mul-zero}
+use native.Mathlib.Omega.{arith}
+use borrow.Author.Tests.{ltb-true, ltb-false}
+use lib.Dec.{ltb}
+use lib.ListN.{length, take, drop, replicate, length-drop}
+use lib.Seq.{take-nil, take-take, drop-drop, length-take-le}
+use Rattle.rfc3550.specs.Answer.{ok, refuse}
+use Rattle.rfc3550.specs.Bytes.{val, get, sum}
+use Rattle.rfc3550.specs.Packet.{blockWidths}
+use Rattle.rfc3550.specs.Read.{nth, blockOf, readBlocks}
+
+-- ---- drop of take
+
+pub drop-take : {A : Type 0} (at b : ℕ) (s : List A) → drop at (take b s) ≡ take (b - at) (drop at s)
+drop-take zero b s = rw (sub-zero b)
+drop-take (suc at) zero s = rw (zero-sub (suc at))
+drop-take (suc at) (suc b) [] = sym (take-nil (suc b - suc at))
+drop-take (suc at) (suc b) (x ∷ s) = rw (suc-sub-suc b at) (drop-take at b s)
+
+pub take-drop-take : {A : Type 0} (w at b : ℕ) (s : List A) → at + w ≤ b → take w (drop at (take b s)) ≡ take w (drop at s)
+take-drop-take w at b s h = let l : w ≤ b - at = omega arith in rw (drop-take at b s, take-take w (b - at) (drop at s) l)
+
+pub length-drop-take : {A : Type 0} (at b : ℕ) (s : List A) → b ≤ length s → length (drop at (take b s)) ≡ b - at
+length-drop-take at b s h = rw (length-drop, length-take-le b s h)
+
+-- fields within the first b bytes
+pub get-take : (ws : List ℕ) (at b : ℕ) (s : List ℕ) → at + sum ws ≤ b → get ws (drop at (take b s)) ≡ get ws (drop at s)
+unfolding get sum
+get-take [] at b s h = refl
+get-take (w ∷ ws) at b s h =
+    rw (take-drop-take w at b s (omega arith), drop-drop w at (take b s), drop-drop w at s, get-take ws (at + w) b s (omega arith))
+
+-- ---- nth
+
+pub nth-past : {A : Type 0} (i : ℕ) (xs : List A) → length xs ≤ i → nth i xs ≡ refuse 25 0 0
+nth-past i [] h = refl
+nth-past zero (x ∷ xs) h = absurd (omega arith)
+nth-past (suc i) (x ∷ xs) h = nth-past i xs (omega arith)
+
+pub nth-get : (w n i : ℕ) (s : List ℕ) → i < n → nth i (get (replicate n w) s) ≡ ok (val (take w (drop (w * i) s)))
+unfolding get
+nth-get w zero i s h = absurd (omega arith)
+nth-get w (suc n) zero s h = rw (mul-zero w)
+nth-get w (suc n) (suc i) s h =
+    let e : w + w * i ≡ w * suc i = omega (arith, mul-suc w i) in
+    nth-get w n i (drop w s) (omega arith) ∙ rw (drop-drop (w * i) w s, e)
+
+pub nth-readBlocks : (n i : ℕ) (s : List ℕ) → i < n → nth i (readBlocks n s) ≡ ok (blockOf (get blockWidths (drop (24 * i) s)))
+unfolding readBlocks
+nth-readBlocks zero i s h = absurd (omega arith)
+nth-readBlocks (suc n) zero s h = refl
+nth-readBlocks (suc n) (suc i) s h =
+    let e : 24 + 24 * i ≡ 24 * suc i = omega arith in
+    nth-readBlocks n i (drop 24 s) (omega arith) ∙ rw (drop-drop (24 * i) 24 s, e)
+
+pub length-readBlocks : (n : ℕ) (s : List ℕ) → length (readBlocks n s) ≡ n
+unfolding readBlocks
+length-readBlocks zero s = refl
+length-readBlocks (suc n) s = ap suc (length-readBlocks n (drop 24 s))
+
+-- ---- two numbers, one way or the other
+
+pub split : (a b : ℕ) → (a < b) ⊎ (b ≤ a)
+split a b = go (ltb a b) refl
+  where
+    go : (t : Bool) → ltb a b ≡ t → (a < b) ⊎ (b ≤ a)
+    go true e = inl (ltb-true a b e)
+    go false e = inr (ltb-false a b e)

@@ -1,0 +1,4 @@
+pub mod Error
+pub mod Parser
+pub mod Parts
+pub mod Writer

@@ -1,0 +1,22 @@
+-- What a write answers, and the first four bytes of a packet.
+use Prim.Native.Nat.{ℕ, _+_, _-_, _/_}
+use mathlib.Core.List.{List, [], _∷_}
+use Rattle.rfc3550.specs.Answer.{Answer, ok, refused}
+use Rattle.rfc3550.specs.Bytes.{be}
+use Rattle.rfc3550.specs.Packet.{paddingBit}
+use Rattle.rfc3550.specs.Write.{paddingBytes}
+use Rattle.utils.specs.Error.{writeRefusal}
+use Rattle.utils.specs.declared.writer.Written.{Written}
+use Rattle.utils.specs.declared.writer.Written.the-variants as written
+
+abbrev pub writtenOf : Written → Answer ℕ
+writtenOf (written.Size size) = ok size
+writtenOf (written.Refused e) = refused (writeRefusal e)
+
+-- version 2, P, the low 5 bits
+abbrev pub firstByte : ℕ → ℕ → ℕ
+firstByte padding low = 128 + paddingBit (paddingBytes padding) + low
+
+-- the type and the length in words less 1 of a packet of so many bytes
+abbrev pub header : ℕ → ℕ → ℕ → ℕ → List ℕ
+header padding low type size = firstByte padding low ∷ type ∷ be 2 (size / 4 - 1)

@@ -1,0 +1,115 @@
+// Numbers, zeros, runs of bytes, headers and padding laid into a buffer (utils.rs, `writer`). Those named `.._unchecked` are
+// called where the bytes are known to fit.
+use crate::error::RtcpWriteError;
+ghost use mathlib.Core.Path.{_≡_};
+ghost use Prim.Native.Nat.{_+_, _%_, _≤_, _<_};
+ghost use lib.ListN.{length, replicate};
+ghost use Rattle.rfc3550.specs.Bytes.{be, store};
+ghost use Rattle.rfc3550.specs.Write.{paddingOk, paddingBytes};
+ghost use Rattle.utils.specs.Writer.{firstByte, header};
+
+// The size of what was written, or why nothing was.
+pub enum Written {
+    Size(usize),
+    Refused(RtcpWriteError),
+}
+
+pub fn write_u16_unchecked(buf: &mut [u8], at: usize, v: u16)
+    requires { ⌜ at + 2 ≤ length (now buf) ⌝ }
+    ensures { λ _. ⌜ now (buf .exit) ≡ store at (be 2 v) (now (buf .entry)) ⌝ }
+{
+    buf[at] = (v / 256 % 256) as u8;
+    buf[at + 1] = (v % 256) as u8;
+}
+
+pub fn write_u32_unchecked(buf: &mut [u8], at: usize, v: u32)
+    requires { ⌜ at + 4 ≤ length (now buf) ⌝ }
+    ensures { λ _. ⌜ now (buf .exit) ≡ store at (be 4 v) (now (buf .entry)) ⌝ }
+{
+    buf[at] = (v / 16777216 % 256) as u8;
+    buf[at + 1] = (v / 65536 % 256) as u8;
+    buf[at + 2] = (v / 256 % 256) as u8;
+    buf[at + 3] = (v % 256) as u8;
+}
+
+pub fn write_u64_unchecked(buf: &mut [u8], at: usize, v: u64)
+    requires { ⌜ at + 8 ≤ length (now buf) ⌝ }
+    ensures { λ _. ⌜ now (buf .exit) ≡ store at (be 8 v) (now (buf .entry)) ⌝ }
+{
+    buf[at] = (v / 72057594037927936 % 256) as u8;
+    buf[at + 1] = (v / 281474976710656 % 256) as u8;
+    buf[at + 2] = (v / 1099511627776 % 256) as u8;
+    buf[at + 3] = (v / 4294967296 % 256) as u8;
+    buf[at + 4] = (v / 16777216 % 256) as u8;
+    buf[at + 5] = (v / 65536 % 256) as u8;
+    buf[at + 6] = (v / 256 % 256) as u8;
+    buf[at + 7] = (v % 256) as u8;
+}
+
+pub fn write_zeros_unchecked(buf: &mut [u8], at: usize, n: usize)
+    requires { ⌜ at + n ≤ length (now buf) ⌝ }
+    ensures { λ _. ⌜ now (buf .exit) ≡ store at (replicate n 0) (now (buf .entry)) ⌝ }
+{
+    let mut k: usize = 0;
+    while k < n {
+        buf[at + k] = 0;
+        k += 1;
+    }
+}
+
+pub fn write_bytes_unchecked(buf: &mut [u8], at: usize, src: &[u8])
+    requires { ⌜ at + length (now src) ≤ length (now buf) ⌝ }
+    ensures { λ _. ⌜ now (buf .exit) ≡ store at (now (src .entry)) (now (buf .entry)) ⌝ }
+{
+    let n = src.len();
+    let mut k: usize = 0;
+    while k < n {
+        buf[at + k] = src[k];
+        k += 1;
+    }
+}
+
+// Version 2, P and the low 5 bits.
+fn first_byte(padding: u64, count: u8) -> u8
+    requires { ⌜ count < 32 ⌝ }
+    ensures { λ r. ⌜ r ≡ firstByte padding count ⌝ }
+{
+    if padding == 0 {
+        return 128 + count;
+    }
+    160 + count
+}
+
+// The header of a packet of so many bytes, at the start of buf.
+pub fn write_header_unchecked(buf: &mut [u8], padding: u64, count: u8, packet_type: u8, size: usize)
+    requires { ⌜ (count < 32) × (4 ≤ size) × (size ≤ 262144) × (4 ≤ length (now buf)) ⌝ }
+    ensures { λ _. ⌜ now (buf .exit) ≡ store 0 (header padding count «packet_type» size) (now (buf .entry)) ⌝ }
+{
+    let words = size / 4 - 1;
+    buf[0] = first_byte(padding, count);
+    buf[1] = packet_type;
+    write_u16_unchecked(buf, 2, words as u16);
+}
+
+// Zeros, and the count last.
+pub fn write_padding_unchecked(buf: &mut [u8], at: usize, padding: u64)
+    requires { ⌜ (padding ≤ 252) × (at + padding ≤ length (now buf)) ⌝ }
+    ensures { λ _. ⌜ now (buf .exit) ≡ store at (paddingBytes padding) (now (buf .entry)) ⌝ }
+{
+    if padding == 0 {
+        return;
+    }
+    let n = padding as usize - 1;
+    write_zeros_unchecked(buf, at, n);
+    buf[at + n] = padding as u8;
+}
+
+// Padding is 0 or a multiple of 4 up to 252.
+pub fn check_padding(padding: u64) -> bool
+    ensures { λ r. ⌜ r ≡ paddingOk padding ⌝ }
+{
+    if padding % 4 != 0 {
+        return false;
+    }
+    padding <= 252
+}

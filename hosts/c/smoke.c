@@ -1,0 +1,82 @@
+/* Some of document 01's trial rows through the C functions. The exit status is 1 where an answer differs. */
+#include <stdio.h>
+#include <string.h>
+
+#include "rtcp.h"
+
+static int failed;
+
+static void compare(const char *name, const void *got, const void *want, size_t size) {
+    if (memcmp(got, want, size) != 0) {
+        printf("hosts/c/smoke.c: %s differs\n", name);
+        failed = 1;
+    }
+}
+
+#define CHECK(result, call, ...)                        \
+    do {                                                \
+        struct result got = call;                       \
+        struct result want = {__VA_ARGS__};             \
+        compare(#call, &got, &want, sizeof got);        \
+    } while (0)
+
+static const uint8_t rr[] = {0x80, 0xC9, 0x00, 0x01, 0x11, 0x22, 0x33, 0x44};
+static const uint8_t cname[] = {0x81, 0xCA, 0x00, 0x03, 0x11, 0x22, 0x33, 0x44, 0x01, 0x03, 0x61, 0x40, 0x62, 0x00, 0x00, 0x00};
+static const uint8_t two[] = {0x82, 0xCA, 0x00, 0x04, 0, 0, 0, 1, 0, 0, 0, 0, 0, 0, 0, 0x10, 0, 0, 0, 0};
+static const uint8_t padded[] = {0xA0, 0xCA, 0x00, 0x00};
+static const uint8_t prefix[] = {0x81, 0xCA, 0x00, 0x03, 0, 0, 0, 1, 0x08, 0x01, 0x05, 0, 0, 0, 0, 0};
+static const uint8_t cut[] = {0x81, 0xCA, 0x00, 0x01, 0, 0, 0, 1};
+static const uint8_t bye[] = {0xA1, 0xCB, 0x00, 0x03, 0x11, 0x22, 0x33, 0x44, 0x02, 0x61, 0x62, 0, 0, 0, 0, 4};
+static const uint8_t app[] = {0x85, 0xCC, 0x00, 0x03, 0, 0, 0, 1, 'n', 'a', 'm', 'e', 'd', 'a', 't', 'a'};
+static const uint8_t private_item[] = {0x08, 0x04, 0x02, 'a', 'b', 'c'};
+static const uint8_t block[] = {1, 2, 3, 4, 5, 6, 7, 8, 9, 10, 11, 12, 13, 14, 15, 16, 17, 18, 19, 20, 21, 22, 23, 24};
+
+static void reports(void) {
+    uint8_t sr[28] = {0x80, 0xC8, 0x00, 0x06, 0, 0, 0, 1, 0, 0, 0, 2, 0, 0, 0, 3, 0, 0, 0, 4, 0, 0, 0, 5, 0, 0, 0, 6};
+    CHECK(RtcpRr, rtcp_rr_parse(rr, sizeof rr), 0, 0, 0, 0x11223344, 0, 8, 0, 8, 0);
+    CHECK(RtcpRr, rtcp_rr_parse(rr, 4), 2, 8, 4, 0, 0, 0, 0, 0, 0);
+    CHECK(RtcpRr, rtcp_rr_parse(NULL, 0), 2, 8, 0, 0, 0, 0, 0, 0, 0);
+    CHECK(RtcpRr, rtcp_rr_parse(cname, sizeof cname), 6, 202, 201, 0, 0, 0, 0, 0, 0);
+    CHECK(RtcpBlock, rtcp_rr_report_block(rr, sizeof rr, 0), 25, 0, 0, 0, 0, 0, 0, 0, 0, 0, 0);
+    CHECK(RtcpSr, rtcp_sr_parse(sr, sizeof sr), 0, 0, 0, 1, 0x200000003, 4, 5, 6, 0, 28, 0, 28, 0);
+    CHECK(RtcpBlock, rtcp_sr_report_block(sr, sizeof sr, 7), 25, 0, 0, 0, 0, 0, 0, 0, 0, 0, 0);
+    CHECK(RtcpBlock, rtcp_block_parse(block, sizeof block), 0, 0, 0, 0x01020304, 5, 0x060708, 0x090A0B0C, 0x0D0E0F10, 0x11121314, 0x15161718, 0);
+    CHECK(RtcpBlock, rtcp_block_parse(block, 23), 2, 24, 23, 0, 0, 0, 0, 0, 0, 0, 0);
+}
+
+static void descriptions(void) {
+    CHECK(RtcpSdes, rtcp_sdes_parse(cname, sizeof cname), 0, 0, 0, 1, 1, 16, 16, 0);
+    CHECK(RtcpSdes, rtcp_sdes_parse(two, sizeof two), 0, 0, 0, 2, 0, 20, 20, 0);
+    CHECK(RtcpSdes, rtcp_sdes_parse(padded, sizeof padded), 4, 0, 0, 0, 0, 0, 0, 0);
+    CHECK(RtcpSdes, rtcp_sdes_parse(prefix, sizeof prefix), 5, 5, 0, 0, 0, 0, 0, 0);
+    CHECK(RtcpSdes, rtcp_sdes_parse(cut, sizeof cut), 2, 8, 4, 0, 0, 0, 0, 0);
+    CHECK(RtcpChunkWalk, rtcp_chunk_walk_open(two, sizeof two), 0, 0, 0, 4, 20);
+    CHECK(RtcpChunkStep, rtcp_chunk_walk_step(two, sizeof two, 4, 20), 0, 0, 0, 1, 8, 0, 12, 20);
+    CHECK(RtcpChunkStep, rtcp_chunk_walk_step(two, sizeof two, 12, 20), 0, 0, 0, 16, 8, 0, 20, 20);
+    CHECK(RtcpChunkStep, rtcp_chunk_walk_step(two, sizeof two, 20, 20), 25, 0, 0, 0, 0, 0, 20, 20);
+    CHECK(RtcpChunk, rtcp_chunk_parse(cname + 4, 12), 0, 0, 0, 0x11223344, 12, 4);
+    CHECK(RtcpItemWalk, rtcp_item_walk_open(cname + 4, 12), 0, 0, 0, 4);
+    CHECK(RtcpItemStep, rtcp_item_walk_step(cname + 4, 12, 4), 0, 0, 0, 1, 3, 6, 0, 6, 3, 9);
+    CHECK(RtcpItemStep, rtcp_item_walk_step(cname + 4, 12, 9), 25, 0, 0, 0, 0, 0, 0, 0, 0, 9);
+    CHECK(RtcpItem, rtcp_item_parse(private_item, sizeof private_item), 0, 0, 0, 8, 4, 3, 2, 5, 1);
+    CHECK(RtcpPart, rtcp_item_priv_prefix(private_item, sizeof private_item), 0, 0, 0, 3, 2);
+    CHECK(RtcpPart, rtcp_item_priv_prefix(cname + 8, 5), 30, 1, 0, 0, 0);
+}
+
+static void others(void) {
+    CHECK(RtcpBye, rtcp_bye_parse(bye, sizeof bye), 0, 0, 0, 1, 1, 9, 2, 11, 1, 12, 4);
+    CHECK(RtcpSource, rtcp_bye_source(bye, sizeof bye, 0), 0, 0, 0, 0x11223344);
+    CHECK(RtcpSource, rtcp_bye_source(bye, sizeof bye, UINT64_MAX), 25, 0, 0, 0);
+    CHECK(RtcpApp, rtcp_app_parse(app, sizeof app), 0, 0, 0, 5, 1, 8, 4, 12, 4, 16, 0);
+    CHECK(RtcpApp, rtcp_app_parse(app, 12), 2, 16, 12, 0, 0, 0, 0, 0, 0, 0, 0);
+}
+
+int main(void) {
+    reports();
+    descriptions();
+    others();
+    if (!failed) {
+        printf("hosts/c/smoke.c: as document 01 says\n");
+    }
+    return failed;
+}

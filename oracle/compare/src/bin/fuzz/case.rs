@@ -1,0 +1,281 @@
+//! A case, and what is asked of it.
+
+use compare::generate::STALE;
+use compare::operation::Operation;
+use library::guard::{Guarded, Side};
+use library::*;
+use model::*;
+
+#[derive(Clone)]
+pub struct Case {
+    pub bytes: Vec<u8>,
+    pub at: u64,
+    pub end: u64,
+}
+
+impl Case {
+    pub fn of(bytes: &[u8], at: u64, end: u64) -> Case {
+        Case {
+            bytes: bytes.to_vec(),
+            at,
+            end,
+        }
+    }
+
+    /// Every reading, and a write.
+    pub fn operations(&self) -> Vec<Operation> {
+        let bytes = || self.bytes.clone();
+        let walk = SdesWalk {
+            position: self.at,
+            end: self.end,
+        };
+        let mut operations = vec![
+            Operation::ReadBlock(bytes()),
+            Operation::ReadItem(bytes()),
+            Operation::ReadPrefix(bytes()),
+            Operation::ReadChunk(bytes()),
+            Operation::ReadBlockAt(Kind::Sr, bytes(), self.at),
+            Operation::ReadBlockAt(Kind::Rr, bytes(), self.at),
+            Operation::ReadSourceAt(bytes(), self.at),
+            Operation::ReadCompound(bytes()),
+            Operation::Open(bytes()),
+            Operation::Step(bytes(), self.at),
+            Operation::OpenSdes(bytes()),
+            Operation::SdesStep(bytes(), walk),
+            Operation::OpenItems(bytes()),
+            Operation::ItemStep(bytes(), self.at),
+        ];
+        operations.extend(Kind::ALL.map(|kind| Operation::ReadAs(kind, bytes())));
+        operations.push(Draw(&self.bytes).write());
+        operations
+    }
+
+    /// A run of numbers that are no blocks (no whole number of them, or a
+    /// fraction above 255) gets 24 before anything else.
+    pub fn other_blocks(&self) -> Option<String> {
+        let mut draw = Draw(&self.bytes);
+        let numbers: Vec<u32> = draw.many(40, Draw::word);
+        let mut fractions = numbers.iter().skip(1).step_by(7);
+        if numbers.len().is_multiple_of(7) && fractions.all(|fraction| *fraction < 256) {
+            return None;
+        }
+        let blocks = Guarded::new(&numbers, Side::End);
+        let before = vec![STALE; draw.below(60)];
+        let mut buf = Guarded::new(&before, Side::End);
+        let padding = draw.padding();
+        let answers = [
+            rtcp_rr_write(&mut buf, 1, &blocks, padding),
+            rtcp_sr_write(&mut buf, 1, 2, 3, 4, 5, &blocks, padding),
+            rtcp_rr_size(&blocks, padding),
+            rtcp_sr_size(&blocks, padding),
+        ];
+        let wanted = RtcpWritten {
+            number: 24,
+            ..RtcpWritten::default()
+        };
+        let right = answers.iter().flatten().all(|answer| *answer == wanted) && *buf == before[..];
+        (!right).then(|| format!("blocks {numbers:?}, padding {padding}: {answers:?}"))
+    }
+}
+
+/// Draws arguments from bytes; where these are used up, zeros.
+struct Draw<'a>(&'a [u8]);
+
+impl Draw<'_> {
+    fn byte(&mut self) -> u8 {
+        match self.0.split_first() {
+            Some((first, rest)) => {
+                self.0 = rest;
+                *first
+            }
+            None => 0,
+        }
+    }
+
+    fn word(&mut self) -> u32 {
+        (0..4).fold(0, |word, _| word << 8 | u32::from(self.byte()))
+    }
+
+    fn long(&mut self) -> u64 {
+        u64::from(self.word()) << 32 | u64::from(self.word())
+    }
+
+    /// At most 65,536 ways.
+    fn below(&mut self, limit: usize) -> usize {
+        usize::from(u16::from_be_bytes([self.byte(), self.byte()])) % limit
+    }
+
+    fn many<T>(&mut self, limit: usize, draw: impl Fn(&mut Self) -> T) -> Vec<T> {
+        let count = self.below(limit);
+        (0..count).map(|_| draw(self)).collect()
+    }
+
+    fn run(&mut self, limit: usize) -> Vec<u8> {
+        self.many(limit, Self::byte)
+    }
+
+    fn padding(&mut self) -> u64 {
+        match self.byte() % 8 {
+            0..=3 => 0,
+            4 | 5 => 4 * (u64::from(self.byte()) % 65),
+            6 => self.byte().into(),
+            _ => self.long(),
+        }
+    }
+
+    fn block(&mut self) -> Block {
+        Block {
+            ssrc: self.word(),
+            fraction_lost: self.byte(),
+            cumulative_lost: match self.byte() % 16 {
+                7 => self.word(),
+                _ => self.word() & 0xFF_FFFF,
+            },
+            extended_sequence: self.word(),
+            jitter: self.word(),
+            last_sr: self.word(),
+            delay: self.word(),
+        }
+    }
+
+    /// Rarely 0, often PRIV.
+    fn item_type(&mut self) -> u8 {
+        match self.byte() {
+            255 => 0,
+            byte if byte % 3 == 0 => PRIV,
+            byte => byte,
+        }
+    }
+
+    /// Lengths mostly agree with the bytes.
+    fn items(&mut self) -> ItemLists {
+        let count = self.below(6);
+        let mut items = ItemLists::default();
+        for _ in 0..count {
+            let lengths = [self.below(300), self.below(300)];
+            let lengths = lengths.map(|length| if length % 3 == 0 { length } else { length % 8 });
+            items.types.push(self.item_type());
+            items.prefix_lengths.push(lengths[0] as u64);
+            items.value_lengths.push(lengths[1] as u64);
+            for _ in 0..lengths[0] + lengths[1] {
+                let byte = self.byte();
+                items.bytes.push(byte);
+            }
+        }
+        match self.byte() % 24 {
+            1 => drop(items.types.pop()),
+            2 => items.prefix_lengths.push(0),
+            3 => drop(items.value_lengths.pop()),
+            4 => items.bytes.push(0),
+            5 => items
+                .value_lengths
+                .iter_mut()
+                .for_each(|length| *length = u64::MAX),
+            _ => {}
+        }
+        items
+    }
+
+    fn sdes(&mut self) -> SdesLists {
+        let items = self.items();
+        let mut left = items.types.len() as u64;
+        let mut lists = SdesLists {
+            ssrcs: self.many(34, Self::word),
+            ..SdesLists::default()
+        };
+        for _ in &lists.ssrcs {
+            let count = left.min(self.byte().into());
+            lists.counts.push(count);
+            left -= count;
+        }
+        if let Some(last) = lists.counts.last_mut() {
+            *last += left;
+        }
+        match self.byte() % 24 {
+            1 => lists.counts.push(0),
+            2 => drop(lists.ssrcs.pop()),
+            3 => lists.counts.iter_mut().for_each(|count| *count = u64::MAX),
+            _ => {}
+        }
+        lists.items = items;
+        lists
+    }
+
+    /// A buffer around the size wanted.
+    fn buffer(&mut self, size: Answer<u64>) -> Vec<u8> {
+        let size = size.map_or(8, |size| size as usize);
+        let length = match self.byte() % 8 {
+            4 => 0,
+            5 => size.saturating_sub(1),
+            6 => self.below(size + 1),
+            7 => size + 7,
+            _ => size,
+        };
+        vec![STALE; length]
+    }
+
+    fn write(&mut self) -> Operation {
+        let kind = match self.byte() % 7 {
+            5 => {
+                let lists = ChunkLists {
+                    ssrc: self.word(),
+                    items: self.items(),
+                };
+                let buffer = self.buffer(size_of_chunk(&lists));
+                return Operation::WriteChunk(lists, buffer);
+            }
+            6 => {
+                let item = Item {
+                    item_type: self.item_type(),
+                    prefix: self.run(300),
+                    value: self.run(300),
+                };
+                let buffer = self.buffer(size_of_item(&item));
+                return Operation::WriteItem(item, buffer);
+            }
+            kind => Kind::ALL[usize::from(kind)],
+        };
+        let given = self.given(kind);
+        let buffer = self.buffer(size(&given));
+        Operation::Write(given, buffer)
+    }
+
+    fn given(&mut self, kind: Kind) -> Given {
+        let padding = self.padding();
+        match kind {
+            Kind::Sr | Kind::Rr => Given::Report {
+                ssrc: self.word(),
+                sender: (kind == Kind::Sr).then(|| SenderInfo {
+                    ntp_time: self.long(),
+                    rtp_time: self.word(),
+                    packet_count: self.word(),
+                    octet_count: self.word(),
+                }),
+                blocks: self.many(34, Self::block),
+                padding,
+            },
+            Kind::Sdes => Given::Sdes {
+                lists: self.sdes(),
+                padding,
+            },
+            Kind::Bye => Given::Bye {
+                sources: self.many(34, Self::word),
+                reason: self.run(260),
+                padding,
+            },
+            Kind::App => Given::App {
+                subtype: match self.byte() % 8 {
+                    7 => self.long(),
+                    _ => u64::from(self.byte()) % 34,
+                },
+                ssrc: self.word(),
+                name: self.run(6),
+                data: match self.byte() % 4 {
+                    3 => self.run(300),
+                    _ => vec![0xD7; 4 * self.below(40)],
+                },
+                padding,
+            },
+        }
+    }
+}

@@ -1,0 +1,46 @@
+//! Prints a sample of the Rust's answers, for a program to replay with no Rust at
+//! hand.
+//!
+//!     sample inputs|answers [COUNT] [SEED]
+//!
+//! An input is a line `NAME FUNCTION NUMBER.. BYTES`, an answer a line
+//! `NAME: ANSWER`; both lists have the same names in the same order. The function
+//! is a C function without `rtcp_`, its numbers come before its bytes, and bytes
+//! are hexadecimal, `-` for none. The answer is `ok` with every field as
+//! `NAME=NUMBER`, a part as `NAME=OFFSET+LENGTH:BYTES`, or a refusal as
+//! `N(FIRST, SECOND)`; a step's walk follows on a refusal too.
+//!
+//! A name that starts with `rust` says that the answer is the Rust's; what the
+//! Rust has no accessor for (extension, tail and padding bytes) is document 01's.
+//! A name that starts with `row` and numbers says that the Rust differs by these
+//! rows, and that the answer is document 01's.
+//!
+//! Inputs are drawn at random and put into classes by function, refusal and rows.
+//! The classes are gone through in turn until the sample is full, so that rare
+//! ones are in it too: nine steps of walks, else three where the answer is the
+//! Rust's and one where it is not. A step's answer is put together from the chunks
+//! and items that the Rust shows.
+
+#[cfg(not(rtcp_types))]
+fn main() {
+    println!("no sample of the Rust: its sources are not there (RTCP_TYPES_SRC)");
+}
+
+#[cfg(rtcp_types)]
+fn main() {
+    let mut arguments = std::env::args().skip(1);
+    let form = arguments.next().unwrap_or_default();
+    let mut number = |default: u64| {
+        arguments.next().map_or(default, |text| {
+            text.parse().expect("COUNT and SEED are numbers")
+        })
+    };
+    let (count, seed) = (number(600) as usize, number(1));
+    for line in compare::sample::lines(count, seed) {
+        match form.as_str() {
+            "inputs" => println!("{} {}", line.name, line.input),
+            "answers" => println!("{}: {}", line.name, line.answer),
+            _ => panic!("the form is inputs or answers"),
+        }
+    }
+}

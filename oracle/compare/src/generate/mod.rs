@@ -1,0 +1,264 @@
+//! Random inputs: good ones, damaged ones, limits and empty cases.
+
+mod packets;
+mod readings;
+mod writings;
+
+use crate::operation::{Operation, Outcome};
+use crate::rng::Rng;
+use model::*;
+pub use packets::packet;
+use packets::*;
+use readings::*;
+use writings::*;
+pub use writings::{item_lists, sdes_lists};
+
+/// The byte that buffers are filled with before a write.
+pub const STALE: u8 = 0x5A;
+
+/// A buffer of stale bytes: empty, around the size wanted, or larger.
+fn buffer(rng: &mut Rng, wanted: usize) -> Vec<u8> {
+    let length = match rng.below(8) {
+        0 => 0,
+        1 => wanted.saturating_sub(1),
+        2 => rng.below(wanted + 1),
+        3 | 4 => wanted,
+        _ => wanted + 1 + rng.below(9),
+    };
+    vec![STALE; length]
+}
+
+/// The room that a write wants; some, where it is refused anyway.
+fn room(size: Answer<u64>) -> usize {
+    size.map_or(8, |size| size as usize)
+}
+
+fn writer(rng: &mut Rng) -> Writer {
+    Writer {
+        length: match rng.below(8) {
+            0 | 1 => 0,
+            2 => u64::MAX - rng.below(20) as u64,
+            3 => rng.below(20) as u64,
+            _ => 4 * (1 + rng.below(6)) as u64,
+        },
+        closed: rng.once_in(8),
+        padded: rng.once_in(6),
+        cname: rng.once_in(2),
+    }
+}
+
+fn book(rng: &mut Rng) -> Book {
+    let count = rng.below(4);
+    Book {
+        packets: many(rng, count, |rng| {
+            let kind = any_kind(rng);
+            let mut packet = packet(rng, kind);
+            if !rng.once_in(3) {
+                packet.padding.clear();
+            }
+            packet
+        }),
+        closed: rng.once_in(8),
+    }
+}
+
+fn add(rng: &mut Rng) -> Operation {
+    let writer = writer(rng);
+    let kind = kind(rng);
+    let given = given(rng, kind);
+    let wanted = if writer.length < 1000 {
+        writer.length as usize + room(size(&given))
+    } else {
+        100
+    };
+    let mut buffer = buffer(rng, wanted);
+    if rng.once_in(6) {
+        buffer.truncate(writer.length.saturating_sub(1) as usize);
+    }
+    Operation::Add(writer, given, buffer)
+}
+
+fn turn(rng: &mut Rng) -> Operation {
+    let book = book(rng);
+    let kind = kind(rng);
+    let given = given(rng, kind);
+    let so_far: usize = book.packets.iter().map(|packet| layout(packet).len()).sum();
+    let total = so_far + room(size(&given));
+    let buffer = match rng.below(6) {
+        0 => rng.below(so_far + 1),
+        1 => so_far,
+        2 => total - 1,
+        3 => total,
+        _ => total + rng.below(9),
+    } as u64;
+    let call = if rng.once_in(4) {
+        Call::Close
+    } else {
+        Call::Add { given, buffer }
+    };
+    Operation::Turn(book, call)
+}
+
+/// A list of writer calls from a fresh writer: each gets the writer and the
+/// buffer that the last one left. Once closed, the datagram is read.
+pub fn calls(rng: &mut Rng) -> Vec<Operation> {
+    let mut operations = Vec::new();
+    let mut writer = Writer::default();
+    let length = rng.pick(&[0, 8, 60, 200, 600, 600, 2000]);
+    let mut buffer = vec![STALE; length];
+    for _ in 0..1 + rng.below(7) {
+        let operation = if rng.once_in(4) {
+            Operation::Close(writer)
+        } else {
+            let kind = if writer.length == 0 && !rng.once_in(3) {
+                rng.pick(&[Kind::Sr, Kind::Rr])
+            } else {
+                kind(rng)
+            };
+            Operation::Add(writer, given(rng, kind), buffer.clone())
+        };
+        match operation.modelled() {
+            Outcome::Added(_, after, left) => (writer, buffer) = (after, left),
+            Outcome::Closed(_, after) => writer = after,
+            _ => {}
+        }
+        operations.push(operation);
+    }
+    if writer.closed {
+        buffer.truncate(writer.length as usize);
+        operations.push(Operation::ReadCompound(buffer));
+    }
+    operations
+}
+
+/// The sorts of operations.
+#[derive(Clone, Copy, Debug, PartialEq, Eq)]
+pub enum Sort {
+    ReadAs,
+    ReadBlock,
+    ReadItem,
+    ReadPrefix,
+    ReadChunk,
+    ReadBlockAt,
+    ReadSourceAt,
+    Write,
+    WriteChunk,
+    WriteItem,
+    ReadCompound,
+    Open,
+    Step,
+    OpenSdes,
+    SdesStep,
+    OpenItems,
+    ItemStep,
+    Call,
+    Turn,
+}
+
+impl Sort {
+    pub const ALL: [Sort; 19] = [
+        Sort::ReadAs,
+        Sort::ReadBlock,
+        Sort::ReadItem,
+        Sort::ReadPrefix,
+        Sort::ReadChunk,
+        Sort::ReadBlockAt,
+        Sort::ReadSourceAt,
+        Sort::Write,
+        Sort::WriteChunk,
+        Sort::WriteItem,
+        Sort::ReadCompound,
+        Sort::Open,
+        Sort::Step,
+        Sort::OpenSdes,
+        Sort::SdesStep,
+        Sort::OpenItems,
+        Sort::ItemStep,
+        Sort::Call,
+        Sort::Turn,
+    ];
+
+    /// Whole packets are read and written more often than parts.
+    pub fn any(rng: &mut Rng) -> Sort {
+        match rng.below(4) {
+            0 => Sort::ReadAs,
+            1 => Sort::Write,
+            _ => rng.pick(&Sort::ALL),
+        }
+    }
+}
+
+/// An operation of that sort on random input.
+pub fn operation(rng: &mut Rng, sort: Sort) -> Operation {
+    match sort {
+        Sort::ReadAs => {
+            let kind = kind(rng);
+            Operation::ReadAs(kind, packet_bytes(rng, Some(kind)))
+        }
+        Sort::ReadBlock => {
+            let length = rng.pick(&[0, 1, 23, 24, 24, 24, 24, 25, 48]);
+            Operation::ReadBlock(bytes(rng, length))
+        }
+        Sort::ReadItem => Operation::ReadItem(lone_item(rng)),
+        Sort::ReadPrefix => Operation::ReadPrefix(lone_item(rng)),
+        Sort::ReadChunk => Operation::ReadChunk(lone_chunk(rng)),
+        Sort::ReadBlockAt => {
+            let kind = rng.pick(&[Kind::Sr, Kind::Rr]);
+            let bytes = packet_bytes(rng, Some(kind));
+            let index = index(rng, low(&bytes));
+            Operation::ReadBlockAt(kind, bytes, index)
+        }
+        Sort::ReadSourceAt => {
+            let bytes = packet_bytes(rng, Some(Kind::Bye));
+            let index = index(rng, low(&bytes));
+            Operation::ReadSourceAt(bytes, index)
+        }
+        Sort::Write => {
+            let kind = kind(rng);
+            let given = given(rng, kind);
+            let buffer = buffer(rng, room(size(&given)));
+            Operation::Write(given, buffer)
+        }
+        Sort::WriteChunk => {
+            let lists = given_chunk_lists(rng);
+            let buffer = buffer(rng, room(size_of_chunk(&lists)));
+            Operation::WriteChunk(lists, buffer)
+        }
+        Sort::WriteItem => {
+            let item = given_item(rng);
+            let buffer = buffer(rng, room(size_of_item(&item)));
+            Operation::WriteItem(item, buffer)
+        }
+        Sort::ReadCompound => Operation::ReadCompound(datagram(rng)),
+        Sort::Open => Operation::Open(datagram(rng)),
+        Sort::Step => {
+            let bytes = datagram(rng);
+            let position = step_position(rng, &bytes);
+            Operation::Step(bytes, position)
+        }
+        Sort::OpenSdes => Operation::OpenSdes(packet_bytes(rng, Some(Kind::Sdes))),
+        Sort::SdesStep => {
+            let bytes = packet_bytes(rng, Some(Kind::Sdes));
+            let walk = sdes_walk(rng, &bytes);
+            Operation::SdesStep(bytes, walk)
+        }
+        Sort::OpenItems => Operation::OpenItems(lone_chunk(rng)),
+        Sort::ItemStep => {
+            let bytes = lone_chunk(rng);
+            let position = if rng.once_in(2) {
+                4
+            } else {
+                position(rng, &bytes)
+            };
+            Operation::ItemStep(bytes, position)
+        }
+        Sort::Call => {
+            if rng.once_in(5) {
+                Operation::Close(writer(rng))
+            } else {
+                add(rng)
+            }
+        }
+        Sort::Turn => turn(rng),
+    }
+}

@@ -1,0 +1,168 @@
+//! Packets, lone chunks and lone items written, with their sizes.
+
+use super::{shown, Library};
+use crate::view::{Value, View};
+use library::guard::{Guarded, Number};
+use library::*;
+use model::{Block, ChunkLists, Given, Item, ItemLists, Refusal, SdesLists, SenderInfo};
+
+/// The lists of items in guarded memory.
+struct LentItems {
+    types: Guarded<u8>,
+    prefixes: Guarded<u64>,
+    values: Guarded<u64>,
+    bytes: Guarded<u8>,
+}
+
+/// What a write and its size answer.
+type Answers = (Option<RtcpWritten>, Option<RtcpWritten>);
+
+impl Library {
+    fn lend<T: Number>(&self, items: &[T]) -> Guarded<T> {
+        Guarded::new(items, self.0)
+    }
+
+    fn lend_items(&self, items: &ItemLists) -> LentItems {
+        LentItems {
+            types: self.lend(&items.types),
+            prefixes: self.lend(&items.prefix_lengths),
+            values: self.lend(&items.value_lengths),
+            bytes: self.lend(&items.bytes),
+        }
+    }
+
+    pub(super) fn write(&self, given: &Given, before: &[u8]) -> Option<View> {
+        let mut buf = self.lend(before);
+        let (written, size) = match given {
+            Given::Report {
+                ssrc,
+                sender,
+                blocks,
+                padding,
+            } => self.write_report(&mut buf, *ssrc, sender.as_ref(), blocks, *padding),
+            Given::Sdes { lists, padding } => self.write_sdes(&mut buf, lists, *padding),
+            Given::Bye {
+                sources,
+                reason,
+                padding,
+            } => {
+                let (sources, reason) = (self.lend(sources), self.lend(reason));
+                (
+                    rtcp_bye_write(&mut buf, &sources, &reason, *padding),
+                    rtcp_bye_size(&sources, &reason, *padding),
+                )
+            }
+            Given::App {
+                subtype,
+                ssrc,
+                name,
+                data,
+                padding,
+            } => {
+                let (name, data) = (self.lend(name), self.lend(data));
+                (
+                    rtcp_app_write(&mut buf, *subtype, *ssrc, &name, &data, *padding),
+                    rtcp_app_size(*subtype, &name, &data, *padding),
+                )
+            }
+        };
+        Some(show_written(written?, size, &buf))
+    }
+
+    fn write_report(
+        &self,
+        buf: &mut [u8],
+        ssrc: u32,
+        sender: Option<&SenderInfo>,
+        blocks: &[Block],
+        padding: u64,
+    ) -> Answers {
+        let blocks = self.lend(&flat(blocks));
+        let Some(sender) = sender else {
+            return (
+                rtcp_rr_write(buf, ssrc, &blocks, padding),
+                rtcp_rr_size(&blocks, padding),
+            );
+        };
+        let written = rtcp_sr_write(
+            buf,
+            ssrc,
+            sender.ntp_time,
+            sender.rtp_time,
+            sender.packet_count,
+            sender.octet_count,
+            &blocks,
+            padding,
+        );
+        (written, rtcp_sr_size(&blocks, padding))
+    }
+
+    fn write_sdes(&self, buf: &mut [u8], lists: &SdesLists, padding: u64) -> Answers {
+        let (ssrcs, counts) = (self.lend(&lists.ssrcs), self.lend(&lists.counts));
+        let LentItems {
+            types,
+            prefixes,
+            values,
+            bytes,
+        } = self.lend_items(&lists.items);
+        (
+            rtcp_sdes_write(
+                buf, &ssrcs, &counts, &types, &prefixes, &values, &bytes, padding,
+            ),
+            rtcp_sdes_size(&ssrcs, &counts, &types, &prefixes, &values, &bytes, padding),
+        )
+    }
+
+    pub(super) fn write_chunk(&self, lists: &ChunkLists, before: &[u8]) -> Option<View> {
+        let mut buf = self.lend(before);
+        let LentItems {
+            types,
+            prefixes,
+            values,
+            bytes,
+        } = self.lend_items(&lists.items);
+        let written = rtcp_chunk_write(&mut buf, lists.ssrc, &types, &prefixes, &values, &bytes)?;
+        let size = rtcp_chunk_size(&types, &prefixes, &values, &bytes);
+        Some(show_written(written, size, &buf))
+    }
+
+    pub(super) fn write_item(&self, item: &Item, before: &[u8]) -> Option<View> {
+        let mut buf = self.lend(before);
+        let (prefix, value) = (self.lend(&item.prefix), self.lend(&item.value));
+        let written = rtcp_item_write(&mut buf, item.item_type, &prefix, &value)?;
+        let size = rtcp_item_size(item.item_type, &prefix, &value);
+        Some(show_written(written, size, &buf))
+    }
+}
+
+/// Blocks as the C functions take them: seven numbers each.
+fn flat(blocks: &[Block]) -> Vec<u32> {
+    let flat = |block: &Block| {
+        [
+            block.ssrc,
+            block.fraction_lost.into(),
+            block.cumulative_lost,
+            block.extended_sequence,
+            block.jitter,
+            block.last_sr,
+            block.delay,
+        ]
+    };
+    blocks.iter().flat_map(flat).collect()
+}
+
+fn show_written(written: RtcpWritten, size: Option<RtcpWritten>, buf: &[u8]) -> View {
+    let mut view = shown(written, |view| view.number("written", written.size));
+    let size = match size {
+        None => Value::Unseen,
+        Some(size) if size.number == 0 => Value::Number(size.size),
+        Some(size) => Value::Refused(Refusal::new(
+            u8::try_from(size.number).unwrap_or(u8::MAX),
+            size.first,
+            size.second,
+        )),
+    };
+    view.put("size", size);
+    view.bytes("buffer", buf);
+    view
+}

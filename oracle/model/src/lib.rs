@@ -1,0 +1,30 @@
+//! Document 01 in Rust: what every operation answers, on every input.
+//!
+//! The text follows the document and nothing else. It is meant to be held
+//! beside the document, so it prefers the document's order and words to speed.
+
+mod book;
+mod compound;
+mod layout;
+mod packet;
+mod read;
+mod refusal;
+mod walk;
+mod write;
+mod writer;
+
+pub use book::{written_packet, Book, Call};
+pub use compound::read_compound;
+pub use layout::{layout, layout_chunk, layout_item};
+pub use packet::*;
+pub use read::{
+    check_header, read_as, read_block, read_block_at, read_chunk, read_item, read_prefix,
+    read_source_at,
+};
+pub use refusal::{Answer, Refusal};
+pub use walk::{item_step, open, open_items, open_sdes, sdes_step, step, SdesWalk, SDES_LIMIT};
+pub use write::{
+    size, size_of_chunk, size_of_item, write, write_chunk, write_item, ChunkLists, Given,
+    ItemLists, SdesLists, CHUNK_LIMIT, PACKET_LIMIT,
+};
+pub use writer::Writer;
