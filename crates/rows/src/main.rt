@@ -1,8 +1,14 @@
 // Rows of document 01. Each line `NAME OP ARG.. HEX` of standard input names a C function and what it gets; the program writes NAME and the answer:
-// `ok` with every field, a part as OFFSET+LEN:HEX, or a refusal as N(a, b). HEX is `-` where there is no byte.
+// `ok` with every field, a part as OFFSET+LEN:HEX, or a refusal as N(a, b). HEX is `-` where there is no byte. Rows that write: write.rt.
+mod output;
 mod show;
 mod text;
+mod write;
+mod write_report;
+mod write_sdes;
+mod write_single;
 
+use output::print;
 use rtcp::read_app;
 use rtcp::read_bye;
 use rtcp::read_report;
@@ -101,20 +107,35 @@ fn answer(op: &[u8], s: &[u8], a: u64, b: u64) {
     if walk(op, s, a, b) {
         return;
     }
-    show::print(b"no such operation");
+    print(b"no such operation");
+}
+
+fn read(line: &[u8]) {
+    let a = text::number(text::nth(line, 2));
+    let b = text::number(text::nth(line, 3));
+    let args = text::rest(text::rest(line));
+    let mut buf = io::buffer();
+    let n = text::unhex(text::last_word(args), &mut buf);
+    answer(text::nth(line, 1), &buf[..n], a, b);
+}
+
+fn is_write(op: &[u8]) -> bool {
+    if op.len() < 6 {
+        return false;
+    }
+    let from = op.len() - 6;
+    check::same(&op[from..], b"_write")
 }
 
 fn row(line: &[u8]) {
-    let named = text::rest(line);
-    let args = text::rest(named);
-    let a = text::number(text::word(args));
-    let b = text::number(text::word(text::rest(args)));
-    let mut buf = io::buffer();
-    let n = text::unhex(text::last_word(args), &mut buf);
-    show::print(text::word(line));
-    show::print(b": ");
-    answer(text::word(named), &buf[..n], a, b);
-    show::print(b"\n");
+    print(text::word(line));
+    print(b": ");
+    if is_write(text::nth(line, 1)) {
+        write::row(line);
+    } else {
+        read(line);
+    }
+    print(b"\n");
 }
 
 fn rows(lines: &[u8]) {
@@ -127,7 +148,7 @@ fn rows(lines: &[u8]) {
 }
 
 fn main() {
-    let mut buf = io::large_buffer();
+    let mut buf = [0u8; 262144];
     let n = io::read_full(0, &mut buf);
     rows(&buf[..n]);
 }

@@ -1,4 +1,8 @@
 // An answer as text.
+use super::output::bytes;
+use super::output::decimal;
+use super::output::done;
+use super::output::print;
 use rtcp::read_app::RtcpApp;
 use rtcp::read_bye::RtcpBye;
 use rtcp::read_bye::RtcpSource;
@@ -13,58 +17,20 @@ use rtcp::read_sdes::RtcpItemStep;
 use rtcp::read_sdes::RtcpItemWalk;
 use rtcp::read_sdes::RtcpPart;
 use rtcp::read_sdes::RtcpSdes;
-
-pub fn print(text: &[u8]) {
-    io::write_all(1, text);
-}
-
-// Whether it is done; where it is not, the refusal.
-fn done(number: u64, first: u64, second: u64) -> bool {
-    if number == 0 {
-        print(b"ok");
-        return true;
-    }
-    io::print_decimal(1, number);
-    print(b"(");
-    io::print_decimal(1, first);
-    print(b", ");
-    io::print_decimal(1, second);
-    print(b")");
-    false
-}
+use rtcp::write_result::RtcpWritten;
 
 fn field(name: &[u8], value: u64) {
     print(b" ");
     print(name);
     print(b"=");
-    io::print_decimal(1, value);
-}
-
-fn digit(n: u8) -> u8 {
-    if n < 10 {
-        return b'0' + n;
-    }
-    if n < 16 {
-        return b'A' + (n - 10);
-    }
-    b'?'
-}
-
-fn bytes(s: &[u8]) {
-    let mut i = 0;
-    while i < s.len() {
-        let b = s[i];
-        let pair = [digit(b / 16), digit(b % 16)];
-        print(&pair);
-        i += 1;
-    }
+    decimal(value);
 }
 
 // A part of the bytes that were read, and where it is.
 fn part(name: &[u8], s: &[u8], offset: u64, len: u64) {
     field(name, offset);
     print(b"+");
-    io::print_decimal(1, len);
+    decimal(len);
     print(b":");
     let from = offset as usize;
     if s.len() < from {
@@ -204,4 +170,16 @@ pub fn item_step(s: &[u8], r: RtcpItemStep) {
         part(b"value", s, r.value, r.value_len);
     }
     field(b"at", r.at);
+}
+
+// On a refusal the size is 0, and shows where it is not.
+pub fn written(r: RtcpWritten) {
+    if done(r.number, r.first, r.second) {
+        print(b" ");
+        decimal(r.size);
+    } else if r.size != 0 {
+        print(b" size=");
+        decimal(r.size);
+    }
+    print(b"; ");
 }

@@ -34,6 +34,33 @@ pub fn rest(s: &[u8]) -> &[u8] {
     }
 }
 
+// Where the next word starts.
+fn next(s: &[u8], from: usize) -> usize
+    requires { ⌜ from ≤ length (now s) ⌝ }
+    ensures { λ r. ⌜ r ≤ length (now (s .entry)) ⌝ }
+{
+    let end = find(s, from, b' ');
+    if end < s.len() { end + 1 } else { end }
+}
+
+fn start(s: &[u8], index: usize) -> usize
+    ensures { λ r. ⌜ r ≤ length (now (s .entry)) ⌝ }
+{
+    let mut at = 0;
+    let mut i = 0;
+    while i < index {
+        at = next(s, at);
+        i += 1;
+    }
+    at
+}
+
+// The word at an index, from 0.
+pub fn nth(s: &[u8], index: usize) -> &[u8] {
+    let at = start(s, index);
+    word(&s[at..])
+}
+
 // The last of up to three words.
 pub fn last_word(s: &[u8]) -> &[u8] {
     let second = rest(s);
@@ -65,10 +92,11 @@ fn shifted(n: u64, digit: u8) -> u64 {
     if b'9' < digit {
         return n;
     }
-    if 1844674407370955160 < n {
+    let last = (digit - b'0') as u64;
+    if (u64::MAX - last) / 10 < n {
         return n;
     }
-    n * 10 + (digit - b'0') as u64
+    n * 10 + last
 }
 
 // A hexadecimal digit, upper case.
@@ -105,6 +133,133 @@ pub fn unhex(s: &[u8], out: &mut [u8]) -> usize
     while i < n {
         out[i] = nibble(s[2 * i]) * 16 + nibble(s[2 * i + 1]);
         i += 1;
+    }
+    n
+}
+
+// The number after a star, 1 where there is none.
+fn times(s: &[u8], star: usize) -> usize
+    requires { ⌜ star ≤ length (now s) ⌝ }
+{
+    if star < s.len() {
+        let from = star + 1;
+        number(&s[from..]) as usize
+    } else {
+        1
+    }
+}
+
+fn fill(out: &mut [u64], from: usize, value: u64, count: usize) -> usize
+    requires { ⌜ from ≤ length (now out) ⌝ }
+    ensures { λ r. ⌜ r ≤ length (now (out .exit)) ⌝ }
+{
+    let end = from + least(count, out.len() - from);
+    let mut i = from;
+    while i < end {
+        out[i] = value;
+        i += 1;
+    }
+    end
+}
+
+fn fill_bytes(out: &mut [u8], from: usize, value: u8, count: usize) -> usize
+    requires { ⌜ from ≤ length (now out) ⌝ }
+    ensures { λ r. ⌜ r ≤ length (now (out .exit)) ⌝ }
+{
+    let end = from + least(count, out.len() - from);
+    let mut i = from;
+    while i < end {
+        out[i] = value;
+        i += 1;
+    }
+    end
+}
+
+fn put_number(s: &[u8], out: &mut [u64], from: usize) -> usize
+    requires { ⌜ from ≤ length (now out) ⌝ }
+    ensures { λ r. ⌜ r ≤ length (now (out .exit)) ⌝ }
+{
+    let star = find(s, 0, b'*');
+    fill(out, from, number(&s[0..star]), times(s, star))
+}
+
+// Numbers with commas between them, `VALUE*COUNT` for one that repeats, `-` for none; and how many.
+pub fn numbers(s: &[u8], out: &mut [u64]) -> usize
+    ensures { λ r. ⌜ Counts r (now (out .exit)) ⌝ }
+{
+    if check::same(s, b"-") {
+        return 0;
+    }
+    let mut n = 0;
+    let mut at = 0;
+    while at < s.len() {
+        let end = find(s, at, b',');
+        n = put_number(&s[at..end], out, n);
+        at = end + 1;
+    }
+    n
+}
+
+// The low 32 bits, and the low 8.
+pub fn low(n: u64) -> u32 {
+    (n % 4294967296) as u32
+}
+
+pub fn lowest(n: u64) -> u8 {
+    (n % 256) as u8
+}
+
+// So many bytes as a buffer has.
+pub fn limited(n: u64, buf: &[u8]) -> usize
+    ensures { λ r. ⌜ Counts r (now (buf .entry)) ⌝ }
+{
+    least(n as usize, buf.len())
+}
+
+fn narrow(numbers: &[u64], out: &mut [u32]) -> usize
+    ensures { λ r. ⌜ Counts r (now (out .exit)) ⌝ }
+{
+    let n = least(numbers.len(), out.len());
+    let mut i = 0;
+    while i < n {
+        out[i] = low(numbers[i]);
+        i += 1;
+    }
+    n
+}
+
+// At most 256 numbers of 32 bits.
+pub fn words(s: &[u8], out: &mut [u32]) -> usize
+    ensures { λ r. ⌜ Counts r (now (out .exit)) ⌝ }
+{
+    let mut wide = [0u64; 256];
+    let n = numbers(s, &mut wide);
+    narrow(&wide[..n], out)
+}
+
+fn put_bytes(s: &[u8], out: &mut [u8], from: usize) -> usize
+    requires { ⌜ from ≤ length (now out) ⌝ }
+    ensures { λ r. ⌜ r ≤ length (now (out .exit)) ⌝ }
+{
+    let star = find(s, 0, b'*');
+    if star < s.len() {
+        let mut one = [0u8; 1];
+        unhex(&s[0..star], &mut one);
+        return fill_bytes(out, from, one[0], times(s, star));
+    }
+    from + unhex(s, &mut out[from..])
+}
+
+// Bytes in parts with commas between them, each as digits or as `BYTE*COUNT`, `-` for none; and how many.
+pub fn bytes(s: &[u8], out: &mut [u8]) -> usize
+    ensures { λ r. ⌜ Counts r (now (out .exit)) ⌝ }
+{
+    let mut n = 0;
+    let mut at = 0;
+    while at < s.len() {
+        let end = find(s, at, b',');
+        n = put_bytes(&s[at..end], out, n);
+        at = end + 1;
     }
     n
 }

@@ -1,8 +1,8 @@
 use borrow.Author.Needs.{needs}
 use Prim.Native.Nat.{_-_, _≤_}
 use lib.ListN.{length}
-use Rattle.rows.proofs.show.bytes.Statement.{statement}
-use Rattle.rows.proofs.show.bytes.Tie as tie
+use Rattle.rows.proofs.output.bytes.Statement.{statement}
+use Rattle.rows.proofs.output.bytes.Tie as tie
 
 abbrev Inv-loop : tie.InvT-loop
 Inv-loop s i₀ i = i ≤ length s

@@ -1,0 +1,34 @@
+use borrow.Author.Needs.{needs}
+use Prim.Native.Nat.{_-_, _≤_}
+use lib.ListN.{length}
+use Rattle.rows.proofs.text.start.Statement.{statement}
+use Rattle.rows.proofs.text.start.Tie as tie
+
+abbrev Inv-loop : tie.InvT-loop
+Inv-loop s index at₀ i₀ at i = (at ≤ length s) × (i ≤ index)
+
+abbrev μ-loop : tie.MeasureT-loop
+μ-loop s index at₀ i₀ at i = index - i
+
+loop-holds : tie.Need-loop-holds Inv-loop μ-loop
+loop-holds c = search needs
+
+next-requires : tie.Need-next-requires Inv-loop μ-loop
+next-requires c κs = search needs
+
+add-i : tie.Need-add-i Inv-loop μ-loop
+add-i c = search needs
+
+loop-less : tie.Need-loop-less Inv-loop μ-loop
+loop-less c = search needs
+
+loop-again : tie.Need-loop-again Inv-loop μ-loop
+loop-again c = search needs
+
+returns : tie.Need-returns Inv-loop μ-loop
+returns c = search needs
+
+pub start-spec : {M : Type 1} → statement M
+start-spec =
+    tie.close
+    (tie.spec Inv-loop μ-loop loop-holds next-requires add-i loop-less loop-again returns)
