@@ -15,3 +15,4 @@ pub mod sample;
 pub mod side;
 pub mod text;
 pub mod view;
+pub mod write_row;

@@ -7,6 +7,7 @@ use crate::rows::{explain, Rows};
 use crate::rust::Rust;
 use crate::side::{Model, Side};
 use crate::view::{hex, Value, Verdict, View};
+use crate::write_row;
 use model::{Kind, CNAME, PRIV};
 use std::collections::{BTreeMap, BTreeSet};
 use std::fmt::Write;
@@ -20,10 +21,13 @@ pub struct Line {
 /// Inputs drawn for each line of the sample.
 const DRAWN: usize = 60;
 
-/// The longest input: the program that replays the sample reads 65,536 bytes.
+/// The longest input: the program that replays the sample reads 262,144 bytes.
 const LONGEST: usize = 64;
 
-const SORTS: [Sort; 7] = [
+/// The longest row for writing.
+const LONGEST_ROW: usize = 640;
+
+pub const READING: [Sort; 7] = [
     Sort::ReadAs,
     Sort::ReadBlock,
     Sort::ReadItem,
@@ -33,27 +37,34 @@ const SORTS: [Sort; 7] = [
     Sort::ReadSourceAt,
 ];
 
+pub const WRITING: [Sort; 3] = [Sort::Write, Sort::WriteChunk, Sort::WriteItem];
+
 /// The C function, the number of the refusal, the rows.
 type Class = (&'static str, u8, Rows);
 
 /// An input and its answer.
 type Pair = (String, String);
 
-pub fn lines(count: usize, seed: u64) -> Vec<Line> {
-    let mut classes = classes(count, seed);
+pub fn lines(sorts: &[Sort], count: usize, seed: u64) -> Vec<Line> {
+    let mut classes = classes(sorts, count, seed);
     let mut lines = Vec::new();
     while lines.len() < count && !classes.is_empty() {
-        classes.retain(|(function, _, rows), waiting| {
+        classes.retain(|(function, number, rows), waiting| {
             let turns = match *rows {
                 _ if function.ends_with("step") => 9,
+                _ if function.ends_with("write") && *number == 0 => 9,
                 Rows::NONE => 3,
                 _ => 1,
             };
             let room = count - lines.len();
             for (input, answer) in waiting.drain(..turns.min(room).min(waiting.len())) {
+                let place = match function.strip_suffix("write") {
+                    Some(_) => format!("write-{}", lines.len() + 1),
+                    None => format!("{}", lines.len() + 1),
+                };
                 let name = match *rows {
-                    Rows::NONE => format!("rust-{}", lines.len() + 1),
-                    rows => format!("row{rows}-{}", lines.len() + 1),
+                    Rows::NONE => format!("rust-{place}"),
+                    rows => format!("row{rows}-{place}"),
                 };
                 lines.push(Line {
                     name,
@@ -67,12 +78,12 @@ pub fn lines(count: usize, seed: u64) -> Vec<Line> {
     lines
 }
 
-fn classes(count: usize, seed: u64) -> BTreeMap<Class, Vec<Pair>> {
+fn classes(sorts: &[Sort], count: usize, seed: u64) -> BTreeMap<Class, Vec<Pair>> {
     let mut classes: BTreeMap<Class, Vec<Pair>> = BTreeMap::new();
     let mut seen = BTreeSet::new();
     let mut rng = Rng::new(seed);
     for _ in 0..count * DRAWN {
-        let sort = rng.pick(&SORTS);
+        let sort = rng.pick(sorts);
         let operation = operation(&mut rng, sort);
         for (class, pair) in asked(&operation) {
             if seen.insert(pair.0.clone()) {
@@ -85,6 +96,9 @@ fn classes(count: usize, seed: u64) -> BTreeMap<Class, Vec<Pair>> {
 
 /// What an operation asks of the C functions: itself, and the steps of a walk.
 fn asked(operation: &Operation) -> Vec<(Class, Pair)> {
+    if let Some(row) = write_row::input(operation) {
+        return asked_to_write(operation, row).into_iter().collect();
+    }
     let Some((function, index, bytes)) = function(operation) else {
         return Vec::new();
     };
@@ -116,6 +130,36 @@ fn asked(operation: &Operation) -> Vec<(Class, Pair)> {
         }
     }
     asked
+}
+
+fn asked_to_write(operation: &Operation, row: String) -> Option<(Class, Pair)> {
+    let rust = Rust.view(operation).filter(|_| row.len() <= LONGEST_ROW)?;
+    let model = Model.view(operation).expect("the model");
+    let rows = explain(operation, &rust).expect("rows explain it");
+    let view = match rows {
+        Rows::NONE => filled(rust, &model),
+        _ => model,
+    };
+    let number = match view.verdict {
+        Verdict::Refused(refusal) => refusal.number,
+        _ => 0,
+    };
+    let function = write_function(operation);
+    Some(((function, number, rows), (row, write_row::answer(&view))))
+}
+
+fn write_function(operation: &Operation) -> &'static str {
+    match operation {
+        Operation::Write(given, _) => match given.kind() {
+            Kind::Sr => "sr_write",
+            Kind::Rr => "rr_write",
+            Kind::Sdes => "sdes_write",
+            Kind::Bye => "bye_write",
+            Kind::App => "app_write",
+        },
+        Operation::WriteChunk(..) => "chunk_write",
+        _ => "item_write",
+    }
 }
 
 /// The C function without `rtcp_`, its index and its bytes.

@@ -1,13 +1,13 @@
 //! The sample's answers are those of the static library, where it is there.
 #![cfg(rtcp_types)]
 
-use compare::sample::lines;
+use compare::sample::{lines, READING, WRITING};
 use compare::text::from_hex;
 use library::*;
 
 #[test]
 fn the_library_answers_as_the_sample() {
-    for line in lines(600, 1) {
+    for line in lines(&READING, 600, 1) {
         let words: Vec<&str> = line.input.split(' ').collect();
         let s = match words[words.len() - 1] {
             "-" => Vec::new(),
@@ -54,17 +54,20 @@ fn numbers(answer: &str, s: &[u8]) -> Vec<u64> {
 #[test]
 fn a_seed_fixes_the_sample() {
     let text = |seed| -> Vec<String> {
-        let lines = lines(50, seed).into_iter();
+        let lines = lines(&READING, 50, seed).into_iter();
         lines.map(|line| line.name + &line.input).collect()
     };
     assert_eq!(text(1), text(1));
     assert_ne!(text(1), text(2));
 }
 
-/// The program `rows` replays the sample: what its files have of it is all of it.
+/// The program `rows` replays the samples, readings first: what its files have of
+/// them is all of them.
 #[test]
-fn the_lists_of_the_program_are_the_sample() {
-    let sample = lines(600, 1);
+fn the_lists_of_the_program_are_the_samples() {
+    let mut sample = lines(&READING, 600, 1);
+    sample.extend(lines(&WRITING, 300, 1));
+    assert_eq!(sample.len(), 900);
     let inputs = sample
         .iter()
         .map(|line| format!("{} {}", line.name, line.input));
@@ -77,13 +80,13 @@ fn the_lists_of_the_program_are_the_sample() {
 
 fn replayed(file: &str, wanted: Vec<String>) {
     let folder = concat!(env!("CARGO_MANIFEST_DIR"), "/../../crates/rows/");
-    let text = std::fs::read_to_string(folder.to_string() + file).unwrap_or_default();
+    let text = std::fs::read_to_string(folder.to_string() + file).expect("the program's file");
     let of_sample = |line: &&str| {
         let rest = line.strip_prefix("row").unwrap_or_default();
         line.starts_with("rust-") || rest.starts_with(|c: char| c.is_ascii_digit())
     };
     let found: Vec<&str> = text.lines().filter(of_sample).collect();
-    assert!(found.is_empty() || found == wanted, "crates/rows/{file}");
+    assert!(found == wanted, "crates/rows/{file}");
 }
 
 /// What the C function gives, or nothing where it is not there.

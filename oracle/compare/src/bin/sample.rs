@@ -1,7 +1,10 @@
 //! Prints a sample of the Rust's answers, for a program to replay with no Rust at
 //! hand.
 //!
-//!     sample inputs|answers [COUNT] [SEED]
+//!     sample inputs|answers|write-inputs|write-answers [COUNT] [SEED]
+//!
+//! The last two forms are of rows for writing, and in the form of
+//! `compare::write_row`; the others are of readings.
 //!
 //! An input is a line `NAME FUNCTION NUMBER.. BYTES`, an answer a line
 //! `NAME: ANSWER`; both lists have the same names in the same order. The function
@@ -11,15 +14,19 @@
 //! `N(FIRST, SECOND)`; a step's walk follows on a refusal too.
 //!
 //! A name that starts with `rust` says that the answer is the Rust's; what the
-//! Rust has no accessor for (extension, tail and padding bytes) is document 01's.
+//! Rust has no accessor for (extension, tail and padding bytes, the size of a lone
+//! chunk or item) is document 01's.
 //! A name that starts with `row` and numbers says that the Rust differs by these
 //! rows, and that the answer is document 01's.
 //!
 //! Inputs are drawn at random and put into classes by function, refusal and rows.
 //! The classes are gone through in turn until the sample is full, so that rare
-//! ones are in it too: nine steps of walks, else three where the answer is the
-//! Rust's and one where it is not. A step's answer is put together from the chunks
+//! ones are in it too: nine steps of walks and nine writes that are done, else
+//! three where the answer is the Rust's and one where it is not. A step's answer is put together from the chunks
 //! and items that the Rust shows.
+
+#[cfg(rtcp_types)]
+use compare::sample::{lines, READING, WRITING};
 
 #[cfg(not(rtcp_types))]
 fn main() {
@@ -36,11 +43,15 @@ fn main() {
         })
     };
     let (count, seed) = (number(600) as usize, number(1));
-    for line in compare::sample::lines(count, seed) {
-        match form.as_str() {
+    let (sorts, form) = match form.strip_prefix("write-") {
+        Some(form) => (&WRITING[..], form),
+        None => (&READING[..], form.as_str()),
+    };
+    for line in lines(sorts, count, seed) {
+        match form {
             "inputs" => println!("{} {}", line.name, line.input),
             "answers" => println!("{}: {}", line.name, line.answer),
-            _ => panic!("the form is inputs or answers"),
+            _ => panic!("the form is inputs or answers, for writing with write- before it"),
         }
     }
 }

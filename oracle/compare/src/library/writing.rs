@@ -2,6 +2,7 @@
 
 use super::{shown, Library};
 use crate::view::{Value, View};
+use crate::write_row::flat;
 use library::guard::{Guarded, Number};
 use library::*;
 use model::{Block, ChunkLists, Given, Item, ItemLists, Refusal, SdesLists, SenderInfo};
@@ -133,22 +134,6 @@ impl Library {
         let size = rtcp_item_size(item.item_type, &prefix, &value);
         Some(show_written(written, size, &buf))
     }
-}
-
-/// Blocks as the C functions take them: seven numbers each.
-fn flat(blocks: &[Block]) -> Vec<u32> {
-    let flat = |block: &Block| {
-        [
-            block.ssrc,
-            block.fraction_lost.into(),
-            block.cumulative_lost,
-            block.extended_sequence,
-            block.jitter,
-            block.last_sr,
-            block.delay,
-        ]
-    };
-    blocks.iter().flat_map(flat).collect()
 }
 
 fn show_written(written: RtcpWritten, size: Option<RtcpWritten>, buf: &[u8]) -> View {
