@@ -4,5 +4,6 @@ pub mod Reports
 pub mod Apps
 pub mod Byes
 pub mod Descriptions
+pub mod Datagrams
 pub mod WriteResults
 pub mod WriteReports

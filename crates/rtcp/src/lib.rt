@@ -1,6 +1,7 @@
 // The C functions. Nothing here decides: each hands on what the crate of its kind answers, as numbers.
 pub mod read_app;
 pub mod read_bye;
+pub mod read_compound;
 pub mod read_report;
 pub mod read_sdes;
 pub mod result;

@@ -1,0 +1,217 @@
+-- Datagrams and their walk as C gets them. A packet is the numbers of its kind, with 0 where the kind has no such field; its kind is its type,
+-- or 0 where the type has no layout. A step hands on the walk after it, on a refusal the walk that went in.
+use Prim.Native.Nat.{ℕ, _-_}
+use Rattle.rfc3550.specs.Answer.{Answer}
+use Rattle.rfc3550.specs.Walk.{moved}
+use Rattle.report.specs.declared.sender.SenderReport.{SenderReport}
+use Rattle.report.specs.declared.receiver.ReceiverReport.{ReceiverReport}
+use Rattle.sdes.specs.declared.sdes.Sdes.{Sdes}
+use Rattle.bye.specs.declared.Bye.{Bye}
+use Rattle.app.specs.declared.App.{App}
+use Rattle.compound.specs.declared.unknown.Unknown.{Unknown}
+use Rattle.compound.specs.declared.packet.Packet.{Packet}
+use Rattle.compound.specs.declared.packet.Packet.the-variants as packet
+use Rattle.compound.specs.declared.compound.Compound.{Compound}
+use Rattle.compound.specs.declared.compound.Walk.{Walk}
+use Rattle.rtcp.specs.declared.read_compound.PacketNumbers.{PacketNumbers}
+use Rattle.rtcp.specs.declared.read_compound.RtcpCompound.{RtcpCompound}
+use Rattle.rtcp.specs.declared.read_compound.RtcpWalk.{RtcpWalk}
+use Rattle.rtcp.specs.declared.read_compound.RtcpStep.{RtcpStep}
+use Rattle.rtcp.specs.Result.{numberOf, firstOf, secondOf, field, bit}
+
+-- ---- a packet of each kind
+
+abbrev pub bareNumbers : ℕ → ℕ → ℕ → ℕ → ℕ → PacketNumbers
+bareNumbers kind type count body padding =
+    record {
+      kind = kind;
+      «packet_type» = type;
+      count = count;
+      body = body;
+      «padding_len» = padding;
+      ssrc = 0;
+      «ntp_timestamp» = 0;
+      «rtp_timestamp» = 0;
+      «packet_count» = 0;
+      «octet_count» = 0;
+      extension = 0;
+      «has_cname» = 0;
+      «has_reason» = 0;
+      reason = 0;
+      «reason_len» = 0;
+    }
+
+abbrev pub srNumbers : SenderReport → PacketNumbers
+srNumbers x =
+    record {
+      kind = 200;
+      «packet_type» = 200;
+      count = x .«n_reports»;
+      body = x .body;
+      «padding_len» = x .padding;
+      ssrc = x .ssrc;
+      «ntp_timestamp» = x .«ntp_timestamp»;
+      «rtp_timestamp» = x .«rtp_timestamp»;
+      «packet_count» = x .«packet_count»;
+      «octet_count» = x .«octet_count»;
+      extension = x .extension;
+      «has_cname» = 0;
+      «has_reason» = 0;
+      reason = 0;
+      «reason_len» = 0;
+    }
+
+abbrev pub rrNumbers : ReceiverReport → PacketNumbers
+rrNumbers x =
+    record {
+      kind = 201;
+      «packet_type» = 201;
+      count = x .«n_reports»;
+      body = x .body;
+      «padding_len» = x .padding;
+      ssrc = x .ssrc;
+      «ntp_timestamp» = 0;
+      «rtp_timestamp» = 0;
+      «packet_count» = 0;
+      «octet_count» = 0;
+      extension = x .extension;
+      «has_cname» = 0;
+      «has_reason» = 0;
+      reason = 0;
+      «reason_len» = 0;
+    }
+
+abbrev pub sdesNumbers : Sdes → PacketNumbers
+sdesNumbers x =
+    record {
+      kind = 202;
+      «packet_type» = 202;
+      count = x .«n_chunks»;
+      body = x .body;
+      «padding_len» = x .padding;
+      ssrc = 0;
+      «ntp_timestamp» = 0;
+      «rtp_timestamp» = 0;
+      «packet_count» = 0;
+      «octet_count» = 0;
+      extension = 0;
+      «has_cname» = bit (x .«has_cname»);
+      «has_reason» = 0;
+      reason = 0;
+      «reason_len» = 0;
+    }
+
+abbrev pub byeNumbers : Bye → PacketNumbers
+byeNumbers x =
+    record {
+      kind = 203;
+      «packet_type» = 203;
+      count = x .«n_sources»;
+      body = x .body;
+      «padding_len» = x .padding;
+      ssrc = 0;
+      «ntp_timestamp» = 0;
+      «rtp_timestamp» = 0;
+      «packet_count» = 0;
+      «octet_count» = 0;
+      extension = 0;
+      «has_cname» = 0;
+      «has_reason» = bit (x .«has_reason»);
+      reason = x .reason;
+      «reason_len» = x .«reason_len»;
+    }
+
+abbrev pub appNumbers : App → PacketNumbers
+appNumbers x =
+    record {
+      kind = 204;
+      «packet_type» = 204;
+      count = x .subtype;
+      body = x .body;
+      «padding_len» = x .padding;
+      ssrc = x .ssrc;
+      «ntp_timestamp» = 0;
+      «rtp_timestamp» = 0;
+      «packet_count» = 0;
+      «octet_count» = 0;
+      extension = 0;
+      «has_cname» = 0;
+      «has_reason» = 0;
+      reason = 0;
+      «reason_len» = 0;
+    }
+
+abbrev pub unknownNumbers : Unknown → PacketNumbers
+unknownNumbers x =
+    record {
+      kind = 0;
+      «packet_type» = x .«packet_type»;
+      count = x .count;
+      body = x .body;
+      «padding_len» = x .padding;
+      ssrc = 0;
+      «ntp_timestamp» = 0;
+      «rtp_timestamp» = 0;
+      «packet_count» = 0;
+      «octet_count» = 0;
+      extension = 0;
+      «has_cname» = 0;
+      «has_reason» = 0;
+      reason = 0;
+      «reason_len» = 0;
+    }
+
+abbrev pub numbersOf : Packet → PacketNumbers
+numbersOf (packet.Sr x) = srNumbers x
+numbersOf (packet.Rr x) = rrNumbers x
+numbersOf (packet.Sdes x) = sdesNumbers x
+numbersOf (packet.Bye x) = byeNumbers x
+numbersOf (packet.App x) = appNumbers x
+numbersOf (packet.Unknown x) = unknownNumbers x
+
+-- ---- a datagram, and its walk
+
+abbrev pub compoundResult : Answer Compound → RtcpCompound
+compoundResult a =
+    record {
+      number = numberOf a;
+      first = firstOf a;
+      second = secondOf a;
+      «n_packets» = field (λ x. x .«n_packets») a;
+    }
+
+abbrev pub walkResult : Answer Walk → RtcpWalk
+walkResult a =
+    record {
+      number = numberOf a;
+      first = firstOf a;
+      second = secondOf a;
+      at = field (λ x. x .at) a;
+    }
+
+-- the packet has `len` bytes from `offset`; every other place is counted from its start
+abbrev pub stepResult : ℕ → Answer (Packet × Walk) → RtcpStep
+stepResult at a =
+    record {
+      number = numberOf a;
+      first = firstOf a;
+      second = secondOf a;
+      kind = field (λ x. numbersOf (x .0) .kind) a;
+      «packet_type» = field (λ x. numbersOf (x .0) .«packet_type») a;
+      count = field (λ x. numbersOf (x .0) .count) a;
+      offset = field (λ x. at) a;
+      len = field (λ x. x .1 .at - at) a;
+      body = field (λ x. numbersOf (x .0) .body) a;
+      «padding_len» = field (λ x. numbersOf (x .0) .«padding_len») a;
+      ssrc = field (λ x. numbersOf (x .0) .ssrc) a;
+      «ntp_timestamp» = field (λ x. numbersOf (x .0) .«ntp_timestamp») a;
+      «rtp_timestamp» = field (λ x. numbersOf (x .0) .«rtp_timestamp») a;
+      «packet_count» = field (λ x. numbersOf (x .0) .«packet_count») a;
+      «octet_count» = field (λ x. numbersOf (x .0) .«octet_count») a;
+      extension = field (λ x. numbersOf (x .0) .extension) a;
+      «has_cname» = field (λ x. numbersOf (x .0) .«has_cname») a;
+      «has_reason» = field (λ x. numbersOf (x .0) .«has_reason») a;
+      reason = field (λ x. numbersOf (x .0) .reason) a;
+      «reason_len» = field (λ x. numbersOf (x .0) .«reason_len») a;
+      at = moved {A = Packet} {W = Walk} (record { at = at }) a .at;
+    }

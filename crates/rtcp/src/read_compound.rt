@@ -1,0 +1,302 @@
+// Datagrams, and the walk over their packets.
+use super::result::bit;
+use app::App;
+use bye::Bye;
+use compound::compound::Compound;
+use compound::compound::OpenedWalk;
+use compound::compound::ParsedCompound;
+use compound::compound::Stepped;
+use compound::compound::Walk;
+use compound::packet::Packet;
+use compound::unknown::Unknown;
+use report::receiver::ReceiverReport;
+use report::sender::SenderReport;
+use sdes::sdes::Sdes;
+use utils::error::RtcpParseError;
+ghost use mathlib.Core.Path.{_≡_};
+ghost use Rattle.rfc3550.specs.Answer.{mapOk, refused};
+ghost use Rattle.rfc3550.specs.Compound.{readCompound};
+ghost use Rattle.rfc3550.specs.Walk.{openWalk, step};
+ghost use Rattle.utils.specs.Error.{parseRefusal};
+ghost use Rattle.compound.specs.Compound.{compoundView, walkAt, stepView};
+ghost use Rattle.rtcp.specs.Compound.{bareNumbers, srNumbers, rrNumbers, sdesNumbers, byeNumbers, appNumbers, unknownNumbers, numbersOf, compoundResult, walkResult, stepResult};
+
+#[repr(C)]
+pub struct RtcpCompound {
+    pub number: u64,
+    pub first: u64,
+    pub second: u64,
+    pub n_packets: u64,
+}
+
+#[repr(C)]
+pub struct RtcpWalk {
+    pub number: u64,
+    pub first: u64,
+    pub second: u64,
+    pub at: u64,
+}
+
+// The packet has `len` bytes from `offset`. Every other place is counted from the packet's start, so the numbers are those that the function of
+// its kind gives of these bytes; 0 where its kind has no such field.
+#[repr(C)]
+pub struct RtcpStep {
+    pub number: u64,
+    pub first: u64,
+    pub second: u64,
+    pub kind: u64,
+    pub packet_type: u64,
+    pub count: u64,
+    pub offset: u64,
+    pub len: u64,
+    pub body: u64,
+    pub padding_len: u64,
+    pub ssrc: u64,
+    pub ntp_timestamp: u64,
+    pub rtp_timestamp: u64,
+    pub packet_count: u64,
+    pub octet_count: u64,
+    pub extension: u64,
+    pub has_cname: u64,
+    pub has_reason: u64,
+    pub reason: u64,
+    pub reason_len: u64,
+    pub at: u64,
+}
+
+impl RtcpCompound {
+    fn refused(e: RtcpParseError) -> RtcpCompound
+        ensures { λ r. ⌜ r ≡ compoundResult (refused (parseRefusal e)) ⌝ }
+    {
+        let code = e.code();
+        RtcpCompound {
+            number: code.number,
+            first: code.first,
+            second: code.second,
+            n_packets: 0,
+        }
+    }
+}
+
+impl RtcpWalk {
+    fn refused(e: RtcpParseError) -> RtcpWalk
+        ensures { λ r. ⌜ r ≡ walkResult (refused (parseRefusal e)) ⌝ }
+    {
+        let code = e.code();
+        RtcpWalk {
+            number: code.number,
+            first: code.first,
+            second: code.second,
+            at: 0,
+        }
+    }
+}
+
+impl RtcpStep {
+    // With the walk that went in.
+    fn refused(e: RtcpParseError, at: u64) -> RtcpStep
+        ensures { λ r. ⌜ r ≡ stepResult at (refused (parseRefusal e)) ⌝ }
+    {
+        let code = e.code();
+        RtcpStep {
+            number: code.number,
+            first: code.first,
+            second: code.second,
+            kind: 0,
+            packet_type: 0,
+            count: 0,
+            offset: 0,
+            len: 0,
+            body: 0,
+            padding_len: 0,
+            ssrc: 0,
+            ntp_timestamp: 0,
+            rtp_timestamp: 0,
+            packet_count: 0,
+            octet_count: 0,
+            extension: 0,
+            has_cname: 0,
+            has_reason: 0,
+            reason: 0,
+            reason_len: 0,
+            at,
+        }
+    }
+}
+
+// A packet of any kind as numbers. The kind is its packet type, or 0 where the type has no layout.
+struct PacketNumbers {
+    kind: u64,
+    packet_type: u64,
+    count: u64,
+    body: u64,
+    padding_len: u64,
+    ssrc: u64,
+    ntp_timestamp: u64,
+    rtp_timestamp: u64,
+    packet_count: u64,
+    octet_count: u64,
+    extension: u64,
+    has_cname: u64,
+    has_reason: u64,
+    reason: u64,
+    reason_len: u64,
+}
+
+impl PacketNumbers {
+    // What every kind has.
+    fn bare(kind: u64, packet_type: u64, count: u64, body: usize, padding: usize) -> PacketNumbers
+        ensures { λ r. ⌜ r ≡ bareNumbers kind «packet_type» count body padding ⌝ }
+    {
+        PacketNumbers {
+            kind,
+            packet_type,
+            count,
+            body: body as u64,
+            padding_len: padding as u64,
+            ssrc: 0,
+            ntp_timestamp: 0,
+            rtp_timestamp: 0,
+            packet_count: 0,
+            octet_count: 0,
+            extension: 0,
+            has_cname: 0,
+            has_reason: 0,
+            reason: 0,
+            reason_len: 0,
+        }
+    }
+
+    fn of_sr(sr: SenderReport) -> PacketNumbers
+        ensures { λ r. ⌜ r ≡ srNumbers sr ⌝ }
+    {
+        let mut n = PacketNumbers::bare(200, 200, sr.n_reports as u64, sr.body, sr.padding);
+        n.ssrc = sr.ssrc as u64;
+        n.ntp_timestamp = sr.ntp_timestamp;
+        n.rtp_timestamp = sr.rtp_timestamp as u64;
+        n.packet_count = sr.packet_count as u64;
+        n.octet_count = sr.octet_count as u64;
+        n.extension = sr.extension as u64;
+        n
+    }
+
+    fn of_rr(rr: ReceiverReport) -> PacketNumbers
+        ensures { λ r. ⌜ r ≡ rrNumbers rr ⌝ }
+    {
+        let mut n = PacketNumbers::bare(201, 201, rr.n_reports as u64, rr.body, rr.padding);
+        n.ssrc = rr.ssrc as u64;
+        n.extension = rr.extension as u64;
+        n
+    }
+
+    fn of_sdes(sdes: Sdes) -> PacketNumbers
+        ensures { λ r. ⌜ r ≡ sdesNumbers sdes ⌝ }
+    {
+        let mut n = PacketNumbers::bare(202, 202, sdes.n_chunks as u64, sdes.body, sdes.padding);
+        n.has_cname = bit(sdes.has_cname);
+        n
+    }
+
+    fn of_bye(bye: Bye) -> PacketNumbers
+        ensures { λ r. ⌜ r ≡ byeNumbers bye ⌝ }
+    {
+        let mut n = PacketNumbers::bare(203, 203, bye.n_sources as u64, bye.body, bye.padding);
+        n.has_reason = bit(bye.has_reason);
+        n.reason = bye.reason as u64;
+        n.reason_len = bye.reason_len as u64;
+        n
+    }
+
+    fn of_app(app: App) -> PacketNumbers
+        ensures { λ r. ⌜ r ≡ appNumbers app ⌝ }
+    {
+        let mut n = PacketNumbers::bare(204, 204, app.subtype as u64, app.body, app.padding);
+        n.ssrc = app.ssrc as u64;
+        n
+    }
+
+    fn of_unknown(u: Unknown) -> PacketNumbers
+        ensures { λ r. ⌜ r ≡ unknownNumbers u ⌝ }
+    {
+        PacketNumbers::bare(0, u.packet_type as u64, u.count as u64, u.body, u.padding)
+    }
+
+    fn of(packet: Packet) -> PacketNumbers
+        ensures { λ r. ⌜ r ≡ numbersOf packet ⌝ }
+    {
+        match packet {
+            Packet::Sr(sr) => PacketNumbers::of_sr(sr),
+            Packet::Rr(rr) => PacketNumbers::of_rr(rr),
+            Packet::Sdes(sdes) => PacketNumbers::of_sdes(sdes),
+            Packet::Bye(bye) => PacketNumbers::of_bye(bye),
+            Packet::App(app) => PacketNumbers::of_app(app),
+            Packet::Unknown(u) => PacketNumbers::of_unknown(u),
+        }
+    }
+}
+
+#[no_mangle]
+pub extern "C" fn rtcp_compound_parse(s: &[u8]) -> RtcpCompound
+    ensures { λ r. ⌜ r ≡ compoundResult (mapOk compoundView (readCompound (now (s .entry)))) ⌝ }
+{
+    match Compound::parse(s) {
+        ParsedCompound::Compound(compound) => RtcpCompound {
+            number: 0,
+            first: 0,
+            second: 0,
+            n_packets: compound.n_packets as u64,
+        },
+        ParsedCompound::Refused(e) => RtcpCompound::refused(e),
+    }
+}
+
+#[no_mangle]
+pub extern "C" fn rtcp_walk_open(s: &[u8]) -> RtcpWalk
+    ensures { λ r. ⌜ r ≡ walkResult (mapOk walkAt (openWalk (now (s .entry)))) ⌝ }
+{
+    match Walk::open(s) {
+        OpenedWalk::Walk(walk) => RtcpWalk {
+            number: 0,
+            first: 0,
+            second: 0,
+            at: walk.at as u64,
+        },
+        OpenedWalk::Refused(e) => RtcpWalk::refused(e),
+    }
+}
+
+#[no_mangle]
+pub extern "C" fn rtcp_walk_step(s: &[u8], at: u64) -> RtcpStep
+    ensures { λ r. ⌜ r ≡ stepResult at (mapOk stepView (step (now (s .entry)) at)) ⌝ }
+{
+    let walk = Walk { at: at as usize };
+    match walk.step(s) {
+        Stepped::Packet(packet, next) => {
+            let n = PacketNumbers::of(packet);
+            RtcpStep {
+                number: 0,
+                first: 0,
+                second: 0,
+                kind: n.kind,
+                packet_type: n.packet_type,
+                count: n.count,
+                offset: at,
+                len: next.at as u64 - at,
+                body: n.body,
+                padding_len: n.padding_len,
+                ssrc: n.ssrc,
+                ntp_timestamp: n.ntp_timestamp,
+                rtp_timestamp: n.rtp_timestamp,
+                packet_count: n.packet_count,
+                octet_count: n.octet_count,
+                extension: n.extension,
+                has_cname: n.has_cname,
+                has_reason: n.has_reason,
+                reason: n.reason,
+                reason_len: n.reason_len,
+                at: next.at as u64,
+            }
+        }
+        Stepped::Refused(e) => RtcpStep::refused(e, at),
+    }
+}
