@@ -3,9 +3,10 @@ use Prim.Native.Nat.{ℕ, _<_}
 use mathlib.Core.Bool.{Bool, true, false}
 use mathlib.Core.Path.{_≡_, refl, sym, ap, _∙_}
 use native.Mathlib.Omega.{arith}
-use lib.Dec.{eqb}
+use lib.Dec.{eqb, ltb}
 use borrow.Author.Tests.{ne-eqb}
 use Rattle.rfc3550.specs.Answer.{Refusal, refusal, Answer, ok, refused, pick}
+use Rattle.rfc3550.specs.Writer.{Writer}
 use Rattle.utils.specs.Error.{parseRefusal}
 use Rattle.utils.specs.declared.error.RtcpParseError.{RtcpParseError}
 use Rattle.utils.specs.declared.error.RtcpParseError.the-variants as parse
@@ -19,11 +20,17 @@ use Rattle.sdes_chunk.specs.declared.chunk.SdesChunk.{SdesChunk}
 use Rattle.sdes_chunk.specs.declared.chunk.ItemWalk.{ItemWalk}
 use Rattle.sdes.specs.declared.sdes.Sdes.{Sdes}
 use Rattle.sdes.specs.declared.sdes.ChunkWalk.{ChunkWalk}
+use Rattle.compound.specs.declared.packet.Packet.{Packet}
+use Rattle.compound.specs.declared.packet.Packet.the-variants as packet
+use Rattle.compound.specs.declared.compound.Compound.{Compound}
+use Rattle.compound.specs.declared.compound.Walk.{Walk}
 use Rattle.rtcp.specs.Result.{numberIn, numberOf, firstOf, secondOf, field, bit}
 use Rattle.rtcp.specs.Report.{blockResult, rrResult, srResult}
 use Rattle.rtcp.specs.App.{appResult}
 use Rattle.rtcp.specs.Bye.{byeResult, sourceResult}
 use Rattle.rtcp.specs.Sdes.{sdesResult, itemResult, prefixResult, chunkResult, chunkWalkResult, chunkStepResult, itemWalkResult, itemStepResult}
+use Rattle.rtcp.specs.Compound.{compoundResult, walkResult, stepResult}
+use Rattle.rtcp.specs.WriteCompound.{writerIn, writerOut, callResult}
 use Rattle.rtcp.specs.declared.read_report.RtcpBlock.{RtcpBlock}
 use Rattle.rtcp.specs.declared.read_report.RtcpRr.{RtcpRr}
 use Rattle.rtcp.specs.declared.read_report.RtcpSr.{RtcpSr}
@@ -38,6 +45,11 @@ use Rattle.rtcp.specs.declared.read_sdes.RtcpChunkWalk.{RtcpChunkWalk}
 use Rattle.rtcp.specs.declared.read_sdes.RtcpChunkStep.{RtcpChunkStep}
 use Rattle.rtcp.specs.declared.read_sdes.RtcpItemWalk.{RtcpItemWalk}
 use Rattle.rtcp.specs.declared.read_sdes.RtcpItemStep.{RtcpItemStep}
+use Rattle.rtcp.specs.declared.read_compound.RtcpCompound.{RtcpCompound}
+use Rattle.rtcp.specs.declared.read_compound.RtcpWalk.{RtcpWalk}
+use Rattle.rtcp.specs.declared.read_compound.RtcpStep.{RtcpStep}
+use Rattle.rtcp.specs.declared.write_compound.RtcpWriter.{RtcpWriter}
+use Rattle.rtcp.specs.declared.write_compound.RtcpCall.{RtcpCall}
 
 -- ---- every refusal has a number above 0
 
@@ -195,3 +207,70 @@ itemStepResult-injective at =
     (λ (r : RtcpItemStep). (r .number, r .first, r .second))
     (λ a. refl)
     (λ x. refl)
+
+pub compoundResult-injective : (a b : Answer Compound) → Numbered a → Numbered b → compoundResult a ≡ compoundResult b → a ≡ b
+compoundResult-injective =
+    keeps compoundResult
+    (λ (r : RtcpCompound). record { «n_packets» = r .«n_packets» })
+    (λ (r : RtcpCompound). (r .number, r .first, r .second))
+    (λ a. refl)
+    (λ x. refl)
+
+pub walkResult-injective : (a b : Answer Walk) → Numbered a → Numbered b → walkResult a ≡ walkResult b → a ≡ b
+walkResult-injective =
+    keeps walkResult
+    (λ (r : RtcpWalk). record { at = r .at })
+    (λ (r : RtcpWalk). (r .number, r .first, r .second))
+    (λ a. refl)
+    (λ x. refl)
+
+-- the packet of a step, by its kind
+abbrev packetIn : RtcpStep → Packet
+packetIn r =
+    pick (eqb (r .kind) 200)
+    (packet.Sr (record { ssrc = r .ssrc; «ntp_timestamp» = r .«ntp_timestamp»; «rtp_timestamp» = r .«rtp_timestamp»; «packet_count» = r .«packet_count»; «octet_count» = r .«octet_count»; «n_reports» = r .count; extension = r .extension; body = r .body; padding = r .«padding_len» }))
+    (pick (eqb (r .kind) 201)
+    (packet.Rr (record { ssrc = r .ssrc; «n_reports» = r .count; extension = r .extension; body = r .body; padding = r .«padding_len» }))
+    (pick (eqb (r .kind) 202)
+    (packet.Sdes (record { «n_chunks» = r .count; «has_cname» = eqb (r .«has_cname») 1; body = r .body; padding = r .«padding_len» }))
+    (pick (eqb (r .kind) 203)
+    (packet.Bye (record { «n_sources» = r .count; «has_reason» = eqb (r .«has_reason») 1; reason = r .reason; «reason_len» = r .«reason_len»; body = r .body; padding = r .«padding_len» }))
+    (pick (eqb (r .kind) 204)
+    (packet.App (record { ssrc = r .ssrc; subtype = r .count; body = r .body; padding = r .«padding_len» }))
+    (packet.Unknown (record { «packet_type» = r .«packet_type»; count = r .count; body = r .body; padding = r .«padding_len» }))))))
+
+packet-back : (at : ℕ) (p : Packet) (w : Walk) → packetIn (stepResult at (ok (p, w))) ≡ p
+packet-back at (packet.Sr x) w = refl
+packet-back at (packet.Rr x) w = refl
+packet-back at (packet.Sdes x) w = rw (bit-back (x .«has_cname»))
+packet-back at (packet.Bye x) w = rw (bit-back (x .«has_reason»))
+packet-back at (packet.App x) w = refl
+packet-back at (packet.Unknown x) w = refl
+
+pub stepResult-injective : (at : ℕ) (a b : Answer (Packet × Walk)) → Numbered a → Numbered b → stepResult at a ≡ stepResult at b → a ≡ b
+stepResult-injective at =
+    keeps (stepResult at)
+    (λ (r : RtcpStep). (packetIn r, record { at = r .at }))
+    (λ (r : RtcpStep). (r .number, r .first, r .second))
+    (λ a. refl)
+    (λ x. ap (λ (p : Packet). (p, x .1)) (packet-back at (x .0) (x .1)))
+
+-- ---- a writer and a call
+
+flag-back : (b : Bool) → ltb 0 (bit b) ≡ b
+flag-back true = refl
+flag-back false = refl
+
+writer-back : (w : Writer) → writerIn (writerOut w) ≡ w
+writer-back w = rw (flag-back (w .padded), flag-back (w .cname), flag-back (w .closed))
+
+pub writerOut-injective : (v w : Writer) → writerOut v ≡ writerOut w → v ≡ w
+writerOut-injective v w e = sym (writer-back v) ∙ ap writerIn e ∙ writer-back w
+
+pub callResult-injective : (w : RtcpWriter) (a b : Answer Writer) → Numbered a → Numbered b → callResult w a ≡ callResult w b → a ≡ b
+callResult-injective w =
+    keeps (callResult w)
+    (λ (r : RtcpCall). writerIn (r .writer))
+    (λ (r : RtcpCall). (r .number, r .first, r .second))
+    (λ a. refl)
+    (λ x. writer-back x)

@@ -7,3 +7,4 @@ pub mod Descriptions
 pub mod Datagrams
 pub mod WriteResults
 pub mod WriteReports
+pub mod WriteCalls

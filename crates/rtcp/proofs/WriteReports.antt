@@ -146,7 +146,7 @@ module _ (r : Reporter) (k : ℕ) where
 
   module _ (xs : List ℕ) (run : Run) (g : Gathered xs run) where
     -- the run's blocks are the lent ones, or both are too many and as many
-    same-run : {B : Type 0} (f : List Block → B) → ((bs cs : List Block) → 31 < length bs → length bs ≡ length cs → f bs ≡ f cs) → f (blocksIn run) ≡ f (blocksLent xs)
+    pub same-run : {B : Type 0} (f : List Block → B) → ((bs cs : List Block) → 31 < length bs → length bs ≡ length cs → f bs ≡ f cs) → f (blocksIn run) ≡ f (blocksLent xs)
     same-run f many = go (leb (run .len) 31) refl
       where
         go : (t : Bool) → leb (run .len) 31 ≡ t → f (blocksIn run) ≡ f (blocksLent xs)
@@ -170,11 +170,11 @@ module _ (r : Reporter) (k : ℕ) where
 
 -- ---- what C gets
 
-flat-ok : (xs : List ℕ) → flatOk xs ≡ true → flatBlocks xs ≡ ok (blocksLent xs)
+pub flat-ok : (xs : List ℕ) → flatOk xs ≡ true → flatBlocks xs ≡ ok (blocksLent xs)
 unfolding flatBlocks need _>>_
 flat-ok xs e = rw e
 
-flat-refused : (xs : List ℕ) → flatOk xs ≡ false → flatBlocks xs ≡ refused (refusal 24 0 0)
+pub flat-refused : (xs : List ℕ) → flatOk xs ≡ false → flatBlocks xs ≡ refused (refusal 24 0 0)
 unfolding flatBlocks need _>>_
 flat-refused xs e = rw e
 

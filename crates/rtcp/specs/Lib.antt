@@ -6,3 +6,4 @@ pub mod Sdes
 pub mod Compound
 pub mod WriteResult
 pub mod WriteReport
+pub mod WriteCompound

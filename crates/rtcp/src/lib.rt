@@ -7,6 +7,7 @@ pub mod read_sdes;
 pub mod result;
 pub mod write_app;
 pub mod write_bye;
+pub mod write_compound;
 pub mod write_report;
 pub mod write_result;
 pub mod write_sdes;

@@ -1,0 +1,113 @@
+-- The compound writer: what C gets of a call, from what the writer answers. Stated once, over the call.
+use Prim.Native.Nat.{ℕ, _<_}
+use mathlib.Core.Path.{_≡_, refl, sym, ap, _∙_}
+use mathlib.Core.Bool.{Bool, true, false}
+use mathlib.Core.List.{List, []}
+use lib.ListN.{length}
+use lib.Dec.{eqb, ltb}
+use borrow.Author.Tests.{lt-leb, not-true, not-false}
+use Rattle.rfc3550.specs.Answer.{Refusal, refusal, Answer, ok, refused, need, _>>_}
+use Rattle.rfc3550.specs.Packet.{Block, Reporter, receiver, sender, report, type, isReport}
+use Rattle.rfc3550.specs.Write.{giveReport, tests, ownTests}
+use Rattle.rfc3550.specs.Writer.{Writer, fresh, Request, add, addTests, call}
+use Rattle.rfc3550.proofs.Answer.{or-true}
+use Rattle.utils.specs.Error.{writeRefusal, codeRefusal}
+use Rattle.utils.specs.declared.error.RtcpWriteError.{RtcpWriteError}
+use Rattle.utils.specs.declared.error.Code.{Code}
+use Rattle.report_write.specs.Report.{blocksIn}
+use Rattle.report_write.specs.declared.«report_block».Run.{Run}
+use Rattle.compound_write.specs.Writer.{outcomeOf, writerOf}
+use Rattle.compound_write.specs.declared.writer.Writer as code
+use Rattle.compound_write.specs.declared.writer.Call.{Call}
+use Rattle.compound_write.specs.declared.writer.Outcome.the-variants as outcome
+use Rattle.rtcp.specs.WriteReport.{flatOk, blocksLent, flatBlocks, Gathered}
+use Rattle.rtcp.specs.WriteCompound.{writerIn, writerOut, handedOn, callResult, calledOut, turnedDown, addBlocks}
+use Rattle.rtcp.specs.declared.write_compound.RtcpWriter.{RtcpWriter}
+use Rattle.rtcp.specs.declared.write_compound.RtcpCall.{RtcpCall}
+use Rattle.rtcp.proofs.WriteReports.{flats, flat-ok, flat-refused, same-run}
+
+pub out-fresh : (v : code.Writer) (r : RtcpWriter) → r ≡ writerOut (writerOf v) → writerOf v ≡ fresh → r ≡ writerOut fresh
+out-fresh v r h e = h ∙ ap writerOut e
+
+-- ---- a call, handed on
+
+module _ (w : RtcpWriter) where
+  pub call-refused : (c : Code) (e : RtcpWriteError) → codeRefusal c ≡ writeRefusal e
+      → record { number = c .number; first = c .first; second = c .second; writer = w } ≡ callResult w (refused (writeRefusal e))
+  call-refused c e h = ap (λ (k : Refusal). callResult w (refused k)) h
+
+  module _ (o : Call) where
+    pub out-done : (v : RtcpWriter) → o .answer ≡ outcome.Done → v ≡ writerOut (writerOf (o .writer))
+        → record { number = 0; first = 0; second = 0; writer = v } ≡ callResult w (handedOn (outcomeOf (o .answer)) (writerOf (o .writer)))
+    out-done v p q = rw (p, q)
+
+    pub out-refused : (e : RtcpWriteError) (r : RtcpCall) → o .answer ≡ outcome.Refused e → r ≡ callResult w (refused (writeRefusal e))
+        → r ≡ callResult w (handedOn (outcomeOf (o .answer)) (writerOf (o .writer)))
+    out-refused e r p q = rw p q
+
+    pub out-called : (r : RtcpCall) (v : code.Writer) (l₁ : List ℕ) (q : Request) (l : List ℕ) → r ≡ callResult w (handedOn (outcomeOf (o .answer)) (writerOf (o .writer)))
+        → writerOf v ≡ writerIn w → (outcomeOf (o .answer), writerOf (o .writer), l₁) ≡ call q (writerOf v) l → (r, l₁) ≡ calledOut w (call q (writerIn w) l)
+    out-called r v l₁ q l h e f = rw h (ap (calledOut w) f ∙ ap (λ (u : Writer). calledOut w (call q u l)) e)
+
+-- ---- a report whose blocks do not fit together
+
+module _ (w : Writer) (e : Refusal) where
+  pub down-closed : w .closed ≡ true → refused (refusal 26 0 0) ≡ turnedDown w e
+  unfolding turnedDown need _>>_
+  down-closed h = simp h
+
+  module _ (open-still : w .closed ≡ false) where
+    pub down-padded : w .padded ≡ true → refused (refusal 29 0 0) ≡ turnedDown w e
+    unfolding turnedDown need _>>_
+    down-padded h = simp (open-still, h)
+
+    pub down-lists : w .padded ≡ false → refused e ≡ turnedDown w e
+    unfolding turnedDown need _>>_
+    down-lists h = simp (open-still, h)
+
+-- ---- a report of gathered blocks, over the reporter
+
+module _ (r : Reporter) (k : ℕ) where
+  first-report : (bs : List Block) → isReport (type (report r bs [])) ≡ true
+  first-report bs = go r
+    where
+      go : (r : Reporter) → isReport (type (report r bs [])) ≡ true
+      go (receiver ssrc) = refl
+      go (sender ssrc ntp rtp n o) = refl
+
+  over-tests : (bs : List Block) → 31 < length bs → tests (giveReport r bs k) ≡ refused (refusal 18 (length bs) 31)
+  unfolding tests ownTests need _>>_
+  over-tests bs h = simp (lt-leb _ _ h)
+
+  over-call : (w : Writer) (l : List ℕ) (bs : List Block) → 31 < length bs → call (add (giveReport r bs k)) w l ≡ (turnedDown w (refusal 18 (length bs) 31), w, l)
+  unfolding call addTests turnedDown need _>>_
+  over-call w l bs h = go (w .closed) (w .padded) refl refl
+    where
+      go : (c p : Bool) → w .closed ≡ c → w .padded ≡ p → call (add (giveReport r bs k)) w l ≡ (turnedDown w (refusal 18 (length bs) 31), w, l)
+      go true p e f = simp e
+      go false true e f = simp (e, f)
+      go false false e f = simp (e, f, first-report bs, or-true (ltb 0 (w .len)), over-tests bs h)
+
+  run-call : (xs : List ℕ) (run : Run) → Gathered xs run → (w : Writer) (l : List ℕ) → call (add (giveReport r (blocksIn run) k)) w l ≡ call (add (giveReport r (blocksLent xs) k)) w l
+  run-call xs run g w l =
+      same-run r k xs run g (λ (bs : List Block). call (add (giveReport r bs k)) w l)
+      (λ bs cs h e. over-call w l bs h ∙ ap (λ (n : ℕ). (turnedDown w (refusal 18 n 31), w, l)) e ∙ sym (over-call w l cs (rw (← e) h)))
+
+-- ---- what C gets of a report added
+
+module _ (w : RtcpWriter) (v : code.Writer) (s : writerOf v ≡ writerIn w) (xs : List ℕ) (t : Bool) (e : t ≡ flatOk xs) (res : RtcpCall) where
+  pub no-add : (x : RtcpWriteError) → t ≡ false → refused (writeRefusal x) ≡ turnedDown (writerOf v) (refusal 24 0 0) → res ≡ callResult w (refused (writeRefusal x))
+      → (r : Reporter) (k : ℕ) (l : List ℕ) → (res, l) ≡ calledOut w (addBlocks r (flatBlocks xs) k (writerIn w) l)
+  unfolding addBlocks
+  no-add x q h g r k l =
+      let f : refused (writeRefusal x) ≡ turnedDown (writerIn w) (refusal 24 0 0) = h ∙ ap (λ (u : Writer). turnedDown u (refusal 24 0 0)) s in
+      rw (flat-refused xs (sym e ∙ q), ← f, g)
+
+  pub flat-add : (o : Call) (run : Run) → t ≡ true → Gathered xs run → res ≡ callResult w (handedOn (outcomeOf (o .answer)) (writerOf (o .writer)))
+      → (r : Reporter) (k : ℕ) (l l₁ : List ℕ) → (outcomeOf (o .answer), writerOf (o .writer), l₁) ≡ call (add (giveReport r (blocksIn run) k)) (writerOf v) l
+      → (res, l₁) ≡ calledOut w (addBlocks r (flatBlocks xs) k (writerIn w) l)
+  unfolding addBlocks
+  flat-add o run q g h r k l l₁ f =
+      rw (flat-ok xs (sym e ∙ q)) (out-called w o res v l₁ (add (giveReport r (blocksLent xs) k)) l h s (f ∙ run-call r k xs run g (writerOf v) l))
+
+pub ruleset calls = (flats, out-fresh, call-refused, out-done, out-refused, out-called, down-closed, down-padded, down-lists, no-add, flat-add)
