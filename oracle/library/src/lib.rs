@@ -97,14 +97,41 @@ results! {
     RtcpStep {
         kind: u64, packet_type: u64, count: u64, offset: u64, len: u64, body: u64,
         padding_len: u64, ssrc: u64, ntp_timestamp: u64, rtp_timestamp: u64, packet_count: u64,
-        octet_count: u64, has_reason: u64, reason: u64, reason_len: u64, at: u64
+        octet_count: u64, extension: u64, has_cname: u64, has_reason: u64, reason: u64,
+        reason_len: u64, at: u64
     }
     RtcpWritten { size: u64 }
+    RtcpCall { length: u64, padded: u64, cname: u64, closed: u64 }
+}
+
+/// The state of a compound writer. A flag that is not 0 is set.
+#[repr(C)]
+#[derive(Clone, Copy, Debug, Default, PartialEq, Eq)]
+pub struct RtcpWriter {
+    pub length: u64,
+    pub padded: u64,
+    pub cname: u64,
+    pub closed: u64,
+}
+
+impl RtcpCall {
+    /// The writer after the call: the struct's last field in C.
+    pub fn writer(&self) -> RtcpWriter {
+        RtcpWriter {
+            length: self.length,
+            padded: self.padded,
+            cname: self.cname,
+            closed: self.closed,
+        }
+    }
 }
 
 /// One function: its parameters are taken one by one, and a slice becomes a
 /// pointer and a length.
 macro_rules! function {
+    ($symbol:tt $name:ident $result:ident [] [] [] ,) => {
+        function! { $symbol $name $result [] [] [] }
+    };
     ($symbol:tt $name:ident $result:ident [$($wrapped:tt)*] [$($declared:tt)*] [$($passed:tt)*]
         $arg:ident: &mut [$width:ident], $($rest:tt)*) => {
         function! { $symbol $name $result [$($wrapped)* $arg: &mut [$width],]
@@ -211,6 +238,27 @@ functions! {
         types: &[u8], prefixes: &[u64], values: &[u64], bytes: &[u8]
     ) -> RtcpWritten;
     "rtcp_item_size" rtcp_item_size(type_: u8, prefix: &[u8], value: &[u8]) -> RtcpWritten;
+
+    "rtcp_writer_new" rtcp_writer_new() -> RtcpWriter;
+    "rtcp_writer_add_rr" rtcp_writer_add_rr(
+        buf: &mut [u8], writer: RtcpWriter, ssrc: u32, blocks: &[u32], padding: u64
+    ) -> RtcpCall;
+    "rtcp_writer_add_sr" rtcp_writer_add_sr(
+        buf: &mut [u8], writer: RtcpWriter, ssrc: u32, ntp_timestamp: u64, rtp_timestamp: u32,
+        packet_count: u32, octet_count: u32, blocks: &[u32], padding: u64
+    ) -> RtcpCall;
+    "rtcp_writer_add_sdes" rtcp_writer_add_sdes(
+        buf: &mut [u8], writer: RtcpWriter, ssrcs: &[u32], counts: &[u64], types: &[u8],
+        prefixes: &[u64], values: &[u64], bytes: &[u8], padding: u64
+    ) -> RtcpCall;
+    "rtcp_writer_add_bye" rtcp_writer_add_bye(
+        buf: &mut [u8], writer: RtcpWriter, sources: &[u32], reason: &[u8], padding: u64
+    ) -> RtcpCall;
+    "rtcp_writer_add_app" rtcp_writer_add_app(
+        buf: &mut [u8], writer: RtcpWriter, subtype: u64, ssrc: u32, name: &[u8], data: &[u8],
+        padding: u64
+    ) -> RtcpCall;
+    "rtcp_writer_close" rtcp_writer_close(writer: RtcpWriter) -> RtcpCall;
 }
 
 /// Whether the static library was there.

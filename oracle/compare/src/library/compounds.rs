@@ -68,7 +68,7 @@ fn show_step(view: &mut View, s: &[u8], at: u64, step: &RtcpStep) -> Option<()> 
     match kind {
         Some(kind) => {
             view.fields.extend(read_as(kind, packet)?.fields);
-            repeat(&mut wanted, kind, packet, at)?;
+            repeat(&mut wanted, kind, packet)?;
         }
         None => {
             view.number("type", step.packet_type);
@@ -90,7 +90,8 @@ fn show_step(view: &mut View, s: &[u8], at: u64, step: &RtcpStep) -> Option<()> 
     Some(())
 }
 
-fn repeat(wanted: &mut RtcpStep, kind: Kind, packet: &[u8], at: u64) -> Option<()> {
+/// Places in the packet are counted from its start, as in its own reading.
+fn repeat(wanted: &mut RtcpStep, kind: Kind, packet: &[u8]) -> Option<()> {
     wanted.kind = kind.packet_type().into();
     match kind {
         Kind::Sr => {
@@ -100,16 +101,21 @@ fn repeat(wanted: &mut RtcpStep, kind: Kind, packet: &[u8], at: u64) -> Option<(
             wanted.rtp_timestamp = sr.rtp_timestamp;
             wanted.packet_count = sr.packet_count;
             wanted.octet_count = sr.octet_count;
+            wanted.extension = sr.extension;
         }
-        Kind::Rr => wanted.ssrc = rtcp_rr_parse(packet)?.ssrc,
+        Kind::Rr => {
+            let rr = rtcp_rr_parse(packet)?;
+            wanted.ssrc = rr.ssrc;
+            wanted.extension = rr.extension;
+        }
         Kind::App => wanted.ssrc = rtcp_app_parse(packet)?.ssrc,
         Kind::Bye => {
             let bye = rtcp_bye_parse(packet)?;
             wanted.has_reason = bye.has_reason;
-            wanted.reason = at + bye.reason;
+            wanted.reason = bye.reason;
             wanted.reason_len = bye.reason_len;
         }
-        Kind::Sdes => {}
+        Kind::Sdes => wanted.has_cname = rtcp_sdes_parse(packet)?.has_cname,
     }
     Some(())
 }

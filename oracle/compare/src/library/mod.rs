@@ -2,6 +2,7 @@
 //! result has. A result that breaks the rules of the boundary shows a value that
 //! no other side shows.
 
+mod calls;
 mod compounds;
 mod reading;
 mod writing;
@@ -70,6 +71,8 @@ impl Side for Library {
             Operation::Write(given, before) => self.write(given, before),
             Operation::WriteChunk(lists, before) => self.write_chunk(lists, before),
             Operation::WriteItem(item, before) => self.write_item(item, before),
+            Operation::Add(writer, given, before) => self.added(*writer, given, before),
+            Operation::Close(writer) => self.closed(*writer),
             _ => {
                 let bytes = bytes_read(operation)?;
                 let s = Guarded::new(bytes, self.0);

@@ -8,22 +8,22 @@ use library::*;
 use model::{Block, ChunkLists, Given, Item, ItemLists, Refusal, SdesLists, SenderInfo};
 
 /// The lists of items in guarded memory.
-struct LentItems {
-    types: Guarded<u8>,
-    prefixes: Guarded<u64>,
-    values: Guarded<u64>,
-    bytes: Guarded<u8>,
+pub(super) struct LentItems {
+    pub types: Guarded<u8>,
+    pub prefixes: Guarded<u64>,
+    pub values: Guarded<u64>,
+    pub bytes: Guarded<u8>,
 }
 
 /// What a write and its size answer.
 type Answers = (Option<RtcpWritten>, Option<RtcpWritten>);
 
 impl Library {
-    fn lend<T: Number>(&self, items: &[T]) -> Guarded<T> {
+    pub(super) fn lend<T: Number>(&self, items: &[T]) -> Guarded<T> {
         Guarded::new(items, self.0)
     }
 
-    fn lend_items(&self, items: &ItemLists) -> LentItems {
+    pub(super) fn lend_items(&self, items: &ItemLists) -> LentItems {
         LentItems {
             types: self.lend(&items.types),
             prefixes: self.lend(&items.prefix_lengths),
