@@ -153,5 +153,6 @@ struct RtcpItemWalk rtcp_item_walk_open(const uint8_t *s, size_t len);
 struct RtcpItemStep rtcp_item_walk_step(const uint8_t *s, size_t len, uint64_t at);
 
 #include "rtcp_write.h"
+#include "rtcp_compound.h"
 
 #endif
