@@ -99,6 +99,31 @@ fn turn(rng: &mut Rng) -> Operation {
     Operation::Turn(book, call)
 }
 
+/// A call of a writer with that length so far: what an add is given, or nothing
+/// for a close.
+pub fn request(rng: &mut Rng, so_far: u64) -> Option<Given> {
+    if rng.once_in(4) {
+        return None;
+    }
+    let kind = if so_far == 0 && !rng.once_in(3) {
+        rng.pick(&[Kind::Sr, Kind::Rr])
+    } else {
+        kind(rng)
+    };
+    Some(given(rng, kind))
+}
+
+/// A buffer for an add: of any length, with the datagram so far at its start.
+pub fn lent(rng: &mut Rng, so_far: &[u8], given: &Given) -> Vec<u8> {
+    let mut buffer = match rng.below(8) {
+        0 => buffer(rng, so_far.len()),
+        _ => buffer(rng, so_far.len() + room(size(given))),
+    };
+    let kept = so_far.len().min(buffer.len());
+    buffer[..kept].copy_from_slice(&so_far[..kept]);
+    buffer
+}
+
 /// A list of writer calls from a fresh writer: each gets the writer and the
 /// buffer that the last one left. Once closed, the datagram is read.
 pub fn calls(rng: &mut Rng) -> Vec<Operation> {
@@ -107,15 +132,9 @@ pub fn calls(rng: &mut Rng) -> Vec<Operation> {
     let length = rng.pick(&[0, 8, 60, 200, 600, 600, 2000]);
     let mut buffer = vec![STALE; length];
     for _ in 0..1 + rng.below(7) {
-        let operation = if rng.once_in(4) {
-            Operation::Close(writer)
-        } else {
-            let kind = if writer.length == 0 && !rng.once_in(3) {
-                rng.pick(&[Kind::Sr, Kind::Rr])
-            } else {
-                kind(rng)
-            };
-            Operation::Add(writer, given(rng, kind), buffer.clone())
+        let operation = match request(rng, writer.length) {
+            None => Operation::Close(writer),
+            Some(given) => Operation::Add(writer, given, buffer.clone()),
         };
         match operation.modelled() {
             Outcome::Added(_, after, left) => (writer, buffer) = (after, left),

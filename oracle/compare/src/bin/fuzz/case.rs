@@ -22,7 +22,7 @@ impl Case {
         }
     }
 
-    /// Every reading, and a write.
+    /// Every reading, a write and a call.
     pub fn operations(&self) -> Vec<Operation> {
         let bytes = || self.bytes.clone();
         let walk = SdesWalk {
@@ -47,11 +47,13 @@ impl Case {
         ];
         operations.extend(Kind::ALL.map(|kind| Operation::ReadAs(kind, bytes())));
         operations.push(Draw(&self.bytes).write());
+        operations.push(Draw(&self.bytes).call());
         operations
     }
 
     /// A run of numbers that are no blocks (no whole number of them, or a
-    /// fraction above 255) gets 24 before anything else.
+    /// fraction above 255) gets 24 before anything else, but for 26 and 29 of a
+    /// writer.
     pub fn other_blocks(&self) -> Option<String> {
         let mut draw = Draw(&self.bytes);
         let numbers: Vec<u32> = draw.many(40, Draw::word);
@@ -73,8 +75,27 @@ impl Case {
             number: 24,
             ..RtcpWritten::default()
         };
-        let right = answers.iter().flatten().all(|answer| *answer == wanted) && *buf == before[..];
-        (!right).then(|| format!("blocks {numbers:?}, padding {padding}: {answers:?}"))
+        let writer = draw.flags();
+        let calls = [
+            rtcp_writer_add_rr(&mut buf, writer, 1, &blocks, padding),
+            rtcp_writer_add_sr(&mut buf, writer, 1, 2, 3, 4, 5, &blocks, padding),
+        ];
+        let turned = RtcpCall {
+            number: match writer {
+                RtcpWriter { closed: 1.., .. } => 26,
+                RtcpWriter { padded: 1.., .. } => 29,
+                _ => 24,
+            },
+            length: writer.length,
+            padded: writer.padded,
+            cname: writer.cname,
+            closed: writer.closed,
+            ..RtcpCall::default()
+        };
+        let right = answers.iter().flatten().all(|answer| *answer == wanted)
+            && calls.iter().flatten().all(|call| *call == turned)
+            && *buf == before[..];
+        (!right).then(|| format!("blocks {numbers:?}, padding {padding}: {answers:?}, {calls:?}"))
     }
 }
 
@@ -238,6 +259,43 @@ impl Draw<'_> {
         let given = self.given(kind);
         let buffer = self.buffer(size(&given));
         Operation::Write(given, buffer)
+    }
+
+    /// Any numbers as a writer's state.
+    fn flags(&mut self) -> RtcpWriter {
+        let mut flag = || match self.byte() % 4 {
+            0 | 1 => 0,
+            2 => 1,
+            _ => self.long(),
+        };
+        RtcpWriter {
+            length: flag(),
+            padded: flag(),
+            cname: flag(),
+            closed: flag(),
+        }
+    }
+
+    /// A call of the compound writer, from any state.
+    fn call(&mut self) -> Operation {
+        let byte = self.byte();
+        let writer = Writer {
+            length: match byte % 8 {
+                0 => 0,
+                1 => self.long(),
+                _ => 4 * self.below(20) as u64,
+            },
+            closed: byte & 0xE0 == 0x20,
+            padded: byte & 0xE0 == 0x40,
+            cname: byte & 0x08 != 0,
+        };
+        let Some(kind) = Kind::ALL.get(usize::from(self.byte()) % 6) else {
+            return Operation::Close(writer);
+        };
+        let given = self.given(*kind);
+        let wanted = size(&given).map(|size| size + writer.length.min(1000));
+        let buffer = self.buffer(wanted);
+        Operation::Add(writer, given, buffer)
     }
 
     fn given(&mut self, kind: Kind) -> Given {

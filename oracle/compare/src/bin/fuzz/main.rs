@@ -3,31 +3,29 @@
 //!     fuzz [COUNT|SECONDSs] [SEED]
 //!
 //! A case is a run of bytes and two numbers. Every reading is asked of it, and
-//! one write whose arguments are drawn from its bytes. An answer must be the
+//! one write and one call whose arguments are drawn from its bytes. An answer must be the
 //! model's, with everything lent in memory that ends at a closed page, and again
 //! in memory that starts at one. A case that brings a refusal, a field or a class
 //! of numbers that was not seen before is kept, and later cases are changes of
-//! kept ones. The first cases are real datagrams (`RTCP_CAPTURES`, a folder of
-//! files as `compare` takes them, default `../shared/captures`; a relative path
-//! counts from the project's root) and random inputs. A difference is printed,
-//! and the exit status is 1.
+//! kept ones. The first cases are real datagrams (`compare::captures`) and random
+//! inputs. A difference is printed, and the exit status is 1.
 
 mod case;
 mod change;
 
 use case::Case;
+use compare::captures::{captures, Capture};
 use compare::generate::{operation, Sort};
 use compare::library::{about_library, watched, Library};
 use compare::operation::Operation;
 use compare::rng::Rng;
 use compare::side::{Model, Side};
-use compare::text::{from_hex, inputs};
+use compare::text::inputs;
 use compare::view::{Value, Verdict, View};
 use library::guard;
 use std::collections::hash_map::DefaultHasher;
 use std::collections::{BTreeMap, HashSet};
 use std::hash::{Hash, Hasher};
-use std::path::Path;
 use std::process::ExitCode;
 use std::time::{Duration, Instant};
 
@@ -106,7 +104,7 @@ impl Until {
 /// Real datagrams with their packets, then random inputs.
 fn first_cases(rng: &mut Rng) -> Vec<Case> {
     let mut cases = Vec::new();
-    for bytes in captures() {
+    for Capture { bytes, .. } in captures().unwrap_or_default() {
         let mut at = 0;
         while let Ok((_, next)) = model::step(&bytes, at) {
             cases.push(Case::of(&bytes[at as usize..next as usize], 0, 0));
@@ -119,25 +117,6 @@ fn first_cases(rng: &mut Rng) -> Vec<Case> {
         cases.extend(case_of(operation(rng, sort)));
     }
     cases
-}
-
-fn captures() -> Vec<Vec<u8>> {
-    let root = Path::new(env!("CARGO_MANIFEST_DIR")).join("../..");
-    let named = std::env::var_os("RTCP_CAPTURES").unwrap_or_else(|| "../shared/captures".into());
-    let Ok(folder) = std::fs::read_dir(root.join(named)) else {
-        return Vec::new();
-    };
-    let mut files: Vec<_> = folder.filter_map(|file| Some(file.ok()?.path())).collect();
-    files.sort();
-    files
-        .iter()
-        .filter(|file| file.extension().is_some_and(|end| end == "hex"))
-        .filter_map(|file| std::fs::read_to_string(file).ok())
-        .flat_map(|text| {
-            let bytes = |line: &str| from_hex(line.rsplit('\t').next().unwrap_or_default());
-            text.lines().map(bytes).collect::<Vec<_>>()
-        })
-        .collect()
 }
 
 fn case_of(operation: Operation) -> Option<Case> {
