@@ -1,9 +1,9 @@
 //! The compound writer's calls.
 
-use crate::write_row::flat;
-use super::writing::{LentItems};
+use super::writing::LentItems;
 use super::{broken, walked, Library};
 use crate::view::View;
+use crate::write_row::flat;
 use library::*;
 use model::{Given, Writer};
 
