@@ -2,7 +2,7 @@
 #include <stdio.h>
 #include <string.h>
 
-#include "rtcp_write.h"
+#include "rtcp.h"
 
 static int failed;
 

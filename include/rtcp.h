@@ -1,0 +1,469 @@
+/* RTCP (RFC 3550): reading and writing SR, RR, SDES, BYE and APP packets, and datagrams of them.
+
+   Link librtcp.a. Every function is total: whatever the arguments, it returns, and reads and writes nothing but what it is lent. Nothing is
+   kept between calls, so calls may run at the same time.
+
+   Lists: a pointer and the number of elements. The pointer may be null where the number is 0. Lists of one call must not overlap buf.
+
+   Answers: number is 0 where the call is done. Else it is a refusal of docs/REFUSALS.md with its details in first and second; then every other
+   number is 0, but a walk and a writer, which are the ones that went in, and a buffer is as it was.
+
+   Parts: an offset and a length in the caller's own bytes. Nothing is copied.
+
+   Steps of reading, in this order; the first that fails is the answer:
+     2(least length, length)   too short for any packet of the kind
+     1(version, 0)             the version is not 2
+     6(type, wanted)           another packet type
+     2(stated, length)         shorter than the length field says
+     3(stated, length)         longer than the length field says
+     4(0, 0)                   bad padding
+   and then what the kind's function names. */
+#ifndef RTCP_H
+#define RTCP_H
+
+#include <stddef.h>
+#include <stdint.h>
+
+#ifdef __cplusplus
+extern "C" {
+#endif
+
+/* ---- reports ---- */
+
+/* A report block. cumulative_lost is the field's 24 bits; reserved is 0. */
+struct RtcpBlock {
+    uint64_t number, first, second;
+    uint32_t ssrc;
+    uint32_t fraction_lost;
+    uint32_t cumulative_lost;
+    uint32_t extended_sequence_number;
+    uint32_t interarrival_jitter;
+    uint32_t last_sender_report_timestamp;
+    uint32_t delay_since_last_sender_report_timestamp;
+    uint32_t reserved;
+};
+
+/* A receiver report: n_reports blocks of 24 bytes from 8 on, then the profile's extension, then the padding. */
+struct RtcpRr {
+    uint64_t number, first, second;
+    uint64_t ssrc;
+    uint64_t n_reports;
+    uint64_t extension;
+    uint64_t extension_len;
+    uint64_t padding;
+    uint64_t padding_len;
+};
+
+/* A sender report: n_reports blocks of 24 bytes from 28 on, then the profile's extension, then the padding. */
+struct RtcpSr {
+    uint64_t number, first, second;
+    uint64_t ssrc;
+    uint64_t ntp_timestamp;
+    uint64_t rtp_timestamp;
+    uint64_t packet_count;
+    uint64_t octet_count;
+    uint64_t n_reports;
+    uint64_t extension;
+    uint64_t extension_len;
+    uint64_t padding;
+    uint64_t padding_len;
+};
+
+/* A lone block. Refusals: 2(24, length), 3(24, length).
+     struct RtcpBlock b = rtcp_block_parse(bytes, 24); */
+struct RtcpBlock rtcp_block_parse(const uint8_t *s, size_t len);
+
+/* A receiver report. Refusals: the steps of reading, then 2(bytes of the blocks, bytes there).
+     struct RtcpRr rr = rtcp_rr_parse(packet, len);
+     if (rr.number == 0) use(rr.ssrc, rr.n_reports); */
+struct RtcpRr rtcp_rr_parse(const uint8_t *s, size_t len);
+
+/* A sender report. Refusals as rtcp_rr_parse.
+     struct RtcpSr sr = rtcp_sr_parse(packet, len); */
+struct RtcpSr rtcp_sr_parse(const uint8_t *s, size_t len);
+
+/* Block i, from 0, of a receiver report. Refusals: those of rtcp_rr_parse, then 25 where there is no such block.
+     for (uint64_t i = 0; i < rr.n_reports; i++) use(rtcp_rr_report_block(packet, len, i)); */
+struct RtcpBlock rtcp_rr_report_block(const uint8_t *s, size_t len, uint64_t i);
+
+/* Block i, from 0, of a sender report. Refusals as rtcp_rr_report_block.
+     use(rtcp_sr_report_block(packet, len, 0)); */
+struct RtcpBlock rtcp_sr_report_block(const uint8_t *s, size_t len, uint64_t i);
+
+/* ---- APP ---- */
+
+/* name is always 8 and name_len 4. */
+struct RtcpApp {
+    uint64_t number, first, second;
+    uint64_t subtype;
+    uint64_t ssrc;
+    uint64_t name;
+    uint64_t name_len;
+    uint64_t data;
+    uint64_t data_len;
+    uint64_t padding;
+    uint64_t padding_len;
+};
+
+/* An APP packet. Refusals: the steps of reading.
+     struct RtcpApp app = rtcp_app_parse(packet, len);
+     if (app.number == 0) use(packet + app.data, app.data_len); */
+struct RtcpApp rtcp_app_parse(const uint8_t *s, size_t len);
+
+/* ---- BYE ---- */
+
+/* has_reason tells no reason (0) from an empty one (1, with reason_len 0). The tail is what follows the reason in the body. */
+struct RtcpBye {
+    uint64_t number, first, second;
+    uint64_t n_sources;
+    uint64_t has_reason;
+    uint64_t reason;
+    uint64_t reason_len;
+    uint64_t tail;
+    uint64_t tail_len;
+    uint64_t padding;
+    uint64_t padding_len;
+};
+
+struct RtcpSource {
+    uint64_t number, first, second;
+    uint64_t ssrc;
+};
+
+/* A BYE packet. Refusals: the steps of reading, then 2 where the sources or the reason reach past the body.
+     struct RtcpBye bye = rtcp_bye_parse(packet, len);
+     if (bye.number == 0 && bye.has_reason) use(packet + bye.reason, bye.reason_len); */
+struct RtcpBye rtcp_bye_parse(const uint8_t *s, size_t len);
+
+/* Source i, from 0. Refusals: those of rtcp_bye_parse, then 25 where there is no such source.
+     for (uint64_t i = 0; i < bye.n_sources; i++) use(rtcp_bye_source(packet, len, i).ssrc); */
+struct RtcpSource rtcp_bye_source(const uint8_t *s, size_t len, uint64_t i);
+
+/* ---- SDES ---- */
+
+/* has_cname is 1 where some chunk has a CNAME item. The chunks lie between 4 and body. */
+struct RtcpSdes {
+    uint64_t number, first, second;
+    uint64_t n_chunks;
+    uint64_t has_cname;
+    uint64_t body;
+    uint64_t padding;
+    uint64_t padding_len;
+};
+
+/* length is the item's own length byte. Only a PRIV item (type 8) has a prefix; else prefix_len is 0. */
+struct RtcpItem {
+    uint64_t number, first, second;
+    uint64_t type_;
+    uint64_t length;
+    uint64_t prefix;
+    uint64_t prefix_len;
+    uint64_t value;
+    uint64_t value_len;
+};
+
+struct RtcpPart {
+    uint64_t number, first, second;
+    uint64_t offset;
+    uint64_t len;
+};
+
+/* length is the bytes that the chunk takes, with its closing zeros; cname the place of its first CNAME item, or 0. */
+struct RtcpChunk {
+    uint64_t number, first, second;
+    uint64_t ssrc;
+    uint64_t length;
+    uint64_t cname;
+};
+
+/* A walk over the chunks of a packet: the place of the next chunk, and the end of the body. */
+struct RtcpChunkWalk {
+    uint64_t number, first, second;
+    uint64_t at;
+    uint64_t end;
+};
+
+/* A chunk, and the walk after it. The chunk's bytes are length bytes from the place that went in. */
+struct RtcpChunkStep {
+    uint64_t number, first, second;
+    uint64_t ssrc;
+    uint64_t length;
+    uint64_t cname;
+    uint64_t at;
+    uint64_t end;
+};
+
+/* A walk over the items of a chunk: the place of the next item, from the chunk's start. */
+struct RtcpItemWalk {
+    uint64_t number, first, second;
+    uint64_t at;
+};
+
+/* An item with its parts counted from the chunk's start, and the walk after it. */
+struct RtcpItemStep {
+    uint64_t number, first, second;
+    uint64_t type_;
+    uint64_t length;
+    uint64_t prefix;
+    uint64_t prefix_len;
+    uint64_t value;
+    uint64_t value_len;
+    uint64_t at;
+};
+
+/* An SDES packet. Refusals: the steps of reading, then those of its chunks, then 3 where bytes follow the last chunk.
+     struct RtcpSdes sdes = rtcp_sdes_parse(packet, len); */
+struct RtcpSdes rtcp_sdes_parse(const uint8_t *s, size_t len);
+
+/* A lone item, at the start of the bytes. Refusals: 2 where it is longer than the bytes, 5(prefix, room) for the prefix of a PRIV item.
+     struct RtcpItem item = rtcp_item_parse(bytes, len); */
+struct RtcpItem rtcp_item_parse(const uint8_t *s, size_t len);
+
+/* The prefix of a lone item. Refusals: those of rtcp_item_parse, then 30(type, 0) where the item is not PRIV.
+     struct RtcpPart prefix = rtcp_item_priv_prefix(bytes, len); */
+struct RtcpPart rtcp_item_priv_prefix(const uint8_t *s, size_t len);
+
+/* A lone chunk, at the start of the bytes. Refusals: 2 where it is cut off or its fill is not zero, and those of its items.
+     struct RtcpChunk chunk = rtcp_chunk_parse(bytes, len); */
+struct RtcpChunk rtcp_chunk_parse(const uint8_t *s, size_t len);
+
+/* Opens a walk over the chunks. Refusals: those of rtcp_sdes_parse.
+     struct RtcpChunkWalk w = rtcp_chunk_walk_open(packet, len);
+     for (uint64_t at = w.at;;) {
+         struct RtcpChunkStep c = rtcp_chunk_walk_step(packet, len, at, w.end);
+         if (c.number != 0) break;
+         use(packet + at, c.length);
+         at = c.at;
+     } */
+struct RtcpChunkWalk rtcp_chunk_walk_open(const uint8_t *s, size_t len);
+
+/* The chunk at a place, for any numbers. Refusals: 25 at or past the end, else those of rtcp_chunk_parse.
+     see rtcp_chunk_walk_open */
+struct RtcpChunkStep rtcp_chunk_walk_step(const uint8_t *s, size_t len, uint64_t at, uint64_t end);
+
+/* Opens a walk over the items of a chunk. Refusals: those of rtcp_chunk_parse.
+     struct RtcpItemWalk w = rtcp_item_walk_open(chunk, length);
+     for (uint64_t at = w.at;;) {
+         struct RtcpItemStep i = rtcp_item_walk_step(chunk, length, at);
+         if (i.number != 0) break;
+         use(i.type_, chunk + i.value, i.value_len);
+         at = i.at;
+     } */
+struct RtcpItemWalk rtcp_item_walk_open(const uint8_t *s, size_t len);
+
+/* The item at a place, for any number. Refusals: 25 at the closing zero and at or past the end, else those of rtcp_item_parse.
+     see rtcp_item_walk_open */
+struct RtcpItemStep rtcp_item_walk_step(const uint8_t *s, size_t len, uint64_t at);
+
+/* ---- datagrams ---- */
+
+struct RtcpCompound {
+    uint64_t number, first, second;
+    uint64_t n_packets;
+};
+
+/* A walk over the packets of a datagram: the place of the next one. */
+struct RtcpWalk {
+    uint64_t number, first, second;
+    uint64_t at;
+};
+
+/* A packet of a datagram: len bytes from offset. Every other place is counted from the packet's start, so that the numbers are those of the
+   function of its kind on these bytes, by which blocks, chunks and sources are read too. Where the kind has no such field it is 0.
+     kind         the packet type 200 to 204, or 0 for any other type
+     count        the low 5 bits: blocks, chunks, sources, or an APP's subtype
+     body         the end of the body, where padding_len bytes of padding start
+     SR, RR       ssrc, the sender's numbers of an SR; the extension lies between extension and body
+     SDES         has_cname
+     BYE          has_reason, reason, reason_len; the tail lies between the reason's end and body
+     APP          ssrc; the name is 4 bytes at 8, the data lie between 12 and body
+     other types  the body's bytes lie between 4 and body
+   at is the place of the next packet. */
+struct RtcpStep {
+    uint64_t number, first, second;
+    uint64_t kind;
+    uint64_t packet_type;
+    uint64_t count;
+    uint64_t offset;
+    uint64_t len;
+    uint64_t body;
+    uint64_t padding_len;
+    uint64_t ssrc;
+    uint64_t ntp_timestamp;
+    uint64_t rtp_timestamp;
+    uint64_t packet_count;
+    uint64_t octet_count;
+    uint64_t extension;
+    uint64_t has_cname;
+    uint64_t has_reason;
+    uint64_t reason;
+    uint64_t reason_len;
+    uint64_t at;
+};
+
+/* A datagram of any length. Refusals, packet by packet: 2(4, left), 1, 2(stated, left), 9 where padding comes before the last packet,
+   7(type, 0) where the first is no report, the packet's own steps; at the end 8 where no chunk has a CNAME.
+     if (rtcp_compound_parse(datagram, len).number == 0) use(datagram, len); */
+struct RtcpCompound rtcp_compound_parse(const uint8_t *s, size_t len);
+
+/* Opens a walk over the packets. Refusals: those of rtcp_compound_parse.
+     struct RtcpWalk w = rtcp_walk_open(datagram, len);
+     if (w.number == 0)
+         for (uint64_t at = w.at;;) {
+             struct RtcpStep p = rtcp_walk_step(datagram, len, at);
+             if (p.number != 0) break;
+             use(p.kind, datagram + p.offset, p.len);
+             at = p.at;
+         } */
+struct RtcpWalk rtcp_walk_open(const uint8_t *s, size_t len);
+
+/* The packet at a place, for any number. Refusals: 25 at or past the end, else those of a packet in rtcp_compound_parse.
+     see rtcp_walk_open */
+struct RtcpStep rtcp_walk_step(const uint8_t *s, size_t len, uint64_t at);
+
+/* ---- writing one packet ----
+
+   A size function says how many bytes a write takes; it refuses what the write refuses, but for 10(size, 0), which the write adds last where buf
+   is too short. Bytes of buf past the size stay as they were.
+
+   blocks: seven numbers for each block, in the order of struct RtcpBlock. 24 where that is no whole number of blocks or a fraction is above 255.
+   padding: bytes of padding; 11(padding, 0) where it is no multiple of 4 or above 252. */
+
+struct RtcpWritten {
+    uint64_t number, first, second;
+    uint64_t size;
+};
+
+/* A receiver report. Refusals: 24, 18(count, 31), 11, 17(loss, 16777215) block by block, 10.
+     struct RtcpWritten w = rtcp_rr_write(buf, sizeof buf, ssrc, NULL, 0, 0);
+     if (w.number == 0) send(buf, w.size); */
+struct RtcpWritten rtcp_rr_write(uint8_t *buf, size_t buf_len, uint32_t ssrc, const uint32_t *blocks, size_t blocks_len, uint64_t padding);
+
+/* The size of a receiver report. Refusals as rtcp_rr_write, without 10.
+     struct RtcpWritten w = rtcp_rr_size(NULL, 0, 0); */
+struct RtcpWritten rtcp_rr_size(const uint32_t *blocks, size_t blocks_len, uint64_t padding);
+
+/* A sender report. Refusals as rtcp_rr_write.
+     rtcp_sr_write(buf, sizeof buf, ssrc, ntp, rtp, packets, octets, NULL, 0, 0); */
+struct RtcpWritten rtcp_sr_write(uint8_t *buf, size_t buf_len, uint32_t ssrc, uint64_t ntp_timestamp, uint32_t rtp_timestamp,
+                                 uint32_t packet_count, uint32_t octet_count, const uint32_t *blocks, size_t blocks_len, uint64_t padding);
+
+/* The size of a sender report. Refusals as rtcp_rr_size.
+     struct RtcpWritten w = rtcp_sr_size(blocks, 7, 0); */
+struct RtcpWritten rtcp_sr_size(const uint32_t *blocks, size_t blocks_len, uint64_t padding);
+
+/* A BYE packet; an empty reason is none. Refusals: 15(count, 31), 11, 16(length, 255), 10.
+     rtcp_bye_write(buf, sizeof buf, &ssrc, 1, NULL, 0, 0); */
+struct RtcpWritten rtcp_bye_write(uint8_t *buf, size_t buf_len, const uint32_t *sources, size_t sources_len, const uint8_t *reason,
+                                  size_t reason_len, uint64_t padding);
+
+/* The size of a BYE packet. Refusals as rtcp_bye_write, without 10.
+     struct RtcpWritten w = rtcp_bye_size(&ssrc, 1, NULL, 0, 0); */
+struct RtcpWritten rtcp_bye_size(const uint32_t *sources, size_t sources_len, const uint8_t *reason, size_t reason_len, uint64_t padding);
+
+/* An APP packet; a name of under 4 bytes is filled with zeros. Refusals: 12(subtype, 31), 13, 14(length, 0), 11, 22, 10.
+     rtcp_app_write(buf, sizeof buf, 0, ssrc, (const uint8_t *)"hall", 4, NULL, 0, 0); */
+struct RtcpWritten rtcp_app_write(uint8_t *buf, size_t buf_len, uint64_t subtype, uint32_t ssrc, const uint8_t *name, size_t name_len,
+                                  const uint8_t *data, size_t data_len, uint64_t padding);
+
+/* The size of an APP packet. Refusals as rtcp_app_write, without 10.
+     struct RtcpWritten w = rtcp_app_size(0, (const uint8_t *)"hall", 4, NULL, 0, 0); */
+struct RtcpWritten rtcp_app_size(uint64_t subtype, const uint8_t *name, size_t name_len, const uint8_t *data, size_t data_len,
+                                 uint64_t padding);
+
+/* A lone item; the prefix is written on a PRIV item (type 8) only. Refusals: 23 for type 0, 21(prefix, 254), 20(length, most), 10.
+     rtcp_item_write(buf, sizeof buf, 1, NULL, 0, (const uint8_t *)"me@hall", 7); */
+struct RtcpWritten rtcp_item_write(uint8_t *buf, size_t buf_len, uint8_t type_, const uint8_t *prefix, size_t prefix_len,
+                                   const uint8_t *value, size_t value_len);
+
+/* The size of a lone item. Refusals as rtcp_item_write, without 10.
+     struct RtcpWritten w = rtcp_item_size(1, NULL, 0, (const uint8_t *)"me@hall", 7); */
+struct RtcpWritten rtcp_item_size(uint8_t type_, const uint8_t *prefix, size_t prefix_len, const uint8_t *value, size_t value_len);
+
+/* A lone chunk. Item i has types[i], prefixes[i] bytes of prefix and values[i] bytes of value; bytes holds the prefix and the value of each item
+   in turn. Refusals: 24 where the lists do not fit together, per item 23, 21, 20, then 22 over 262,140 bytes, 10.
+     uint8_t type = 1; uint64_t prefix = 0, value = 7;
+     rtcp_chunk_write(buf, sizeof buf, ssrc, &type, 1, &prefix, 1, &value, 1, (const uint8_t *)"me@hall", 7); */
+struct RtcpWritten rtcp_chunk_write(uint8_t *buf, size_t buf_len, uint32_t ssrc, const uint8_t *types, size_t types_len,
+                                    const uint64_t *prefixes, size_t prefixes_len, const uint64_t *values, size_t values_len,
+                                    const uint8_t *bytes, size_t bytes_len);
+
+/* The size of a lone chunk. Refusals as rtcp_chunk_write, without 10.
+     struct RtcpWritten w = rtcp_chunk_size(&type, 1, &prefix, 1, &value, 1, bytes, 7); */
+struct RtcpWritten rtcp_chunk_size(const uint8_t *types, size_t types_len, const uint64_t *prefixes, size_t prefixes_len,
+                                   const uint64_t *values, size_t values_len, const uint8_t *bytes, size_t bytes_len);
+
+/* An SDES packet. Chunk k has ssrcs[k] and the next counts[k] of the items, which are lent as in rtcp_chunk_write. Refusals: 24, 19(count, 31),
+   11, per item 23, 21, 20, then 22, 10.
+     uint64_t count = 1;
+     rtcp_sdes_write(buf, sizeof buf, &ssrc, 1, &count, 1, &type, 1, &prefix, 1, &value, 1, (const uint8_t *)"me@hall", 7, 0); */
+struct RtcpWritten rtcp_sdes_write(uint8_t *buf, size_t buf_len, const uint32_t *ssrcs, size_t ssrcs_len, const uint64_t *counts,
+                                   size_t counts_len, const uint8_t *types, size_t types_len, const uint64_t *prefixes,
+                                   size_t prefixes_len, const uint64_t *values, size_t values_len, const uint8_t *bytes,
+                                   size_t bytes_len, uint64_t padding);
+
+/* The size of an SDES packet. Refusals as rtcp_sdes_write, without 10.
+     struct RtcpWritten w = rtcp_sdes_size(NULL, 0, NULL, 0, NULL, 0, NULL, 0, NULL, 0, NULL, 0, 0); */
+struct RtcpWritten rtcp_sdes_size(const uint32_t *ssrcs, size_t ssrcs_len, const uint64_t *counts, size_t counts_len,
+                                  const uint8_t *types, size_t types_len, const uint64_t *prefixes, size_t prefixes_len,
+                                  const uint64_t *values, size_t values_len, const uint8_t *bytes, size_t bytes_len, uint64_t padding);
+
+/* ---- writing a datagram ---- */
+
+/* The compound writer: the length so far, and three flags, set where they are not 0. The caller keeps it and lends the same buffer at each call. */
+struct RtcpWriter {
+    uint64_t length;
+    uint64_t padded;
+    uint64_t cname;
+    uint64_t closed;
+};
+
+/* The writer after the call, with flags of 0 and 1; on a refusal the one that went in. */
+struct RtcpCall {
+    uint64_t number, first, second;
+    struct RtcpWriter writer;
+};
+
+/* A writer of an empty datagram. It is never refused.
+     struct RtcpWriter w = rtcp_writer_new(); */
+struct RtcpWriter rtcp_writer_new(void);
+
+/* Adds a receiver report. Refusals: 26 where it is closed, 29 where a padded packet is in, then those of rtcp_rr_write, 10 with the length so
+   far, 10 with the length and the packet.
+     struct RtcpCall c = rtcp_writer_add_rr(buf, sizeof buf, rtcp_writer_new(), ssrc, NULL, 0, 0); */
+struct RtcpCall rtcp_writer_add_rr(uint8_t *buf, size_t buf_len, struct RtcpWriter writer, uint32_t ssrc, const uint32_t *blocks,
+                                   size_t blocks_len, uint64_t padding);
+
+/* Adds a sender report. Refusals as rtcp_writer_add_rr.
+     c = rtcp_writer_add_sr(buf, sizeof buf, c.writer, ssrc, ntp, rtp, packets, octets, blocks, 7, 0); */
+struct RtcpCall rtcp_writer_add_sr(uint8_t *buf, size_t buf_len, struct RtcpWriter writer, uint32_t ssrc, uint64_t ntp_timestamp,
+                                   uint32_t rtp_timestamp, uint32_t packet_count, uint32_t octet_count, const uint32_t *blocks,
+                                   size_t blocks_len, uint64_t padding);
+
+/* Adds an SDES packet. Refusals: 26, 29, 27 where it would be the first, those of rtcp_sdes_write, 10 as rtcp_writer_add_rr.
+     c = rtcp_writer_add_sdes(buf, sizeof buf, c.writer, &ssrc, 1, &count, 1, &type, 1, &prefix, 1, &value, 1, bytes, 7, 0); */
+struct RtcpCall rtcp_writer_add_sdes(uint8_t *buf, size_t buf_len, struct RtcpWriter writer, const uint32_t *ssrcs, size_t ssrcs_len,
+                                     const uint64_t *counts, size_t counts_len, const uint8_t *types, size_t types_len,
+                                     const uint64_t *prefixes, size_t prefixes_len, const uint64_t *values, size_t values_len,
+                                     const uint8_t *bytes, size_t bytes_len, uint64_t padding);
+
+/* Adds a BYE packet. Refusals: 26, 29, 27, those of rtcp_bye_write, 10 as rtcp_writer_add_rr.
+     c = rtcp_writer_add_bye(buf, sizeof buf, c.writer, &ssrc, 1, NULL, 0, 0); */
+struct RtcpCall rtcp_writer_add_bye(uint8_t *buf, size_t buf_len, struct RtcpWriter writer, const uint32_t *sources, size_t sources_len,
+                                    const uint8_t *reason, size_t reason_len, uint64_t padding);
+
+/* Adds an APP packet. Refusals: 26, 29, 27, those of rtcp_app_write, 10 as rtcp_writer_add_rr.
+     c = rtcp_writer_add_app(buf, sizeof buf, c.writer, 0, ssrc, (const uint8_t *)"hall", 4, NULL, 0, 0); */
+struct RtcpCall rtcp_writer_add_app(uint8_t *buf, size_t buf_len, struct RtcpWriter writer, uint64_t subtype, uint32_t ssrc,
+                                    const uint8_t *name, size_t name_len, const uint8_t *data, size_t data_len, uint64_t padding);
+
+/* Closes the datagram: writer.length bytes of buf. Refusals: 26, 28 where no chunk has a CNAME.
+     c = rtcp_writer_close(c.writer);
+     if (c.number == 0) send(buf, c.writer.length); */
+struct RtcpCall rtcp_writer_close(struct RtcpWriter writer);
+
+#ifdef __cplusplus
+}
+#endif
+
+#endif
