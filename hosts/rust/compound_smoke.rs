@@ -137,17 +137,21 @@ fn step(s: &[u8], at: u64) -> RtcpStep {
     unsafe { rtcp_walk_step(s.as_ptr(), s.len(), at) }
 }
 
-fn main() {
+const DATAGRAM: &[u8] =
+    b"\x80\xC9\0\x01\x11\x22\x33\x44\x81\xCA\0\x03\x11\x22\x33\x44\x01\x03a@b\0\0\0";
+
+fn writes() {
     let mut buf = [0x5A; 32];
     let size = write(&mut buf, 0x11223344, b"a@b").expect("it fits");
-    let datagram = b"\x80\xC9\0\x01\x11\x22\x33\x44\x81\xCA\0\x03\x11\x22\x33\x44\x01\x03a@b\0\0\0";
-    assert_eq!(&buf[..size], datagram);
+    assert_eq!(&buf[..size], DATAGRAM);
     assert_eq!(buf[size..], [0x5A; 8]);
     let short = write(&mut buf[..23], 1, b"a@b").expect_err("a byte is missing");
     assert_eq!((short.number, short.first, short.second), (10, 24, 0));
     assert_eq!(short.writer.length, 8);
+}
 
-    let compound = unsafe { rtcp_compound_parse(datagram.as_ptr(), datagram.len()) };
+fn reads() {
+    let compound = unsafe { rtcp_compound_parse(DATAGRAM.as_ptr(), DATAGRAM.len()) };
     assert_eq!((compound.number, compound.n_packets), (0, 2));
     let rr = RtcpStep {
         kind: 201,
@@ -159,7 +163,7 @@ fn main() {
         at: 8,
         ..RtcpStep::default()
     };
-    assert_eq!(step(datagram, 0), rr);
+    assert_eq!(step(DATAGRAM, 0), rr);
     let sdes = RtcpStep {
         kind: 202,
         packet_type: 202,
@@ -171,12 +175,17 @@ fn main() {
         at: 24,
         ..RtcpStep::default()
     };
-    assert_eq!(step(datagram, 8), sdes);
+    assert_eq!(step(DATAGRAM, 8), sdes);
     let end = RtcpStep {
         number: 25,
         at: 24,
         ..RtcpStep::default()
     };
-    assert_eq!(step(datagram, 24), end);
+    assert_eq!(step(DATAGRAM, 24), end);
+}
+
+fn main() {
+    writes();
+    reads();
     println!("hosts/rust/compound_smoke.rs: as document 01 says");
 }

@@ -57,37 +57,16 @@ pub fn run(count: usize, seed: u64) -> bool {
 fn list(rng: &mut Rng, counts: &mut Counts) -> Result<(), String> {
     let mut book = Book::default();
     let mut writer = rtcp_writer_new().ok_or("no rtcp_writer_new")?;
-    let mut datagram = Vec::new();
     let tame = rng.once_in(2);
     for _ in 0..1 + rng.below(12) {
         let given = drawn(rng, &writer, tame);
         let (call, booked) = match &given {
             None => (rtcp_writer_close(writer), book.turn(&Call::Close)),
-            Some(given) => {
-                let mut before = lent(rng, &datagram, given);
-                if tame && before.len() >= datagram.len() {
-                    before.resize(before.len() + 1000, STALE);
-                }
-                let mut buf = Guarded::new(&before, guard::Side::End);
-                let call = LIBRARY.add(writer, given, &mut buf);
-                let add = Call::Add {
-                    given: given.clone(),
-                    buffer: before.len() as u64,
-                };
-                let booked = book.turn(&add);
-                let wanted = wanted_buffer(&booked, &book, &before);
-                if *buf != wanted[..] {
-                    return Err(format!("{given:?} left {}", hex(&buf)));
-                }
-                (call, booked)
-            }
+            Some(given) => add(rng, &mut book, writer, given, tame)?,
         };
-        let call = call.ok_or("a call is missing")?;
         let closed = booked.is_ok() && given.is_none();
         note(counts, &booked, closed);
-        if booked.is_ok() {
-            datagram = laid(&book);
-        }
+        let call = call.ok_or("a call is missing")?;
         let wanted = wanted_call(&booked, &book, writer);
         if call != wanted {
             return Err(format!(
@@ -96,10 +75,35 @@ fn list(rng: &mut Rng, counts: &mut Counts) -> Result<(), String> {
         }
         writer = call.writer();
         if closed {
-            read_back(&book, &datagram)?;
+            read_back(&book)?;
         }
     }
     Ok(())
+}
+
+/// An add on a buffer that starts with the datagram so far, and what the book says.
+fn add(
+    rng: &mut Rng,
+    book: &mut Book,
+    writer: RtcpWriter,
+    given: &Given,
+    tame: bool,
+) -> Result<(Option<RtcpCall>, Answer<()>), String> {
+    let so_far = laid(book);
+    let mut before = lent(rng, &so_far, given);
+    if tame && before.len() >= so_far.len() {
+        before.resize(before.len() + 1000, STALE);
+    }
+    let mut buf = Guarded::new(&before, guard::Side::End);
+    let call = LIBRARY.add(writer, given, &mut buf);
+    let booked = book.turn(&Call::Add {
+        given: given.clone(),
+        buffer: before.len() as u64,
+    });
+    if *buf != wanted_buffer(&booked, book, &before)[..] {
+        return Err(format!("{given:?} left {}", hex(&buf)));
+    }
+    Ok((call, booked))
 }
 
 /// A call; in a tame list mostly one that is not refused and leaves room for the
@@ -163,11 +167,12 @@ fn note(counts: &mut Counts, booked: &Answer<()>, closed: bool) {
     }
 }
 
-fn read_back(book: &Book, datagram: &[u8]) -> Result<(), String> {
-    let reading = Operation::ReadCompound(datagram.to_vec());
+fn read_back(book: &Book) -> Result<(), String> {
+    let datagram = laid(book);
+    let reading = Operation::ReadCompound(datagram.clone());
     let wanted = View::of(&reading, &Outcome::Packets(Ok(book.packets.clone())));
     match LIBRARY.view(&reading) {
         Some(view) if view.agrees(&wanted) => Ok(()),
-        view => Err(format!("{} reads as {view:?}", hex(datagram))),
+        view => Err(format!("{} reads as {view:?}", hex(&datagram))),
     }
 }

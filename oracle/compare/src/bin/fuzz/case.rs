@@ -80,22 +80,27 @@ impl Case {
             rtcp_writer_add_rr(&mut buf, writer, 1, &blocks, padding),
             rtcp_writer_add_sr(&mut buf, writer, 1, 2, 3, 4, 5, &blocks, padding),
         ];
-        let turned = RtcpCall {
-            number: match writer {
-                RtcpWriter { closed: 1.., .. } => 26,
-                RtcpWriter { padded: 1.., .. } => 29,
-                _ => 24,
-            },
-            length: writer.length,
-            padded: writer.padded,
-            cname: writer.cname,
-            closed: writer.closed,
-            ..RtcpCall::default()
-        };
+        let turned = turned_down(writer);
         let right = answers.iter().flatten().all(|answer| *answer == wanted)
             && calls.iter().flatten().all(|call| *call == turned)
             && *buf == before[..];
         (!right).then(|| format!("blocks {numbers:?}, padding {padding}: {answers:?}, {calls:?}"))
+    }
+}
+
+/// What a report without blocks that fit together gets of a writer.
+fn turned_down(writer: RtcpWriter) -> RtcpCall {
+    RtcpCall {
+        number: match writer {
+            RtcpWriter { closed: 1.., .. } => 26,
+            RtcpWriter { padded: 1.., .. } => 29,
+            _ => 24,
+        },
+        length: writer.length,
+        padded: writer.padded,
+        cname: writer.cname,
+        closed: writer.closed,
+        ..RtcpCall::default()
     }
 }
 
