@@ -1,0 +1,236 @@
+use crate::ffi::{self, between, part};
+use crate::{
+    padding_count, padding_set, size, CompoundWriter, RtcpPacket, RtcpPacketParser,
+    RtcpPacketWriter, RtcpParseError, RtcpWriteError,
+};
+use std::borrow::Cow;
+use std::iter::FusedIterator;
+use std::string::FromUtf8Error;
+
+/// A BYE packet.
+///
+/// ```
+/// use bokyjave::{prelude::*, Bye};
+///
+/// let bye = Bye::parse(&[0x81, 203, 0, 2, 0, 0, 0, 7, 2, b'o', b'k', 0])?;
+/// assert_eq!(bye.ssrcs().collect::<Vec<_>>(), [7]);
+/// assert_eq!(bye.reason(), Some(&b"ok"[..]));
+/// // An empty reason is not the same as none.
+/// assert_eq!(Bye::parse(&[0x80, 203, 0, 1, 0, 0, 0, 0])?.reason(), Some(&b""[..]));
+/// assert_eq!(Bye::parse(&[0x80, 203, 0, 0])?.reason(), None);
+/// # Ok::<(), bokyjave::RtcpParseError>(())
+/// ```
+#[derive(Clone, Copy, Debug, PartialEq, Eq)]
+pub struct Bye<'a> {
+    data: &'a [u8],
+    n_sources: u8,
+    reason: Option<&'a [u8]>,
+    tail: &'a [u8],
+    padding: &'a [u8],
+}
+
+impl RtcpPacket for Bye<'_> {
+    const MIN_PACKET_LEN: usize = 4;
+    const PACKET_TYPE: u8 = 203;
+}
+
+impl<'a> RtcpPacketParser<'a> for Bye<'a> {
+    fn parse(data: &'a [u8]) -> Result<Self, RtcpParseError> {
+        let bye = ffi::rtcp_bye_parse(data).done()?;
+        Ok(Bye {
+            data,
+            n_sources: bye.n_sources as u8,
+            reason: (bye.has_reason != 0).then(|| part(data, bye.reason, bye.reason_len)),
+            tail: part(data, bye.tail, bye.tail_len),
+            padding: part(data, bye.padding, bye.padding_len),
+        })
+    }
+
+    fn bytes(&self) -> &'a [u8] {
+        self.data
+    }
+
+    fn padding_bytes(&self) -> &'a [u8] {
+        self.padding
+    }
+
+    fn low_bits(&self) -> u8 {
+        self.n_sources
+    }
+}
+
+impl<'a> Bye<'a> {
+    pub(crate) fn of_step(data: &'a [u8], step: &ffi::RtcpStep) -> Self {
+        let reason = part(data, step.reason, step.reason_len);
+        Bye {
+            data,
+            n_sources: step.count as u8,
+            reason: (step.has_reason != 0).then_some(reason),
+            tail: between(data, step.reason + step.reason_len, step.body),
+            padding: part(data, step.body, step.padding_len),
+        }
+    }
+
+    /// The number of padding bytes, if the packet is padded.
+    pub fn padding(&self) -> Option<u8> {
+        padding_count(self.padding)
+    }
+
+    /// The sources that leave, one call of the library for each.
+    pub fn ssrcs(&self) -> Sources<'a> {
+        Sources {
+            data: self.data,
+            at: 0,
+            count: self.n_sources,
+        }
+    }
+
+    /// The source with an index from 0; 25 past the last.
+    pub fn source(&self, index: usize) -> Result<u32, RtcpParseError> {
+        let source = ffi::rtcp_bye_source(self.data, index as u64);
+        Ok(source.done()?.ssrc as u32)
+    }
+
+    /// The reason, if there is one. It may be empty.
+    pub fn reason(&self) -> Option<&'a [u8]> {
+        self.reason
+    }
+
+    /// The reason as a string.
+    pub fn get_reason_string(&self) -> Option<Result<String, FromUtf8Error>> {
+        self.reason.map(|reason| String::from_utf8(reason.to_vec()))
+    }
+
+    /// The bytes after the reason.
+    pub fn tail(&self) -> &'a [u8] {
+        self.tail
+    }
+
+    /// A builder for a BYE packet.
+    pub fn builder() -> ByeBuilder<'a> {
+        ByeBuilder {
+            padding: 0,
+            sources: Vec::new(),
+            reason: Cow::Borrowed(&[]),
+        }
+    }
+}
+
+/// The sources of a BYE packet.
+#[derive(Clone, Debug)]
+pub struct Sources<'a> {
+    data: &'a [u8],
+    at: u8,
+    count: u8,
+}
+
+impl Iterator for Sources<'_> {
+    type Item = u32;
+
+    fn next(&mut self) -> Option<u32> {
+        let source = ffi::rtcp_bye_source(self.data, self.at.into());
+        let ssrc = source.done().ok()?.ssrc as u32;
+        self.at += 1;
+        Some(ssrc)
+    }
+
+    fn size_hint(&self) -> (usize, Option<usize>) {
+        let left = usize::from(self.count - self.at);
+        (left, Some(left))
+    }
+}
+
+impl ExactSizeIterator for Sources<'_> {}
+
+impl FusedIterator for Sources<'_> {}
+
+/// A BYE packet to write. An empty reason is not written.
+///
+/// ```
+/// use bokyjave::{prelude::*, Bye};
+///
+/// let mut buf = [0; 16];
+/// let bye = Bye::builder().add_source(0x11223344).reason("ab").padding(4);
+/// assert_eq!(bye.calculate_size(), Ok(16));
+/// assert_eq!(bye.write_into(&mut buf), Ok(16));
+/// assert_eq!(buf, *b"\xA1\xCB\x00\x03\x11\x22\x33\x44\x02ab\x00\x00\x00\x00\x04");
+/// ```
+#[derive(Clone, Debug)]
+#[must_use = "a builder does nothing until it is written"]
+pub struct ByeBuilder<'a> {
+    padding: u8,
+    sources: Vec<u32>,
+    reason: Cow<'a, [u8]>,
+}
+
+/// The bytes of a string.
+fn text<'a>(text: impl Into<Cow<'a, str>>) -> Cow<'a, [u8]> {
+    match text.into() {
+        Cow::Borrowed(text) => Cow::Borrowed(text.as_bytes()),
+        Cow::Owned(text) => Cow::Owned(text.into_bytes()),
+    }
+}
+
+impl<'a> ByeBuilder<'a> {
+    /// The number of padding bytes.
+    pub fn padding(mut self, padding: u8) -> Self {
+        self.padding = padding;
+        self
+    }
+
+    /// Adds a source.
+    pub fn add_source(mut self, source: u32) -> Self {
+        self.sources.push(source);
+        self
+    }
+
+    /// Sets the reason.
+    pub fn reason(mut self, reason: impl Into<Cow<'a, str>>) -> Self {
+        self.reason = text(reason);
+        self
+    }
+
+    /// Sets a reason that need not be text.
+    pub fn reason_bytes(mut self, reason: impl Into<Cow<'a, [u8]>>) -> Self {
+        self.reason = reason.into();
+        self
+    }
+
+    /// Sets the reason, and holds a copy of it.
+    pub fn reason_owned<'b>(self, reason: impl Into<Cow<'b, str>>) -> ByeBuilder<'static> {
+        ByeBuilder {
+            padding: self.padding,
+            sources: self.sources,
+            reason: text(reason).into_owned().into(),
+        }
+    }
+}
+
+impl RtcpPacketWriter for ByeBuilder<'_> {
+    fn calculate_size(&self) -> Result<usize, RtcpWriteError> {
+        size(ffi::rtcp_bye_size(
+            &self.sources,
+            &self.reason,
+            self.padding.into(),
+        ))
+    }
+
+    fn get_padding(&self) -> Option<u8> {
+        padding_set(self.padding)
+    }
+
+    fn write(&self, buf: &mut [u8]) -> Result<usize, RtcpWriteError> {
+        size(ffi::rtcp_bye_write(
+            buf,
+            &self.sources,
+            &self.reason,
+            self.padding.into(),
+        ))
+    }
+
+    fn add_to(&self, writer: &mut CompoundWriter, buf: &mut [u8]) -> Result<(), RtcpWriteError> {
+        writer.call(|state| {
+            ffi::rtcp_writer_add_bye(buf, state, &self.sources, &self.reason, self.padding.into())
+        })
+    }
+}

@@ -1,0 +1,567 @@
+use crate::ffi::{self, between, part};
+use crate::{
+    padding_count, padding_set, size, CompoundWriter, RtcpPacket, RtcpPacketParser,
+    RtcpPacketWriter, RtcpParseError, RtcpWriteError,
+};
+use std::iter::FusedIterator;
+
+/// A sender report.
+///
+/// ```
+/// use bokyjave::{prelude::*, ReportBlock, SenderReport};
+///
+/// let mut buf = [0; 64];
+/// let len = SenderReport::builder(7)
+///     .ntp_timestamp(0x0102030405060708)
+///     .rtp_timestamp(9)
+///     .packet_count(10)
+///     .octet_count(11)
+///     .add_report_block(ReportBlock::builder(12).fraction_lost(13).cumulative_lost(14))
+///     .write_into(&mut buf)?;
+/// let sr = SenderReport::parse(&buf[..len])?;
+/// assert_eq!((sr.ssrc(), sr.ntp_timestamp()), (7, 0x0102030405060708));
+/// assert_eq!((sr.rtp_timestamp(), sr.packet_count(), sr.octet_count()), (9, 10, 11));
+/// assert_eq!(sr.report_blocks().map(|block| block.cumulative_lost()).sum::<u32>(), 14);
+/// # Ok::<(), Box<dyn std::error::Error>>(())
+/// ```
+#[derive(Clone, Copy, Debug, PartialEq, Eq)]
+pub struct SenderReport<'a> {
+    data: &'a [u8],
+    n_reports: u8,
+    ssrc: u32,
+    ntp_timestamp: u64,
+    rtp_timestamp: u32,
+    packet_count: u32,
+    octet_count: u32,
+    extension: &'a [u8],
+    padding: &'a [u8],
+}
+
+impl RtcpPacket for SenderReport<'_> {
+    const MIN_PACKET_LEN: usize = 28;
+    const PACKET_TYPE: u8 = 200;
+}
+
+impl<'a> RtcpPacketParser<'a> for SenderReport<'a> {
+    fn parse(data: &'a [u8]) -> Result<Self, RtcpParseError> {
+        let sr = ffi::rtcp_sr_parse(data).done()?;
+        Ok(SenderReport {
+            data,
+            n_reports: sr.n_reports as u8,
+            ssrc: sr.ssrc as u32,
+            ntp_timestamp: sr.ntp_timestamp,
+            rtp_timestamp: sr.rtp_timestamp as u32,
+            packet_count: sr.packet_count as u32,
+            octet_count: sr.octet_count as u32,
+            extension: part(data, sr.extension, sr.extension_len),
+            padding: part(data, sr.padding, sr.padding_len),
+        })
+    }
+
+    fn bytes(&self) -> &'a [u8] {
+        self.data
+    }
+
+    fn padding_bytes(&self) -> &'a [u8] {
+        self.padding
+    }
+
+    fn low_bits(&self) -> u8 {
+        self.n_reports
+    }
+}
+
+impl<'a> SenderReport<'a> {
+    pub(crate) fn of_step(data: &'a [u8], step: &ffi::RtcpStep) -> Self {
+        SenderReport {
+            data,
+            n_reports: step.count as u8,
+            ssrc: step.ssrc as u32,
+            ntp_timestamp: step.ntp_timestamp,
+            rtp_timestamp: step.rtp_timestamp as u32,
+            packet_count: step.packet_count as u32,
+            octet_count: step.octet_count as u32,
+            extension: between(data, step.extension, step.body),
+            padding: part(data, step.body, step.padding_len),
+        }
+    }
+
+    /// The number of padding bytes, if the packet is padded.
+    pub fn padding(&self) -> Option<u8> {
+        padding_count(self.padding)
+    }
+
+    /// The number of report blocks.
+    pub fn n_reports(&self) -> u8 {
+        self.n_reports
+    }
+
+    /// The SSRC of the sender.
+    pub fn ssrc(&self) -> u32 {
+        self.ssrc
+    }
+
+    /// The NTP time of the report, 32 bits before and 32 after the point.
+    pub fn ntp_timestamp(&self) -> u64 {
+        self.ntp_timestamp
+    }
+
+    /// The RTP time of the report.
+    pub fn rtp_timestamp(&self) -> u32 {
+        self.rtp_timestamp
+    }
+
+    /// The packets sent.
+    pub fn packet_count(&self) -> u32 {
+        self.packet_count
+    }
+
+    /// The octets sent.
+    pub fn octet_count(&self) -> u32 {
+        self.octet_count
+    }
+
+    /// The report blocks, one call of the library for each.
+    pub fn report_blocks(&self) -> ReportBlocks<'a> {
+        ReportBlocks {
+            data: self.data,
+            read: ffi::rtcp_sr_report_block,
+            at: 0,
+            count: self.n_reports,
+        }
+    }
+
+    /// The report block with an index from 0; 25 past the last.
+    pub fn report_block(&self, index: usize) -> Result<ReportBlock, RtcpParseError> {
+        let block = ffi::rtcp_sr_report_block(self.data, index as u64);
+        Ok(ReportBlock::of(block.done()?))
+    }
+
+    /// The bytes after the blocks.
+    pub fn extension(&self) -> &'a [u8] {
+        self.extension
+    }
+
+    /// A builder for a sender report.
+    pub fn builder(ssrc: u32) -> SenderReportBuilder {
+        SenderReportBuilder {
+            ssrc,
+            padding: 0,
+            ntp_timestamp: 0,
+            rtp_timestamp: 0,
+            packet_count: 0,
+            octet_count: 0,
+            blocks: Vec::new(),
+        }
+    }
+}
+
+/// A receiver report.
+///
+/// ```
+/// use bokyjave::{prelude::*, ReceiverReport};
+///
+/// let rr = ReceiverReport::parse(&[0x80, 201, 0, 2, 0, 0, 0, 7, 1, 2, 3, 4])?;
+/// assert_eq!((rr.ssrc(), rr.n_reports(), rr.padding()), (7, 0, None));
+/// assert_eq!(rr.report_blocks().count(), 0);
+/// assert_eq!(rr.extension(), [1, 2, 3, 4]);
+/// # Ok::<(), bokyjave::RtcpParseError>(())
+/// ```
+#[derive(Clone, Copy, Debug, PartialEq, Eq)]
+pub struct ReceiverReport<'a> {
+    data: &'a [u8],
+    n_reports: u8,
+    ssrc: u32,
+    extension: &'a [u8],
+    padding: &'a [u8],
+}
+
+impl RtcpPacket for ReceiverReport<'_> {
+    const MIN_PACKET_LEN: usize = 8;
+    const PACKET_TYPE: u8 = 201;
+}
+
+impl<'a> RtcpPacketParser<'a> for ReceiverReport<'a> {
+    fn parse(data: &'a [u8]) -> Result<Self, RtcpParseError> {
+        let rr = ffi::rtcp_rr_parse(data).done()?;
+        Ok(ReceiverReport {
+            data,
+            n_reports: rr.n_reports as u8,
+            ssrc: rr.ssrc as u32,
+            extension: part(data, rr.extension, rr.extension_len),
+            padding: part(data, rr.padding, rr.padding_len),
+        })
+    }
+
+    fn bytes(&self) -> &'a [u8] {
+        self.data
+    }
+
+    fn padding_bytes(&self) -> &'a [u8] {
+        self.padding
+    }
+
+    fn low_bits(&self) -> u8 {
+        self.n_reports
+    }
+}
+
+impl<'a> ReceiverReport<'a> {
+    pub(crate) fn of_step(data: &'a [u8], step: &ffi::RtcpStep) -> Self {
+        ReceiverReport {
+            data,
+            n_reports: step.count as u8,
+            ssrc: step.ssrc as u32,
+            extension: between(data, step.extension, step.body),
+            padding: part(data, step.body, step.padding_len),
+        }
+    }
+
+    /// The number of padding bytes, if the packet is padded.
+    pub fn padding(&self) -> Option<u8> {
+        padding_count(self.padding)
+    }
+
+    /// The number of report blocks.
+    pub fn n_reports(&self) -> u8 {
+        self.n_reports
+    }
+
+    /// The SSRC of the receiver that reports.
+    pub fn ssrc(&self) -> u32 {
+        self.ssrc
+    }
+
+    /// The report blocks, one call of the library for each.
+    pub fn report_blocks(&self) -> ReportBlocks<'a> {
+        ReportBlocks {
+            data: self.data,
+            read: ffi::rtcp_rr_report_block,
+            at: 0,
+            count: self.n_reports,
+        }
+    }
+
+    /// The report block with an index from 0; 25 past the last.
+    pub fn report_block(&self, index: usize) -> Result<ReportBlock, RtcpParseError> {
+        let block = ffi::rtcp_rr_report_block(self.data, index as u64);
+        Ok(ReportBlock::of(block.done()?))
+    }
+
+    /// The bytes after the blocks.
+    pub fn extension(&self) -> &'a [u8] {
+        self.extension
+    }
+
+    /// A builder for a receiver report.
+    pub fn builder(ssrc: u32) -> ReceiverReportBuilder {
+        ReceiverReportBuilder {
+            ssrc,
+            padding: 0,
+            blocks: Vec::new(),
+        }
+    }
+}
+
+/// A report block: what a receiver says of one source.
+///
+/// ```
+/// use bokyjave::{ReportBlock, RtcpParseError};
+///
+/// let bytes: Vec<u8> = (1..=24).collect();
+/// let block = ReportBlock::parse(&bytes)?;
+/// assert_eq!(block.ssrc(), 0x01020304);
+/// assert_eq!((block.fraction_lost(), block.cumulative_lost()), (5, 0x060708));
+/// assert_eq!(ReportBlock::parse(&bytes[1..]), Err(RtcpParseError::Truncated { expected: 24, actual: 23 }));
+/// # Ok::<(), RtcpParseError>(())
+/// ```
+#[derive(Clone, Copy, Debug, PartialEq, Eq)]
+pub struct ReportBlock {
+    ssrc: u32,
+    fraction_lost: u8,
+    cumulative_lost: u32,
+    extended_sequence_number: u32,
+    interarrival_jitter: u32,
+    last_sender_report_timestamp: u32,
+    delay_since_last_sender_report_timestamp: u32,
+}
+
+impl ReportBlock {
+    /// The bytes of a block.
+    pub const EXPECTED_SIZE: usize = 24;
+
+    fn of(block: ffi::RtcpBlock) -> Self {
+        ReportBlock {
+            ssrc: block.ssrc,
+            fraction_lost: block.fraction_lost as u8,
+            cumulative_lost: block.cumulative_lost,
+            extended_sequence_number: block.extended_sequence_number,
+            interarrival_jitter: block.interarrival_jitter,
+            last_sender_report_timestamp: block.last_sender_report_timestamp,
+            delay_since_last_sender_report_timestamp: block
+                .delay_since_last_sender_report_timestamp,
+        }
+    }
+
+    /// Reads a lone block.
+    pub fn parse(data: &[u8]) -> Result<Self, RtcpParseError> {
+        Ok(Self::of(ffi::rtcp_block_parse(data).done()?))
+    }
+
+    /// The SSRC of the source that the block is about.
+    pub fn ssrc(&self) -> u32 {
+        self.ssrc
+    }
+
+    /// The part of the packets lost since the last report, in 256ths.
+    pub fn fraction_lost(&self) -> u8 {
+        self.fraction_lost
+    }
+
+    /// The packets lost since the beginning, 24 bits.
+    pub fn cumulative_lost(&self) -> u32 {
+        self.cumulative_lost
+    }
+
+    /// The highest sequence number received, with its cycles.
+    pub fn extended_sequence_number(&self) -> u32 {
+        self.extended_sequence_number
+    }
+
+    /// The jitter of the packets' arrival, in RTP time.
+    pub fn interarrival_jitter(&self) -> u32 {
+        self.interarrival_jitter
+    }
+
+    /// The middle 32 bits of the NTP time of the last sender report received.
+    pub fn last_sender_report_timestamp(&self) -> u32 {
+        self.last_sender_report_timestamp
+    }
+
+    /// The time since that report, in 65,536ths of a second.
+    pub fn delay_since_last_sender_report_timestamp(&self) -> u32 {
+        self.delay_since_last_sender_report_timestamp
+    }
+
+    /// A builder for a block about a source.
+    pub fn builder(ssrc: u32) -> ReportBlockBuilder {
+        ReportBlockBuilder {
+            numbers: [ssrc, 0, 0, 0, 0, 0, 0],
+        }
+    }
+}
+
+/// The report blocks of a packet.
+#[derive(Clone, Debug)]
+pub struct ReportBlocks<'a> {
+    data: &'a [u8],
+    read: fn(&[u8], u64) -> ffi::RtcpBlock,
+    at: u8,
+    count: u8,
+}
+
+impl Iterator for ReportBlocks<'_> {
+    type Item = ReportBlock;
+
+    fn next(&mut self) -> Option<ReportBlock> {
+        let block = (self.read)(self.data, self.at.into()).done().ok()?;
+        self.at += 1;
+        Some(ReportBlock::of(block))
+    }
+
+    fn size_hint(&self) -> (usize, Option<usize>) {
+        let left = usize::from(self.count - self.at);
+        (left, Some(left))
+    }
+}
+
+impl ExactSizeIterator for ReportBlocks<'_> {}
+
+impl FusedIterator for ReportBlocks<'_> {}
+
+/// A report block to write.
+#[derive(Clone, Copy, Debug, PartialEq, Eq)]
+#[must_use = "a builder does nothing until it is added to a report"]
+pub struct ReportBlockBuilder {
+    /// The fields in the order of the block, as the library takes them.
+    numbers: [u32; 7],
+}
+
+impl ReportBlockBuilder {
+    /// The part of the packets lost since the last report, in 256ths.
+    pub fn fraction_lost(mut self, fraction_lost: u8) -> Self {
+        self.numbers[1] = fraction_lost.into();
+        self
+    }
+
+    /// The packets lost since the beginning, 24 bits.
+    pub fn cumulative_lost(mut self, cumulative_lost: u32) -> Self {
+        self.numbers[2] = cumulative_lost;
+        self
+    }
+
+    /// The highest sequence number received, with its cycles.
+    pub fn extended_sequence_number(mut self, extended_sequence_number: u32) -> Self {
+        self.numbers[3] = extended_sequence_number;
+        self
+    }
+
+    /// The jitter of the packets' arrival, in RTP time.
+    pub fn interarrival_jitter(mut self, interarrival_jitter: u32) -> Self {
+        self.numbers[4] = interarrival_jitter;
+        self
+    }
+
+    /// The middle 32 bits of the NTP time of the last sender report received.
+    pub fn last_sender_report_timestamp(mut self, last_sender_report_timestamp: u32) -> Self {
+        self.numbers[5] = last_sender_report_timestamp;
+        self
+    }
+
+    /// The time since that report, in 65,536ths of a second.
+    pub fn delay_since_last_sender_report_timestamp(
+        mut self,
+        delay_since_last_sender_report_timestamp: u32,
+    ) -> Self {
+        self.numbers[6] = delay_since_last_sender_report_timestamp;
+        self
+    }
+}
+
+/// A sender report to write.
+#[derive(Clone, Debug)]
+#[must_use = "a builder does nothing until it is written"]
+pub struct SenderReportBuilder {
+    ssrc: u32,
+    padding: u8,
+    ntp_timestamp: u64,
+    rtp_timestamp: u32,
+    packet_count: u32,
+    octet_count: u32,
+    blocks: Vec<u32>,
+}
+
+impl SenderReportBuilder {
+    /// The number of padding bytes.
+    pub fn padding(mut self, padding: u8) -> Self {
+        self.padding = padding;
+        self
+    }
+
+    /// The NTP time of the report.
+    pub fn ntp_timestamp(mut self, ntp_timestamp: u64) -> Self {
+        self.ntp_timestamp = ntp_timestamp;
+        self
+    }
+
+    /// The RTP time of the report.
+    pub fn rtp_timestamp(mut self, rtp_timestamp: u32) -> Self {
+        self.rtp_timestamp = rtp_timestamp;
+        self
+    }
+
+    /// The packets sent.
+    pub fn packet_count(mut self, packet_count: u32) -> Self {
+        self.packet_count = packet_count;
+        self
+    }
+
+    /// The octets sent.
+    pub fn octet_count(mut self, octet_count: u32) -> Self {
+        self.octet_count = octet_count;
+        self
+    }
+
+    /// Adds a report block.
+    pub fn add_report_block(mut self, report_block: ReportBlockBuilder) -> Self {
+        self.blocks.extend(report_block.numbers);
+        self
+    }
+}
+
+impl RtcpPacketWriter for SenderReportBuilder {
+    fn calculate_size(&self) -> Result<usize, RtcpWriteError> {
+        size(ffi::rtcp_sr_size(&self.blocks, self.padding.into()))
+    }
+
+    fn get_padding(&self) -> Option<u8> {
+        padding_set(self.padding)
+    }
+
+    fn write(&self, buf: &mut [u8]) -> Result<usize, RtcpWriteError> {
+        size(ffi::rtcp_sr_write(
+            buf,
+            self.ssrc,
+            self.ntp_timestamp,
+            self.rtp_timestamp,
+            self.packet_count,
+            self.octet_count,
+            &self.blocks,
+            self.padding.into(),
+        ))
+    }
+
+    fn add_to(&self, writer: &mut CompoundWriter, buf: &mut [u8]) -> Result<(), RtcpWriteError> {
+        writer.call(|state| {
+            ffi::rtcp_writer_add_sr(
+                buf,
+                state,
+                self.ssrc,
+                self.ntp_timestamp,
+                self.rtp_timestamp,
+                self.packet_count,
+                self.octet_count,
+                &self.blocks,
+                self.padding.into(),
+            )
+        })
+    }
+}
+
+/// A receiver report to write.
+#[derive(Clone, Debug)]
+#[must_use = "a builder does nothing until it is written"]
+pub struct ReceiverReportBuilder {
+    ssrc: u32,
+    padding: u8,
+    blocks: Vec<u32>,
+}
+
+impl ReceiverReportBuilder {
+    /// The number of padding bytes.
+    pub fn padding(mut self, padding: u8) -> Self {
+        self.padding = padding;
+        self
+    }
+
+    /// Adds a report block.
+    pub fn add_report_block(mut self, report_block: ReportBlockBuilder) -> Self {
+        self.blocks.extend(report_block.numbers);
+        self
+    }
+}
+
+impl RtcpPacketWriter for ReceiverReportBuilder {
+    fn calculate_size(&self) -> Result<usize, RtcpWriteError> {
+        size(ffi::rtcp_rr_size(&self.blocks, self.padding.into()))
+    }
+
+    fn get_padding(&self) -> Option<u8> {
+        padding_set(self.padding)
+    }
+
+    fn write(&self, buf: &mut [u8]) -> Result<usize, RtcpWriteError> {
+        size(ffi::rtcp_rr_write(
+            buf,
+            self.ssrc,
+            &self.blocks,
+            self.padding.into(),
+        ))
+    }
+
+    fn add_to(&self, writer: &mut CompoundWriter, buf: &mut [u8]) -> Result<(), RtcpWriteError> {
+        writer.call(|state| {
+            ffi::rtcp_writer_add_rr(buf, state, self.ssrc, &self.blocks, self.padding.into())
+        })
+    }
+}

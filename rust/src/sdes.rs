@@ -1,0 +1,565 @@
+use crate::ffi::{self, between, part};
+use crate::{
+    padding_count, padding_set, size, CompoundWriter, RtcpPacket, RtcpPacketParser,
+    RtcpPacketWriter, RtcpParseError, RtcpWriteError,
+};
+use std::borrow::Cow;
+use std::iter::FusedIterator;
+use std::string::FromUtf8Error;
+
+/// An SDES packet.
+///
+/// ```
+/// use bokyjave::{prelude::*, Sdes, SdesItem};
+///
+/// let sdes = Sdes::parse(b"\x81\xCA\x00\x03\x11\x22\x33\x44\x01\x03a@b\x00\x00\x00")?;
+/// for chunk in sdes.chunks() {
+///     assert_eq!((chunk.ssrc(), chunk.length()), (0x11223344, 12));
+///     for item in chunk.items() {
+///         assert_eq!((item.type_(), item.value()), (SdesItem::CNAME, &b"a@b"[..]));
+///     }
+/// }
+/// # Ok::<(), bokyjave::RtcpParseError>(())
+/// ```
+#[derive(Clone, Copy, Debug, PartialEq, Eq)]
+pub struct Sdes<'a> {
+    data: &'a [u8],
+    n_chunks: u8,
+    has_cname: bool,
+    body: u64,
+    padding: &'a [u8],
+}
+
+impl RtcpPacket for Sdes<'_> {
+    const MIN_PACKET_LEN: usize = 4;
+    const PACKET_TYPE: u8 = 202;
+}
+
+impl<'a> RtcpPacketParser<'a> for Sdes<'a> {
+    fn parse(data: &'a [u8]) -> Result<Self, RtcpParseError> {
+        let sdes = ffi::rtcp_sdes_parse(data).done()?;
+        Ok(Sdes {
+            data,
+            n_chunks: sdes.n_chunks as u8,
+            has_cname: sdes.has_cname != 0,
+            body: sdes.body,
+            padding: part(data, sdes.padding, sdes.padding_len),
+        })
+    }
+
+    fn bytes(&self) -> &'a [u8] {
+        self.data
+    }
+
+    fn padding_bytes(&self) -> &'a [u8] {
+        self.padding
+    }
+
+    fn low_bits(&self) -> u8 {
+        self.n_chunks
+    }
+}
+
+impl<'a> Sdes<'a> {
+    pub(crate) fn of_step(data: &'a [u8], step: &ffi::RtcpStep) -> Self {
+        Sdes {
+            data,
+            n_chunks: step.count as u8,
+            has_cname: step.has_cname != 0,
+            body: step.body,
+            padding: part(data, step.body, step.padding_len),
+        }
+    }
+
+    /// The number of padding bytes, if the packet is padded.
+    pub fn padding(&self) -> Option<u8> {
+        padding_count(self.padding)
+    }
+
+    /// The number of chunks.
+    pub fn n_chunks(&self) -> u8 {
+        self.n_chunks
+    }
+
+    /// Whether some chunk has a CNAME.
+    pub fn has_cname(&self) -> bool {
+        self.has_cname
+    }
+
+    /// The chunks, one call of the library for each.
+    pub fn chunks(&self) -> Chunks<'a> {
+        Chunks {
+            data: self.data,
+            at: Self::MIN_PACKET_LEN as u64,
+            end: self.body,
+        }
+    }
+
+    /// A builder for an SDES packet.
+    pub fn builder() -> SdesBuilder<'a> {
+        SdesBuilder::default()
+    }
+}
+
+/// The chunks of an SDES packet.
+#[derive(Clone, Debug)]
+pub struct Chunks<'a> {
+    data: &'a [u8],
+    at: u64,
+    end: u64,
+}
+
+impl<'a> Iterator for Chunks<'a> {
+    type Item = SdesChunk<'a>;
+
+    fn next(&mut self) -> Option<SdesChunk<'a>> {
+        let step = ffi::rtcp_chunk_walk_step(self.data, self.at, self.end);
+        let step = step.done().ok()?;
+        let chunk = SdesChunk {
+            data: part(self.data, self.at, step.length),
+            ssrc: step.ssrc as u32,
+            cname: step.cname,
+        };
+        (self.at, self.end) = (step.at, step.end);
+        Some(chunk)
+    }
+}
+
+impl FusedIterator for Chunks<'_> {}
+
+/// A chunk of an SDES packet: a source and what is said of it.
+#[derive(Clone, Copy, Debug, PartialEq, Eq)]
+pub struct SdesChunk<'a> {
+    data: &'a [u8],
+    ssrc: u32,
+    /// The place of the first CNAME, 0 where there is none.
+    cname: u64,
+}
+
+impl<'a> SdesChunk<'a> {
+    /// The bytes before the first item.
+    const MIN_LEN: u64 = 4;
+
+    /// Reads the chunk at the start of the bytes. Its [`length`](Self::length)
+    /// says where it ends.
+    ///
+    /// ```
+    /// use bokyjave::SdesChunk;
+    ///
+    /// let chunk = SdesChunk::parse(b"\x00\x00\x00\x07\x01\x01a\x00next")?;
+    /// assert_eq!((chunk.ssrc(), chunk.length(), chunk.items().count()), (7, 8, 1));
+    /// # Ok::<(), bokyjave::RtcpParseError>(())
+    /// ```
+    pub fn parse(data: &'a [u8]) -> Result<Self, RtcpParseError> {
+        let chunk = ffi::rtcp_chunk_parse(data).done()?;
+        Ok(SdesChunk {
+            data: part(data, 0, chunk.length),
+            ssrc: chunk.ssrc as u32,
+            cname: chunk.cname,
+        })
+    }
+
+    /// The SSRC of the source.
+    pub fn ssrc(&self) -> u32 {
+        self.ssrc
+    }
+
+    /// The bytes that the chunk takes up.
+    pub fn length(&self) -> usize {
+        self.data.len()
+    }
+
+    /// The items, one call of the library for each.
+    pub fn items(&self) -> Items<'a> {
+        Items {
+            data: self.data,
+            at: Self::MIN_LEN,
+        }
+    }
+
+    /// The first CNAME of the chunk.
+    ///
+    /// ```
+    /// use bokyjave::SdesChunk;
+    ///
+    /// let chunk = SdesChunk::parse(b"\x00\x00\x00\x07\x02\x01n\x01\x01c\x00\x00")?;
+    /// assert_eq!(chunk.cname().map(|item| item.value()), Some(&b"c"[..]));
+    /// # Ok::<(), bokyjave::RtcpParseError>(())
+    /// ```
+    pub fn cname(&self) -> Option<SdesItem<'a>> {
+        match self.cname {
+            0 => None,
+            at => Items {
+                data: self.data,
+                at,
+            }
+            .next(),
+        }
+    }
+
+    /// A builder for a chunk about a source.
+    pub fn builder(ssrc: u32) -> SdesChunkBuilder<'a> {
+        SdesChunkBuilder {
+            ssrc,
+            items: Vec::new(),
+        }
+    }
+}
+
+/// The items of a chunk.
+#[derive(Clone, Debug)]
+pub struct Items<'a> {
+    data: &'a [u8],
+    at: u64,
+}
+
+impl<'a> Iterator for Items<'a> {
+    type Item = SdesItem<'a>;
+
+    fn next(&mut self) -> Option<SdesItem<'a>> {
+        let step = ffi::rtcp_item_walk_step(self.data, self.at).done().ok()?;
+        let item = SdesItem {
+            data: between(self.data, self.at, step.at),
+            type_: step.type_ as u8,
+            length: step.length as usize,
+            value: part(self.data, step.value, step.value_len),
+        };
+        self.at = step.at;
+        Some(item)
+    }
+}
+
+impl FusedIterator for Items<'_> {}
+
+/// An item of a chunk.
+#[derive(Clone, Copy, Debug, PartialEq, Eq)]
+pub struct SdesItem<'a> {
+    data: &'a [u8],
+    type_: u8,
+    length: usize,
+    value: &'a [u8],
+}
+
+impl<'a> SdesItem<'a> {
+    /// The name by which a source is known throughout a session.
+    pub const CNAME: u8 = 0x01;
+    /// A name to show.
+    pub const NAME: u8 = 0x02;
+    /// A mail address.
+    pub const EMAIL: u8 = 0x03;
+    /// A phone number.
+    pub const PHONE: u8 = 0x04;
+    /// A place.
+    pub const LOC: u8 = 0x05;
+    /// The program and its version.
+    pub const TOOL: u8 = 0x06;
+    /// A note.
+    pub const NOTE: u8 = 0x07;
+    /// A private item: a prefix and a value.
+    pub const PRIV: u8 = 0x08;
+
+    /// Reads the item at the start of the bytes.
+    ///
+    /// ```
+    /// use bokyjave::SdesItem;
+    ///
+    /// let item = SdesItem::parse(b"\x08\x04\x02abc")?;
+    /// assert_eq!((item.type_(), item.length(), item.value()), (SdesItem::PRIV, 4, &b"c"[..]));
+    /// assert_eq!(item.priv_prefix(), Ok(&b"ab"[..]));
+    /// # Ok::<(), bokyjave::RtcpParseError>(())
+    /// ```
+    pub fn parse(data: &'a [u8]) -> Result<Self, RtcpParseError> {
+        let item = ffi::rtcp_item_parse(data).done()?;
+        Ok(SdesItem {
+            data: between(data, 0, item.value + item.value_len),
+            type_: item.type_ as u8,
+            length: item.length as usize,
+            value: part(data, item.value, item.value_len),
+        })
+    }
+
+    /// The type.
+    pub fn type_(&self) -> u8 {
+        self.type_
+    }
+
+    /// The item's length field: its bytes after the first two.
+    pub fn length(&self) -> usize {
+        self.length
+    }
+
+    /// The value, in PRIV without the prefix.
+    pub fn value(&self) -> &'a [u8] {
+        self.value
+    }
+
+    /// The value as a string.
+    pub fn get_value_string(&self) -> Result<String, FromUtf8Error> {
+        String::from_utf8(self.value.to_vec())
+    }
+
+    /// The prefix of a PRIV item; 30 where it is none.
+    ///
+    /// ```
+    /// use bokyjave::{RtcpParseError, SdesItem};
+    ///
+    /// let item = SdesItem::parse(b"\x01\x01a")?;
+    /// assert_eq!(item.priv_prefix(), Err(RtcpParseError::NotPriv(SdesItem::CNAME)));
+    /// # Ok::<(), RtcpParseError>(())
+    /// ```
+    pub fn priv_prefix(&self) -> Result<&'a [u8], RtcpParseError> {
+        let prefix = ffi::rtcp_item_priv_prefix(self.data).done()?;
+        Ok(part(self.data, prefix.offset, prefix.len))
+    }
+
+    /// The length of the prefix of a PRIV item; 30 where it is none.
+    pub fn priv_prefix_len(&self) -> Result<u8, RtcpParseError> {
+        Ok(self.priv_prefix()?.len() as u8)
+    }
+
+    /// A builder for an item. The value may be text or other bytes.
+    pub fn builder(type_: u8, value: &'a (impl AsRef<[u8]> + ?Sized)) -> SdesItemBuilder<'a> {
+        SdesItemBuilder {
+            type_,
+            prefix: Cow::Borrowed(&[]),
+            value: Cow::Borrowed(value.as_ref()),
+        }
+    }
+}
+
+/// An SDES packet to write.
+///
+/// ```
+/// use bokyjave::{prelude::*, Sdes, SdesChunk, SdesItem};
+///
+/// let name = SdesItem::builder(SdesItem::CNAME, "a@b");
+/// let sdes = Sdes::builder().add_chunk(SdesChunk::builder(0x11223344).add_item(name));
+/// let mut buf = [0; 16];
+/// assert_eq!(sdes.write_into(&mut buf), Ok(16));
+/// assert_eq!(buf, *b"\x81\xCA\x00\x03\x11\x22\x33\x44\x01\x03a@b\x00\x00\x00");
+/// ```
+#[derive(Clone, Debug, Default)]
+#[must_use = "a builder does nothing until it is written"]
+pub struct SdesBuilder<'a> {
+    padding: u8,
+    chunks: Vec<SdesChunkBuilder<'a>>,
+}
+
+impl<'a> SdesBuilder<'a> {
+    /// The number of padding bytes.
+    pub fn padding(mut self, padding: u8) -> Self {
+        self.padding = padding;
+        self
+    }
+
+    /// Adds a chunk.
+    pub fn add_chunk(mut self, chunk: SdesChunkBuilder<'a>) -> Self {
+        self.chunks.push(chunk);
+        self
+    }
+
+    /// The SSRC and the number of items of each chunk, and all items.
+    fn lists(&self) -> (Vec<u32>, Vec<u64>, ItemLists) {
+        let ssrcs = self.chunks.iter().map(|chunk| chunk.ssrc).collect();
+        let counts = self.chunks.iter().map(|chunk| chunk.items.len() as u64);
+        let items = self.chunks.iter().flat_map(|chunk| &chunk.items);
+        (ssrcs, counts.collect(), ItemLists::of(items))
+    }
+}
+
+impl RtcpPacketWriter for SdesBuilder<'_> {
+    fn calculate_size(&self) -> Result<usize, RtcpWriteError> {
+        let (ssrcs, counts, items) = self.lists();
+        size(ffi::rtcp_sdes_size(
+            &ssrcs,
+            &counts,
+            &items.types,
+            &items.prefixes,
+            &items.values,
+            &items.bytes,
+            self.padding.into(),
+        ))
+    }
+
+    fn get_padding(&self) -> Option<u8> {
+        padding_set(self.padding)
+    }
+
+    fn write(&self, buf: &mut [u8]) -> Result<usize, RtcpWriteError> {
+        let (ssrcs, counts, items) = self.lists();
+        size(ffi::rtcp_sdes_write(
+            buf,
+            &ssrcs,
+            &counts,
+            &items.types,
+            &items.prefixes,
+            &items.values,
+            &items.bytes,
+            self.padding.into(),
+        ))
+    }
+
+    fn add_to(&self, writer: &mut CompoundWriter, buf: &mut [u8]) -> Result<(), RtcpWriteError> {
+        let (ssrcs, counts, items) = self.lists();
+        writer.call(|state| {
+            ffi::rtcp_writer_add_sdes(
+                buf,
+                state,
+                &ssrcs,
+                &counts,
+                &items.types,
+                &items.prefixes,
+                &items.values,
+                &items.bytes,
+                self.padding.into(),
+            )
+        })
+    }
+}
+
+/// Items as the library takes them: a type and two lengths for each, and one run
+/// of bytes, prefix then value.
+#[derive(Default)]
+struct ItemLists {
+    types: Vec<u8>,
+    prefixes: Vec<u64>,
+    values: Vec<u64>,
+    bytes: Vec<u8>,
+}
+
+impl ItemLists {
+    fn of<'b, 'a: 'b>(items: impl IntoIterator<Item = &'b SdesItemBuilder<'a>>) -> Self {
+        let mut lists = ItemLists::default();
+        for item in items {
+            lists.types.push(item.type_);
+            lists.prefixes.push(item.prefix.len() as u64);
+            lists.values.push(item.value.len() as u64);
+            lists.bytes.extend_from_slice(&item.prefix);
+            lists.bytes.extend_from_slice(&item.value);
+        }
+        lists
+    }
+}
+
+/// A chunk to write.
+#[derive(Clone, Debug)]
+#[must_use = "a builder does nothing until it is added to a packet or written"]
+pub struct SdesChunkBuilder<'a> {
+    ssrc: u32,
+    items: Vec<SdesItemBuilder<'a>>,
+}
+
+impl<'a> SdesChunkBuilder<'a> {
+    /// Adds an item.
+    pub fn add_item(mut self, item: SdesItemBuilder<'a>) -> Self {
+        self.items.push(item);
+        self
+    }
+
+    /// Adds an item, and holds a copy of what it borrows.
+    pub fn add_item_owned(self, item: SdesItemBuilder<'_>) -> Self {
+        self.add_item(item.into_owned())
+    }
+
+    /// The size of the lone chunk, or why it cannot be written.
+    pub fn calculate_size(&self) -> Result<usize, RtcpWriteError> {
+        let items = ItemLists::of(&self.items);
+        size(ffi::rtcp_chunk_size(
+            &items.types,
+            &items.prefixes,
+            &items.values,
+            &items.bytes,
+        ))
+    }
+
+    /// Writes the lone chunk at the start of the buffer and gives its size.
+    pub fn write_into(&self, buf: &mut [u8]) -> Result<usize, RtcpWriteError> {
+        let items = ItemLists::of(&self.items);
+        size(ffi::rtcp_chunk_write(
+            buf,
+            self.ssrc,
+            &items.types,
+            &items.prefixes,
+            &items.values,
+            &items.bytes,
+        ))
+    }
+}
+
+/// An item to write.
+#[derive(Clone, Debug)]
+#[must_use = "a builder does nothing until it is added to a chunk or written"]
+pub struct SdesItemBuilder<'a> {
+    type_: u8,
+    prefix: Cow<'a, [u8]>,
+    value: Cow<'a, [u8]>,
+}
+
+impl<'a> SdesItemBuilder<'a> {
+    /// The prefix of a PRIV item. Another item is written without it.
+    pub fn prefix(mut self, prefix: impl Into<Cow<'a, [u8]>>) -> Self {
+        self.prefix = prefix.into();
+        self
+    }
+
+    /// The size of the lone item, or why it cannot be written.
+    pub fn calculate_size(&self) -> Result<usize, RtcpWriteError> {
+        size(ffi::rtcp_item_size(self.type_, &self.prefix, &self.value))
+    }
+
+    /// Writes the lone item at the start of the buffer and gives its size.
+    ///
+    /// ```
+    /// use bokyjave::SdesItem;
+    ///
+    /// let mut buf = [0; 7];
+    /// let item = SdesItem::builder(SdesItem::PRIV, "abc").prefix(&b"p"[..]);
+    /// assert_eq!(item.write_into(&mut buf), Ok(7));
+    /// assert_eq!(buf, *b"\x08\x05\x01pabc");
+    /// ```
+    pub fn write_into(&self, buf: &mut [u8]) -> Result<usize, RtcpWriteError> {
+        size(ffi::rtcp_item_write(
+            buf,
+            self.type_,
+            &self.prefix,
+            &self.value,
+        ))
+    }
+
+    /// The same item with copies of what it borrows.
+    pub fn into_owned(self) -> SdesItemBuilder<'static> {
+        SdesItemBuilder {
+            type_: self.type_,
+            prefix: self.prefix.into_owned().into(),
+            value: self.value.into_owned().into(),
+        }
+    }
+}
+
+#[cfg(test)]
+mod tests {
+    use super::*;
+    use crate::ffi::open::{rtcp_chunk_walk_open, rtcp_item_walk_open};
+
+    #[test]
+    fn walks_start_where_the_library_opens_them() {
+        let packets: [&[u8]; 4] = [
+            b"\x80\xCA\x00\x00",
+            b"\xA0\xCA\x00\x01\x00\x00\x00\x04",
+            b"\x81\xCA\x00\x03\x11\x22\x33\x44\x01\x03a@b\x00\x00\x00",
+            b"\xA2\xCA\x00\x06\x00\x00\x00\x01\x01\x01a\x00\x00\x00\x00\x02\x00\x00\x00\x00\x00\x00\x00\x00\x00\x00\x00\x08",
+        ];
+        for packet in packets {
+            let sdes = Sdes::parse(packet).expect("an SDES packet");
+            let opened = rtcp_chunk_walk_open(packet).done().expect("a walk");
+            let chunks = sdes.chunks();
+            assert_eq!((chunks.at, chunks.end), (opened.at, opened.end));
+            assert_eq!(chunks.clone().count(), usize::from(sdes.n_chunks()));
+            for chunk in chunks {
+                let opened = rtcp_item_walk_open(chunk.data).done().expect("a walk");
+                assert_eq!(chunk.items().at, opened.at);
+                assert_eq!(SdesChunk::parse(chunk.data), Ok(chunk));
+            }
+        }
+    }
+}
