@@ -1,0 +1,25 @@
+# `make` builds the static library, `make install` puts it, its header and rtcp.pc under PREFIX, with DESTDIR before it.
+PREFIX ?= /usr/local
+DESTDIR ?=
+VERSION := $(shell sed -n 's/^version = "\(.*\)"/\1/p' rust/Cargo.toml)
+ARCHIVE := target/staticlib/librtcp.a
+
+.PHONY: all install uninstall
+
+all:
+	rt staticlib rtcp
+
+# Only where there is none: an install need not have the toolchain.
+$(ARCHIVE):
+	rt staticlib rtcp
+
+install: $(ARCHIVE)
+	install -d "$(DESTDIR)$(PREFIX)/lib/pkgconfig" "$(DESTDIR)$(PREFIX)/include"
+	install -m 644 $(ARCHIVE) "$(DESTDIR)$(PREFIX)/lib"
+	install -m 644 include/rtcp.h "$(DESTDIR)$(PREFIX)/include"
+	sed -e "s|@PREFIX@|$(PREFIX)|" -e "s|@VERSION@|$(VERSION)|" rtcp.pc.in >"$(DESTDIR)$(PREFIX)/lib/pkgconfig/rtcp.pc"
+	chmod 644 "$(DESTDIR)$(PREFIX)/lib/pkgconfig/rtcp.pc"
+
+uninstall:
+	rm -f "$(DESTDIR)$(PREFIX)/lib/librtcp.a" "$(DESTDIR)$(PREFIX)/lib/pkgconfig/rtcp.pc"
+	rm -f "$(DESTDIR)$(PREFIX)/include/rtcp.h"
