@@ -476,3 +476,75 @@ fn parts_are_the_callers_own_bytes() {
     };
     assert!(std::ptr::eq(value, &data[10..13]));
 }
+
+#[test]
+fn bytes_after_a_lone_part_are_not_its_own() {
+    let chunk = bytes("00 00 00 07 01 01 61 00");
+    let after = [&chunk[..], &[1, 2, 3]].concat();
+    let read = SdesChunk::parse(&after).expect("a chunk");
+    assert_eq!(read.length(), 8);
+    assert_eq!(Ok(read), SdesChunk::parse(&chunk));
+    let item = bytes("08 03 01 61 62");
+    let after = [&item[..], &[1, 2, 3]].concat();
+    let read = SdesItem::parse(&after).expect("an item");
+    assert_eq!((read.length(), read.value()), (3, &b"b"[..]));
+    assert_eq!(Ok(read), SdesItem::parse(&item));
+}
+
+#[test]
+fn an_index_and_an_iterator_give_the_same() {
+    let blocks = || (1..=3).map(ReportBlock::builder);
+    let rr = blocks().fold(ReceiverReport::builder(7), |rr, b| rr.add_report_block(b));
+    let sr = blocks().fold(SenderReport::builder(7), |sr, b| sr.add_report_block(b));
+    let bye = (1..=3).fold(Bye::builder(), |bye, i| bye.add_source(i));
+    let (rr, sr, bye) = (written(&rr), written(&sr), written(&bye));
+    let rr = ReceiverReport::parse(&rr).expect("an RR");
+    let sr = SenderReport::parse(&sr).expect("an SR");
+    let bye = Bye::parse(&bye).expect("a BYE packet");
+    let (mut in_rr, mut in_sr, mut in_bye) = (rr.report_blocks(), sr.report_blocks(), bye.ssrcs());
+    for (i, ssrc) in (1..=3).enumerate() {
+        let left = 3 - i;
+        assert_eq!((in_rr.len(), in_sr.len(), in_bye.len()), (left, left, left));
+        assert_eq!(rr.report_block(i).ok(), in_rr.next());
+        assert_eq!(sr.report_block(i).ok(), in_sr.next());
+        assert_eq!(bye.source(i).ok(), in_bye.next());
+        assert_eq!(rr.report_block(i).map(|block| block.ssrc()), Ok(ssrc));
+        assert_eq!(sr.report_block(i).map(|block| block.ssrc()), Ok(ssrc));
+        assert_eq!(bye.source(i), Ok(ssrc));
+    }
+    assert_eq!(
+        (in_rr.next(), in_sr.next(), in_bye.next()),
+        (None, None, None)
+    );
+}
+
+#[test]
+fn a_walk_tells_an_empty_reason_from_none() {
+    let packets = [RR, CNAME, "80 CB 00 01 00 00 00 00", "80 CB 00 00"];
+    let datagram: Vec<u8> = packets.iter().flat_map(|packet| bytes(packet)).collect();
+    let compound = Compound::parse(&datagram).expect("a datagram");
+    let reasons: Vec<Option<&[u8]>> = compound
+        .filter_map(|packet| match packet {
+            Ok(Packet::Bye(bye)) => Some(bye.reason()),
+            _ => None,
+        })
+        .collect();
+    assert_eq!(reasons, [Some(&[][..]), None]);
+}
+
+#[test]
+fn owned_parts_are_the_same() {
+    let (bye, sdes) = {
+        let text = String::from("text");
+        let item = SdesItem::builder(SdesItem::PRIV, &text).prefix(text.as_bytes());
+        let chunk = SdesChunk::builder(1).add_item_owned(item);
+        (
+            Bye::builder().reason_owned(&text),
+            Sdes::builder().add_chunk(chunk),
+        )
+    };
+    assert_eq!(written(&bye), written(&Bye::builder().reason("text")));
+    let item = SdesItem::builder(SdesItem::PRIV, "text").prefix(&b"text"[..]);
+    let borrowed = Sdes::builder().add_chunk(SdesChunk::builder(1).add_item(item));
+    assert_eq!(written(&sdes), written(&borrowed));
+}
