@@ -20,13 +20,10 @@ fn main() {
     println!("cargo::rustc-link-lib=static=rtcp");
 }
 
-/// The folder of the archive: the one named, else where the project builds it.
+/// The folder of the archive: the one named, else where the project builds it. A
+/// relative path counts from this package.
 fn folder() -> PathBuf {
-    match env::var_os("RTCP_LIB_DIR") {
-        Some(named) => named.into(),
-        None => {
-            let package = env::var_os("CARGO_MANIFEST_DIR").expect("cargo sets CARGO_MANIFEST_DIR");
-            Path::new(&package).join("../target/staticlib")
-        }
-    }
+    let package = env::var_os("CARGO_MANIFEST_DIR").expect("cargo sets CARGO_MANIFEST_DIR");
+    let named = env::var_os("RTCP_LIB_DIR").unwrap_or_else(|| "../target/staticlib".into());
+    Path::new(&package).join(named)
 }

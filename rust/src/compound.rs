@@ -75,7 +75,17 @@ impl<'a> Iterator for Compound<'a> {
 
 impl FusedIterator for Compound<'_> {}
 
-/// A packet of any kind.
+/// A packet of any kind: one of a datagram, or a lone one of the five kinds.
+///
+/// ```
+/// use bokyjave::{prelude::*, Packet, RtcpParseError};
+///
+/// let packet = Packet::parse(&[0x81, 203, 0, 1, 0, 0, 0, 7])?;
+/// assert_eq!((packet.type_(), packet.length()), (203, 8));
+/// let Packet::Bye(bye) = packet else { panic!("not a BYE packet") };
+/// assert_eq!(bye.ssrcs().next(), Some(7));
+/// # Ok::<(), RtcpParseError>(())
+/// ```
 #[derive(Clone, Copy, Debug, PartialEq, Eq)]
 pub enum Packet<'a> {
     /// An APP packet.
@@ -95,12 +105,12 @@ pub enum Packet<'a> {
 impl<'a> Packet<'a> {
     fn of_step(datagram: &'a [u8], step: &ffi::RtcpStep) -> Self {
         let data = part(datagram, step.offset, step.len);
-        match step.kind {
-            200 => Packet::Sr(SenderReport::of_step(data, step)),
-            201 => Packet::Rr(ReceiverReport::of_step(data, step)),
-            202 => Packet::Sdes(Sdes::of_step(data, step)),
-            203 => Packet::Bye(Bye::of_step(data, step)),
-            204 => Packet::App(App::of_step(data, step)),
+        match step.kind as u8 {
+            SenderReport::PACKET_TYPE => Packet::Sr(SenderReport::of_step(data, step)),
+            ReceiverReport::PACKET_TYPE => Packet::Rr(ReceiverReport::of_step(data, step)),
+            Sdes::PACKET_TYPE => Packet::Sdes(Sdes::of_step(data, step)),
+            Bye::PACKET_TYPE => Packet::Bye(Bye::of_step(data, step)),
+            App::PACKET_TYPE => Packet::App(App::of_step(data, step)),
             _ => Packet::Unknown(Unknown::of_step(data, step)),
         }
     }

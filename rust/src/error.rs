@@ -343,6 +343,7 @@ macro_rules! errors {
             }
         }
 
+        #[doc(hidden)]
         impl From<Refusal> for $name {
             /// The case of the number, where it has room for the details.
             fn from(refusal: Refusal) -> Self {

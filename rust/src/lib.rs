@@ -223,3 +223,8 @@ fn padding_set(padding: u8) -> Option<u8> {
 fn size(written: ffi::RtcpWritten) -> Result<usize, RtcpWriteError> {
     Ok(written.done()?.size as usize)
 }
+
+/// Runs the examples of README.md.
+#[cfg(doctest)]
+#[doc = include_str!("../README.md")]
+struct Readme;

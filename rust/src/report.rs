@@ -519,6 +519,15 @@ impl RtcpPacketWriter for SenderReportBuilder {
 }
 
 /// A receiver report to write.
+///
+/// ```
+/// use bokyjave::{prelude::*, ReceiverReport, ReportBlock, RtcpWriteError};
+///
+/// let lost = |lost| ReceiverReport::builder(7).add_report_block(ReportBlock::builder(8).cumulative_lost(lost));
+/// assert_eq!(lost(0xFFFFFF).calculate_size(), Ok(32));
+/// let refused = RtcpWriteError::CumulativeLostTooLarge { value: 0x1000000, max: 0xFFFFFF };
+/// assert_eq!(lost(0x1000000).calculate_size(), Err(refused));
+/// ```
 #[derive(Clone, Debug)]
 #[must_use = "a builder does nothing until it is written"]
 pub struct ReceiverReportBuilder {

@@ -441,7 +441,16 @@ impl ItemLists {
     }
 }
 
-/// A chunk to write.
+/// A chunk to write, in a packet or alone.
+///
+/// ```
+/// use bokyjave::{SdesChunk, SdesItem};
+///
+/// let chunk = SdesChunk::builder(7).add_item(SdesItem::builder(SdesItem::NOTE, "a"));
+/// let mut buf = [0; 8];
+/// assert_eq!(chunk.write_into(&mut buf), Ok(8));
+/// assert_eq!(buf, [0, 0, 0, 7, 7, 1, b'a', 0]);
+/// ```
 #[derive(Clone, Debug)]
 #[must_use = "a builder does nothing until it is added to a packet or written"]
 pub struct SdesChunkBuilder<'a> {

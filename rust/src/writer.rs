@@ -136,6 +136,14 @@ impl<'a> CompoundBuilder<'a> {
 }
 
 /// A packet of any of the five kinds to write.
+///
+/// ```
+/// use bokyjave::{prelude::*, App, Bye, PacketBuilder};
+///
+/// let packets: [PacketBuilder; 2] = [Bye::builder().into(), App::builder(7, "name").into()];
+/// let sizes = packets.iter().map(|packet| packet.calculate_size());
+/// assert_eq!(sizes.sum::<Result<usize, _>>(), Ok(16));
+/// ```
 #[derive(Clone, Debug)]
 #[must_use = "a builder does nothing until it is written"]
 pub enum PacketBuilder<'a> {
