@@ -439,7 +439,14 @@ fn packets_of_any_kind() {
         assert_eq!(App::try_from(packet).map(Packet::from).is_ok(), kind == 204);
     }
     assert_eq!(unread(Packet::parse(&[0x80, 205, 0, 0])), (6, 205, 203));
-    assert_eq!(unread(Packet::parse(&[0x80, 200, 0])), (2, 4, 3));
+    for kind in 200..=204 {
+        assert_eq!(unread(Packet::parse(&[0x80, kind, 0])), (2, 4, 3));
+    }
+    let data = bytes(CNAME);
+    let packet = Packet::parse(&data).expect("an SDES packet");
+    assert_eq!(unread(packet.try_as::<Bye>()), (6, 202, 203));
+    assert_eq!(unread(App::try_from(&packet)), (6, 202, 204));
+    assert_eq!(unread(SenderReport::try_from(packet)), (2, 28, 16));
 }
 
 #[test]
@@ -449,6 +456,8 @@ fn a_packet_of_another_type() {
     let last = Compound::parse(&datagram).expect("a datagram").last();
     let packet = last.expect("a last packet").expect("a packet");
     assert_eq!((packet.type_(), packet.is_unknown()), (205, true));
+    assert_eq!((packet.count(), packet.length()), (15, 12));
+    assert_eq!((packet.padding(), packet.bytes()), (Some(4), &unknown[..]));
     let Packet::Unknown(packet) = packet else {
         panic!("{packet:?}");
     };
@@ -547,4 +556,41 @@ fn owned_parts_are_the_same() {
     let item = SdesItem::builder(SdesItem::PRIV, "text").prefix(&b"text"[..]);
     let borrowed = Sdes::builder().add_chunk(SdesChunk::builder(1).add_item(item));
     assert_eq!(written(&sdes), written(&borrowed));
+}
+
+/// The constants are those by which the library refuses.
+#[test]
+fn constants() {
+    fn least<'a, P: RtcpPacketParser<'a> + std::fmt::Debug>() {
+        let refused = (2, P::MIN_PACKET_LEN as u64, 0);
+        assert_eq!(unread(P::parse(&[])), refused);
+    }
+    fn of_kind<'a, P: RtcpPacketParser<'a> + std::fmt::Debug>() {
+        least::<P>();
+        let refused = unread(P::parse(&[0x80; 28]));
+        assert_eq!(refused, (6, 0x80, P::PACKET_TYPE.into()));
+        assert_eq!((P::VERSION, P::MAX_COUNT), (2, 31));
+    }
+    of_kind::<SenderReport>();
+    of_kind::<ReceiverReport>();
+    of_kind::<Sdes>();
+    of_kind::<Bye>();
+    of_kind::<App>();
+    least::<Packet>();
+    let block = (2, ReportBlock::EXPECTED_SIZE as u64, 0);
+    assert_eq!(unread(ReportBlock::parse(&[])), block);
+    let name = [b'n'; App::NAME_LEN + 1];
+    assert_eq!(App::builder(1, &name[1..]).calculate_size(), Ok(12));
+    assert_eq!(unwritten(&App::builder(1, &name)), (13, 0, 0));
+    let types = [
+        SdesItem::CNAME,
+        SdesItem::NAME,
+        SdesItem::EMAIL,
+        SdesItem::PHONE,
+        SdesItem::LOC,
+        SdesItem::TOOL,
+        SdesItem::NOTE,
+        SdesItem::PRIV,
+    ];
+    assert_eq!(types, [1, 2, 3, 4, 5, 6, 7, 8]);
 }
