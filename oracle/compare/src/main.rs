@@ -24,6 +24,9 @@ use std::process::ExitCode;
 /// Differences printed in full.
 const SHOWN: usize = 20;
 
+/// Inputs from one line of progress to the next.
+const PROGRESS: usize = 2_000_000;
+
 fn main() -> ExitCode {
     let mut arguments = std::env::args().skip(1);
     let mut number = |default: u64| {
@@ -187,6 +190,9 @@ impl Comparison {
 
     fn count(&mut self, operation: &Operation, model: &View, rows: Option<Rows>, equal: bool) {
         self.inputs += 1;
+        if self.inputs % PROGRESS == 0 {
+            eprintln!("{} inputs, {} differences", self.inputs, self.unexplained);
+        }
         self.equal_inputs += usize::from(equal);
         let counts = self.counts.entry(operation.name()).or_default();
         counts.inputs += 1;
