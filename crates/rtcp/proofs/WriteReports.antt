@@ -17,11 +17,10 @@ use Rattle.rfc3550.specs.Write.{Given, giveReport, ownTests, calculateSize, roo
 use Rattle.rfc3550.proofs.Answer.{and-inv, need-inv, ok-injective}
 use Rattle.utils.specs.Writer.{writtenOf}
 use Rattle.utils.specs.declared.writer.Written.{Written}
-use Rattle.utils.proofs.WriterPackets.{size-refused}
 use Rattle.report.specs.declared.«report_block».ReportBlock.{ReportBlock}
 use Rattle.report_write.specs.declared.«report_block».Run.{Run}
 use Rattle.report_write.specs.Report.{noBlock, blockOf, held, blocksIn}
-use Rattle.report_write.proofs.Reports.{length-blocksIn}
+use Rattle.report_write.proofs.Runs as runs
 use Rattle.rtcp.specs.WriteResult.{writtenOut, handedOut}
 use Rattle.rtcp.specs.WriteReport.{flatBlock, blocksFrom, fractionsIn, blocksLent, flatOk, flatBlocks, sizeBlocks, writeBlocks, BlockThere, Gathered}
 use Rattle.rtcp.specs.declared.write_result.RtcpWritten.{RtcpWritten}
@@ -136,37 +135,18 @@ module _ (xs : List ℕ) (n : ℕ) (bs : List ReportBlock) where
 -- ---- a report of gathered blocks, over the reporter
 
 module _ (r : Reporter) (k : ℕ) where
-  over : (bs : List Block) → 31 < length bs → refused (refusal 18 (length bs) 31) ≡ calculateSize (giveReport r bs k)
-  unfolding ownTests need _>>_
-  over bs h = size-refused (giveReport r bs k) (simp (lt-leb _ _ h))
-
-  turned : (bs l : List _) {x : _} → refused x ≡ calculateSize (giveReport r bs k) → write (giveReport r bs k) l ≡ (refused x, l)
-  unfolding write room _>>=_
-  turned bs l e = simp (← e)
-
   module _ (xs : List ℕ) (run : Run) (g : Gathered xs run) where
-    -- the run's blocks are the lent ones, or both are too many and as many
+    pub as-many : run .len ≡ length (blocksLent xs)
+    as-many = g .count ∙ sym (length-blocksFrom (length xs / 7) xs)
+
     pub same-run : {B : Type 0} (f : List Block → B) → ((bs cs : List Block) → 31 < length bs → length bs ≡ length cs → f bs ≡ f cs) → f (blocksIn run) ≡ f (blocksLent xs)
-    same-run f many = go (leb (run .len) 31) refl
-      where
-        go : (t : Bool) → leb (run .len) 31 ≡ t → f (blocksIn run) ≡ f (blocksLent xs)
-        go true e = ap f (g .blocks (leb-true _ _ e))
-        go false e =
-            let n = leb-false (run .len) 31 e in
-            let a = length-blocksIn run in
-            let b = length-blocksFrom (length xs / 7) xs in
-            let c = g .count in
-            many (blocksIn run) (blocksLent xs) (omega arith) (a ∙ c ∙ sym b)
+    same-run f many = runs.same-run run (blocksLent xs) as-many (g .blocks) f many
 
     run-size : calculateSize (giveReport r (blocksIn run) k) ≡ calculateSize (giveReport r (blocksLent xs) k)
-    run-size =
-        same-run (λ (bs : List Block). calculateSize (giveReport r bs k))
-        (λ bs cs h e. sym (over bs h) ∙ ap (λ (n : ℕ). refused (refusal 18 n 31)) e ∙ over cs (rw (← e) h))
+    run-size = runs.run-size run (blocksLent xs) as-many (g .blocks) r k
 
     run-write : (l : List ℕ) → write (giveReport r (blocksIn run) k) l ≡ write (giveReport r (blocksLent xs) k) l
-    run-write l =
-        same-run (λ (bs : List Block). write (giveReport r bs k) l)
-        (λ bs cs h e. turned bs l (over bs h) ∙ ap (λ (n : ℕ). (refused (refusal 18 n 31), l)) e ∙ sym (turned cs l (over cs (rw (← e) h))))
+    run-write l = runs.run-write run (blocksLent xs) as-many (g .blocks) r k l
 
 -- ---- what C gets
 
