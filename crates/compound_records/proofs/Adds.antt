@@ -1,12 +1,12 @@
 -- A report added by whoever reports, and the run that answers for the blocks lent.
 use Prim.Native.Nat.{ℕ, _<_}
-use mathlib.Core.Path.{_≡_, refl, sym, ap, _∙_}
+use mathlib.Core.Path.{_≡_, refl, sym, _∙_}
 use mathlib.Core.Bool.{Bool, true, false, _||_, not}
 use mathlib.Core.List.{List}
 use borrow.Author.Needs.{needs}
 use lib.ListN.{length}
 use lib.Dec.{ltb}
-use Rattle.rfc3550.specs.Answer.{Answer, Refusal, refusal, ok, refused, need, _>>_}
+use Rattle.rfc3550.specs.Answer.{Answer, Refusal, refusal, refused, need, _>>_}
 use Rattle.rfc3550.specs.Packet.{Block, Reporter, type, isReport, receiver}
 use Rattle.rfc3550.specs.Write.{Given, giveReport, contentGiven}
 use Rattle.rfc3550.specs.Writer.{Writer, add, addTests, call}

@@ -1,11 +1,11 @@
 -- A report by whoever reports, the run that holds the blocks lent, and what is answered of either.
 use Prim.Native.Nat.{ℕ, zero, suc, _+_, _<_, _≤_, min}
-use mathlib.Core.Path.{_≡_, refl, sym, ap, _∙_, subst}
-use mathlib.Core.List.{List, [], _∷_, map}
+use mathlib.Core.Path.{_≡_, refl, sym, ap, _∙_}
+use mathlib.Core.List.{List, [], _∷_}
 use native.Mathlib.Nat.{not-suc-le-zero, le-of-suc-le-suc}
 use native.Mathlib.Omega.{arith}
 use borrow.Author.Needs.{needs}
-use lib.ListN.{length, getD, take, drop, set, length-map}
+use lib.ListN.{length, getD, take, set, length-map}
 use Rattle.rfc3550.specs.Packet as rfc
 use Rattle.rfc3550.specs.Write.{giveReport, calculateSize, write}
 use Rattle.utils.specs.Writer.{writtenOf}
@@ -16,7 +16,7 @@ use Rattle.report_write.specs.Report.{noBlock, blockOf, held, blocksIn, senderO
 use Rattle.report_write.proofs.Runs.{run-size, run-write}
 use Rattle.report_records.specs.declared.Reporter.{Reporter}
 use Rattle.report_records.specs.declared.Reporter.the-variants as reporter
-use Rattle.report_records.specs.Records.{reporterOf, blocksLent, filled, noBlocks, runOf}
+use Rattle.report_records.specs.Records.{reporterOf, blocksLent, filled, runOf}
 
 -- ---- who reports
 

@@ -1,7 +1,7 @@
 -- `block_unchecked` meets its contract: a walk of its MIR, by hand. The block lies i * 28 past the slice's pointer, and is read there whole.
 -- Assumes nothing.
-use mathlib.Core.Path.{_≡_, refl, sym}
-use Prim.Native.Nat.{ℕ, _<_, _*_, _^_, _+_}
+use mathlib.Core.Path.{refl, sym}
+use Prim.Native.Nat.{ℕ, _<_, _*_, _^_}
 use native.Mathlib.Omega.{arith}
 use mathlib.Core.List.{List, [], _∷_}
 use lib.ListN.{length, getD}

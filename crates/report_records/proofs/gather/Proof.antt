@@ -58,7 +58,7 @@ use Rattle.report_write.specs.Report.{noBlock}
 use Rattle.report_write.specs.declared.«report_block».Run.{Run}
 use Rattle.report_write.proofs.report_block.Run as U
 use Rattle.report_write.proofs.report_block.Run.Laws as U′
-use Rattle.report_records.specs.Records.{filled, noBlocks, runOf}
+use Rattle.report_records.specs.Records.{filled, noBlocks}
 use Rattle.report_records.proofs.Records.{filled-next, filled-all, length-filled}
 use Rattle.report_records.proofs.held_count as held-count
 use Rattle.report_records.proofs.held_count.Symbol as held-count-def
