@@ -1,3 +1,4 @@
 pub mod Names
 pub mod Writers
 pub mod OneBuffer
+pub mod Runs

@@ -1,16 +1,12 @@
 -- The compound writer: what C gets of a call, from what the writer answers. Stated once, over the call.
-use Prim.Native.Nat.{ℕ, _<_}
-use mathlib.Core.Path.{_≡_, refl, sym, ap, _∙_}
+use Prim.Native.Nat.{ℕ}
+use mathlib.Core.Path.{_≡_, sym, ap, _∙_}
 use mathlib.Core.Bool.{Bool, true, false}
-use mathlib.Core.List.{List, []}
-use lib.ListN.{length}
-use lib.Dec.{eqb, ltb}
-use borrow.Author.Tests.{lt-leb, not-true, not-false}
-use Rattle.rfc3550.specs.Answer.{Refusal, refusal, Answer, ok, refused, need, _>>_}
-use Rattle.rfc3550.specs.Packet.{Block, Reporter, receiver, sender, report, type, isReport}
-use Rattle.rfc3550.specs.Write.{giveReport, tests, ownTests}
-use Rattle.rfc3550.specs.Writer.{Writer, fresh, Request, add, addTests, call}
-use Rattle.rfc3550.proofs.Answer.{or-true}
+use mathlib.Core.List.{List}
+use Rattle.rfc3550.specs.Answer.{Refusal, refusal, refused, need, _>>_}
+use Rattle.rfc3550.specs.Packet.{Reporter}
+use Rattle.rfc3550.specs.Write.{giveReport}
+use Rattle.rfc3550.specs.Writer.{Writer, fresh, Request, add, call}
 use Rattle.utils.specs.Error.{writeRefusal, codeRefusal}
 use Rattle.utils.specs.declared.error.RtcpWriteError.{RtcpWriteError}
 use Rattle.utils.specs.declared.error.Code.{Code}
@@ -24,7 +20,8 @@ use Rattle.rtcp.specs.WriteReport.{flatOk, blocksLent, flatBlocks, Gathe
 use Rattle.rtcp.specs.WriteCompound.{writerIn, writerOut, handedOn, callResult, calledOut, turnedDown, addBlocks}
 use Rattle.rtcp.specs.declared.write_compound.RtcpWriter.{RtcpWriter}
 use Rattle.rtcp.specs.declared.write_compound.RtcpCall.{RtcpCall}
-use Rattle.rtcp.proofs.WriteReports.{flats, flat-ok, flat-refused, same-run}
+use Rattle.compound_write.proofs.Runs as runs
+use Rattle.rtcp.proofs.WriteReports.{flats, flat-ok, flat-refused, as-many}
 
 pub out-fresh : (v : code.Writer) (r : RtcpWriter) → r ≡ writerOut (writerOf v) → writerOf v ≡ fresh → r ≡ writerOut fresh
 out-fresh v r h e = h ∙ ap writerOut e
@@ -68,30 +65,8 @@ module _ (w : Writer) (e : Refusal) where
 -- ---- a report of gathered blocks, over the reporter
 
 module _ (r : Reporter) (k : ℕ) where
-  first-report : (bs : List Block) → isReport (type (report r bs [])) ≡ true
-  first-report bs = go r
-    where
-      go : (r : Reporter) → isReport (type (report r bs [])) ≡ true
-      go (receiver ssrc) = refl
-      go (sender ssrc ntp rtp n o) = refl
-
-  over-tests : (bs : List Block) → 31 < length bs → tests (giveReport r bs k) ≡ refused (refusal 18 (length bs) 31)
-  unfolding tests ownTests need _>>_
-  over-tests bs h = simp (lt-leb _ _ h)
-
-  over-call : (w : Writer) (l : List ℕ) (bs : List Block) → 31 < length bs → call (add (giveReport r bs k)) w l ≡ (turnedDown w (refusal 18 (length bs) 31), w, l)
-  unfolding call addTests turnedDown need _>>_
-  over-call w l bs h = go (w .closed) (w .padded) refl refl
-    where
-      go : (c p : Bool) → w .closed ≡ c → w .padded ≡ p → call (add (giveReport r bs k)) w l ≡ (turnedDown w (refusal 18 (length bs) 31), w, l)
-      go true p e f = simp e
-      go false true e f = simp (e, f)
-      go false false e f = simp (e, f, first-report bs, or-true (ltb 0 (w .len)), over-tests bs h)
-
   run-call : (xs : List ℕ) (run : Run) → Gathered xs run → (w : Writer) (l : List ℕ) → call (add (giveReport r (blocksIn run) k)) w l ≡ call (add (giveReport r (blocksLent xs) k)) w l
-  run-call xs run g w l =
-      same-run r k xs run g (λ (bs : List Block). call (add (giveReport r bs k)) w l)
-      (λ bs cs h e. over-call w l bs h ∙ ap (λ (n : ℕ). (turnedDown w (refusal 18 n 31), w, l)) e ∙ sym (over-call w l cs (rw (← e) h)))
+  run-call xs run g w l = runs.run-call r k w run (blocksLent xs) (as-many r k xs run g) (g .blocks) l
 
 -- ---- what C gets of a report added
 

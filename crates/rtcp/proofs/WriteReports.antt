@@ -1,19 +1,19 @@
 -- A flat run of blocks, gathered and written: each case from what the code has tested or called.
 use Prim.Native.Nat.{ℕ, zero, suc, _+_, _-_, _*_, _/_, _%_, _<_, _≤_, min}
 use mathlib.Core.Path.{_≡_, refl, sym, ap, _∙_}
-use mathlib.Core.Bool.{Bool, true, false, _&&_}
+use mathlib.Core.Bool.{Bool, true, false}
 use mathlib.Core.List.{List, [], _∷_, _++_}
 use native.Mathlib.Nat.{add-zero, sub-zero}
 use native.Mathlib.Omega.{arith}
 use borrow.Author.Count.{below-more}
-use borrow.Author.Tests.{le-leb, lt-leb, leb-true, leb-false, eqb-true, eq-eqb, ne-eqb, not-true, not-false}
+use borrow.Author.Tests.{le-leb, lt-leb, leb-true, eqb-true, eq-eqb, ne-eqb, not-true, not-false}
 use lib.ListN.{length, drop, getD, set, length-set, length-drop, length-append}
 use lib.Seq.{drop-cons, drop-drop, getD-drop, getD-set-same, getD-set-other}
 use lib.Dec.{leb, eqb}
-use Rattle.rfc3550.specs.Answer.{Answer, ok, refused, refusal, need, _>>_, _>>=_}
+use Rattle.rfc3550.specs.Answer.{ok, refused, refusal, need, _>>_, _>>=_}
 use Rattle.rfc3550.specs.Bytes.{be, put}
 use Rattle.rfc3550.specs.Packet.{Block, Reporter, receiver, sender, blocksBytes, contentBytes, reporterWidths, reporterFields}
-use Rattle.rfc3550.specs.Write.{Given, giveReport, ownTests, calculateSize, room, write}
+use Rattle.rfc3550.specs.Write.{giveReport, ownTests, calculateSize, write}
 use Rattle.rfc3550.proofs.Answer.{and-inv, need-inv, ok-injective}
 use Rattle.utils.specs.Writer.{writtenOf}
 use Rattle.utils.specs.declared.writer.Written.{Written}
@@ -138,9 +138,6 @@ module _ (r : Reporter) (k : ℕ) where
   module _ (xs : List ℕ) (run : Run) (g : Gathered xs run) where
     pub as-many : run .len ≡ length (blocksLent xs)
     as-many = g .count ∙ sym (length-blocksFrom (length xs / 7) xs)
-
-    pub same-run : {B : Type 0} (f : List Block → B) → ((bs cs : List Block) → 31 < length bs → length bs ≡ length cs → f bs ≡ f cs) → f (blocksIn run) ≡ f (blocksLent xs)
-    same-run f many = runs.same-run run (blocksLent xs) as-many (g .blocks) f many
 
     run-size : calculateSize (giveReport r (blocksIn run) k) ≡ calculateSize (giveReport r (blocksLent xs) k)
     run-size = runs.run-size run (blocksLent xs) as-many (g .blocks) r k
