@@ -1,0 +1,57 @@
+use borrow.Author.Needs.{needs}
+use Prim.Native.Nat.{_-_, _≤_}
+use Rattle.forms.proofs.chunks.compare.Statement.{statement}
+use Rattle.forms.proofs.chunks.compare.Tie as tie
+
+abbrev Inv-loop : tie.InvT-loop
+Inv-loop times count₀ x₀ i₀ t5 count x i = i ≤ times
+
+abbrev μ-loop : tie.MeasureT-loop
+μ-loop times count₀ x₀ i₀ t5 count x i = times - i
+
+none-requires : tie.Need-none-requires Inv-loop μ-loop
+none-requires c κs = search needs
+
+loop-holds : tie.Need-loop-holds Inv-loop μ-loop
+loop-holds c = search needs
+
+next-requires : tie.Need-next-requires Inv-loop μ-loop
+next-requires c κs = search needs
+
+packet-requires : tie.Need-packet-requires Inv-loop μ-loop
+packet-requires c κs = search needs
+
+add-i : tie.Need-add-i Inv-loop μ-loop
+add-i c = search needs
+
+loop-less : tie.Need-loop-less Inv-loop μ-loop
+loop-less c = search needs
+
+loop-again : tie.Need-loop-again Inv-loop μ-loop
+loop-again c = search needs
+
+slice-aggregate-print : tie.Need-slice-aggregate-print Inv-loop μ-loop
+slice-aggregate-print c = search needs
+
+print-requires : tie.Need-print-requires Inv-loop μ-loop
+print-requires c κs = search needs
+
+returns : tie.Need-returns Inv-loop μ-loop
+returns c = search needs
+
+pub compare-spec : {M : Type 1} → statement M
+compare-spec =
+    tie.close
+    (tie.spec
+    Inv-loop
+    μ-loop
+    none-requires
+    loop-holds
+    next-requires
+    packet-requires
+    add-i
+    loop-less
+    loop-again
+    slice-aggregate-print
+    print-requires
+    returns)

@@ -1,0 +1,41 @@
+// Blocks by value, the first n of them lent as a run of records.
+use compound_write::writer::Call;
+use compound_write::writer::Writer;
+use report::report_block::ReportBlock;
+use report_records::Reporter;
+use utils::writer::Written;
+ghost use mathlib.Core.Path.{_≡_};
+ghost use Prim.Native.Nat.{_≤_};
+ghost use lib.ListN.{take};
+ghost use Rattle.rfc3550.specs.Write.{giveReport, write};
+ghost use Rattle.rfc3550.specs.Writer.{add, call};
+ghost use Rattle.utils.specs.Writer.{writtenOf};
+ghost use Rattle.report_records.specs.Records.{reporterOf, blocksLent};
+ghost use Rattle.compound_write.specs.Writer.{outcomeOf, writerOf};
+
+pub fn write_lent(
+    buf: &mut [u8],
+    reporter: Reporter,
+    list: [ReportBlock; 33],
+    n: usize,
+    padding: u64,
+) -> Written
+    requires { ⌜ n ≤ 33 ⌝ }
+    ensures { λ r. ⌜ (writtenOf r, now (buf .exit)) ≡ write (giveReport (reporterOf reporter) (blocksLent (take n list)) padding) (now (buf .entry)) ⌝ }
+{
+    report_records::write_into(buf, reporter, &list[..n], padding)
+}
+
+pub fn add_lent(
+    writer: Writer,
+    buf: &mut [u8],
+    reporter: Reporter,
+    list: [ReportBlock; 33],
+    n: usize,
+    padding: u64,
+) -> Call
+    requires { ⌜ n ≤ 33 ⌝ }
+    ensures { λ r. ⌜ (outcomeOf (r .answer), writerOf (r .writer), now (buf .exit)) ≡ call (add (giveReport (reporterOf reporter) (blocksLent (take n list)) padding)) (writerOf writer) (now (buf .entry)) ⌝ }
+{
+    compound_records::add_report(writer, buf, reporter, &list[..n], padding)
+}
