@@ -56,6 +56,10 @@ left : (q : Request) (w : Writer) (l d : List ℕ) → Held w l d → Left q w l
 left (add g) w l d h = left-add g w l d h (addTests w g (length l)) refl
 left close w l d h = left-close w l d h (closeTests w) refl
 
+-- a writer whose length the buffer holds stays one
+pub call-fits : (q : Request) (w : Writer) (l : List ℕ) → w .len ≤ length l → call q w l .1 .len ≤ length (call q w l .2)
+call-fits q w l h = left q w l (take (w .len) l) (record { held-len = h; held-is = refl }) .held .held-len
+
 lends : (q : Request) (w : Writer) (l d : List ℕ) → Held w l d → RequestTyped q → Lends q d l
 lends (add g) w l d h t =
     let n : length d ≡ w .len = ap length (h .held-is) ∙ length-take-le (w .len) l (h .held-len) in

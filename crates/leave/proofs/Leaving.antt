@@ -1,18 +1,20 @@
 -- What the types of a BYE's, a report's and an SDES's arguments say, and the calls of one who leaves.
-use Prim.Native.Nat.{ℕ, suc, _^_, _<_}
-use mathlib.Core.Path.{_≡_}
+use Prim.Native.Nat.{ℕ, suc, _<_, _≤_}
+use mathlib.Core.Path.{_≡_, sym, subst}
 use mathlib.Core.List.{List, [], _∷_}
 use native.Mathlib.Omega.{arith}
-use lib.ListN.{getD}
+use lib.ListN.{length, getD}
 use Rattle.rfc3550.specs.Answer.{Answer}
-use Rattle.rfc3550.specs.Bytes.{Bytes}
-use Rattle.rfc3550.specs.Packet.{Block, receiver}
-use Rattle.rfc3550.specs.Write.{giveReport, giveSdes, giveBye}
+use Rattle.rfc3550.specs.Bytes.{Bytes, Fits}
+use Rattle.rfc3550.specs.Packet.{Block, reporterFields}
+use Rattle.rfc3550.specs.Write.{giveReport}
 use Rattle.rfc3550.specs.Writer.{Writer, fresh, Request, add, close, call}
 use Rattle.compound_write.specs.Writer.{outcomeOf, writerOf}
-use Rattle.leave.specs.Leaving.{cnameOf, leaving, runs, Leaves}
+use Rattle.report_write.specs.Report.{senderOf}
+use Rattle.report_write.specs.declared.sender.SenderInfo.{SenderInfo}
+use Rattle.leave.specs.Leaving.{srOf, sdesOf, byeOf, leaving, runs, Leaves}
 use Rattle.leave.specs.declared.Left.{Left}
-use Rattle.compound_write.proofs.OneBuffer.{close-any, adds-and-close}
+use Rattle.compound_write.proofs.OneBuffer.{call-fits, close-any, adds-and-close}
 
 pub bytes-each : (l : List ℕ) → ((i : ℕ) → getD l i 0 < 256) → Bytes l
 bytes-each [] h = tt
@@ -25,23 +27,33 @@ module _ (q₁ q₂ q₃ q₄ q₅ : Request) (w w₁ w₂ w₃ w₄ w₅ : Writ
   unfolding runs
   ran f e₁ e₂ e₃ e₄ e₅ = rw (← f, ← e₁, ← e₂, ← e₃, ← e₄, ← e₅)
 
-module _ (ssrc : ℕ) (name reason l l₁ l₂ l₃ l₄ : List ℕ) (bs : List Block) (r : Left) (w w₁ w₂ w₃ w₄ : Writer) where
-  pub left-told : ssrc < 2 ^ 32 → ((i : ℕ) → getD name i 0 < 256) → ((i : ℕ) → getD reason i 0 < 256) → bs ≡ [] → w ≡ fresh
-      → (outcomeOf (r .early), w₁, l₁) ≡ call (add (giveBye (ssrc ∷ []) reason 0)) w l
-      → (outcomeOf (r .report), w₂, l₂) ≡ call (add (giveReport (receiver ssrc) bs 0)) w₁ l₁
-      → (outcomeOf (r .cname), w₃, l₃) ≡ call (add (giveSdes (cnameOf ssrc name) 0)) w₂ l₂
-      → (outcomeOf (r .bye), w₄, l₄) ≡ call (add (giveBye (ssrc ∷ []) reason 0)) w₃ l₃
+module _ (info : SenderInfo) (name reason l l₁ l₂ l₃ l₄ : List ℕ) (bs : List Block) (r : Left) (w w₁ w₂ w₃ w₄ : Writer) where
+  pub left-told : Fits (4 ∷ 8 ∷ 4 ∷ 4 ∷ 4 ∷ []) (reporterFields (senderOf info)) → ((i : ℕ) → getD name i 0 < 256) → ((i : ℕ) → getD reason i 0 < 256) → bs ≡ [] → w ≡ fresh
+      → (outcomeOf (r .early), w₁, l₁) ≡ call (add (byeOf info reason)) w l
+      → (outcomeOf (r .report), w₂, l₂) ≡ call (add (giveReport (senderOf info) bs 0)) w₁ l₁
+      → (outcomeOf (r .cname), w₃, l₃) ≡ call (add (sdesOf info name)) w₂ l₂
+      → (outcomeOf (r .bye), w₄, l₄) ≡ call (add (byeOf info reason)) w₃ l₃
       → (outcomeOf (r .close), writerOf (r .writer), []) ≡ call close w₄ []
-      → Leaves (leaving ssrc name reason) l r l₄
+      → Leaves (leaving info name reason) l r l₄
   left-told s n y b f e₁ e₂ e₃ e₄ e₅ =
-      let t : ssrc < 256 ^ 4 = omega arith in
       let u = bytes-each reason y in
       let z = rw b at e₂ in
       record {
         calls = ran _ _ _ _ _ w w₁ w₂ w₃ w₄ (writerOf (r .writer)) l l₁ l₂ l₃ l₄ l₄ _ _ _ _ _ f e₁ z e₃ e₄ (close-any (outcomeOf (r .close)) w₄ (writerOf (r .writer)) l₄ e₅);
         book =
-            adds-and-close (giveBye (ssrc ∷ []) reason 0) (giveReport (receiver ssrc) [] 0) (giveSdes (cnameOf ssrc name) 0) (giveBye (ssrc ∷ []) reason 0)
+            adds-and-close (byeOf info reason) (srOf info) (sdesOf info name) (byeOf info reason)
             l l₁ l₂ l₃ l₄ (outcomeOf (r .early)) (outcomeOf (r .report)) (outcomeOf (r .cname)) (outcomeOf (r .bye)) (outcomeOf (r .close)) w w₁ w₂ w₃ w₄ (writerOf (r .writer)) f
-            ((t, tt), u) ((t, tt), tt) ((t, tt), (omega arith, tt), bytes-each name n) ((t, tt), u)
+            ((s .0, tt), u) (s, tt) ((s .0, tt), (omega arith, tt), bytes-each name n) ((s .0, tt), u)
             e₁ z e₃ e₄ e₅;
       }
+
+-- ---- the datagram lies in the buffer
+
+runs-fit : (qs : List Request) (w : Writer) (l : List ℕ) → w .len ≤ length l → runs qs w l .1 .0 .len ≤ length (runs qs w l .1 .1)
+unfolding runs
+runs-fit [] w l h = h
+runs-fit (q ∷ qs) w l h = runs-fit qs (call q w l .1) (call q w l .2) (call-fits q w l h)
+
+pub left-within : (qs : List Request) (l : List ℕ) (r : Left) (l₁ : List ℕ) → Leaves qs l r l₁ → r .writer .len ≤ length l₁
+left-within qs l r l₁ k =
+    subst (λ (x : List (Answer (Unit {0})) × (Writer × List ℕ)). x .1 .0 .len ≤ length (x .1 .1)) (sym (k .calls)) (runs-fit qs fresh l (omega arith))

@@ -4,10 +4,11 @@ use mathlib.Core.Path.{_≡_}
 use mathlib.Core.List.{List, [], _∷_}
 use lib.ListN.{length, take}
 use Rattle.rfc3550.specs.Answer.{Answer}
-use Rattle.rfc3550.specs.Packet.{receiver}
-use Rattle.rfc3550.specs.Write.{Lists, giveReport, giveSdes, giveBye}
+use Rattle.rfc3550.specs.Write.{Lists, Given, giveReport, giveSdes, giveBye}
 use Rattle.rfc3550.specs.Writer.{Writer, fresh, Request, add, close, call}
 use Rattle.rfc3550.specs.Claim.{System, compounds}
+use Rattle.report_write.specs.Report.{senderOf}
+use Rattle.report_write.specs.declared.sender.SenderInfo.{SenderInfo}
 use Rattle.sdes_write.specs.Packets.{lists}
 use Rattle.compound_write.specs.Writer.{outcomeOf, writerOf}
 use Rattle.compound_write.specs.OneBuffer.{told, ended}
@@ -17,15 +18,19 @@ use Rattle.leave.specs.declared.Left.{Left}
 abbrev pub cnameOf : ℕ → List ℕ → Lists
 cnameOf ssrc name = lists (ssrc ∷ []) (1 ∷ []) (1 ∷ []) (0 ∷ []) (length name ∷ []) name
 
+-- the report, the CNAME and the BYE
+abbrev pub srOf : SenderInfo → Given
+srOf info = giveReport (senderOf info) [] 0
+
+abbrev pub sdesOf : SenderInfo → List ℕ → Given
+sdesOf info name = giveSdes (cnameOf (info .ssrc) name) 0
+
+abbrev pub byeOf : SenderInfo → List ℕ → Given
+byeOf info reason = giveBye (info .ssrc ∷ []) reason 0
+
 -- a BYE that comes too early, a report, the CNAME, the BYE, the close
-abbrev pub leaving : ℕ → List ℕ → List ℕ → List Request
-leaving ssrc name reason =
-    add (giveBye (ssrc ∷ []) reason 0)
-    ∷ add (giveReport (receiver ssrc) [] 0)
-    ∷ add (giveSdes (cnameOf ssrc name) 0)
-    ∷ add (giveBye (ssrc ∷ []) reason 0)
-    ∷ close
-    ∷ []
+abbrev pub leaving : SenderInfo → List ℕ → List ℕ → List Request
+leaving info name reason = add (byeOf info reason) ∷ add (srOf info) ∷ add (sdesOf info name) ∷ add (byeOf info reason) ∷ close ∷ []
 
 -- calls in turn, each with the writer and the buffer that the last left: the answers, and the writer and the buffer at the end
 unfoldable pub runs : List Request → Writer → List ℕ → List (Answer (Unit {0})) × (Writer × List ℕ)

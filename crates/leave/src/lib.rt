@@ -1,12 +1,19 @@
-// The datagram of one who leaves: a report, the CNAME and a BYE, by calls of the compound writer on one buffer.
+// The datagram of one who leaves: a report, the CNAME and a BYE, by calls of the compound writer on one buffer, and reading it back.
+use compound::compound::Compound;
+use compound::compound::OpenedWalk;
+use compound::compound::ParsedCompound;
+use compound::compound::Stepped;
+use compound::compound::Walk;
 use compound_write::writer::Outcome;
 use compound_write::writer::Writer;
 use report::report_block::ReportBlock;
 use report_write::report_block::Run;
+use report_write::sender::SenderInfo;
 ghost use mathlib.Core.Path.{_≡_};
 ghost use mathlib.Core.List.{[]};
 ghost use Rattle.report_write.specs.Report.{blocksIn};
 ghost use Rattle.leave.specs.Leaving.{leaving, Leaves};
+ghost use Rattle.leave.specs.Reading.{begunAt, onward, ReadsBack, LeavesAndReads};
 
 pub struct Left {
     pub early: Outcome,
@@ -36,9 +43,10 @@ fn no_blocks() -> Run
 }
 
 // A BYE that comes too early, so that it is refused, the report, the CNAME, the BYE and the close: what the book says of them.
-pub fn leave(buf: &mut [u8], ssrc: u32, name: &[u8], reason: &[u8]) -> Left
-    ensures { λ r. ⌜ Leaves (leaving ssrc (now (name .entry)) (now (reason .entry))) (now (buf .entry)) r (now (buf .exit)) ⌝ }
+pub fn leave(buf: &mut [u8], info: SenderInfo, name: &[u8], reason: &[u8]) -> Left
+    ensures { λ r. ⌜ Leaves (leaving info (now (name .entry)) (now (reason .entry))) (now (buf .entry)) r (now (buf .exit)) ⌝ }
 {
+    let ssrc = info.ssrc;
     let ssrcs = [ssrc];
     let counts = [1u64];
     let types = [1u8];
@@ -48,7 +56,7 @@ pub fn leave(buf: &mut [u8], ssrc: u32, name: &[u8], reason: &[u8]) -> Left
     let w0 = Writer::new();
     let a = w0.add_bye(buf, &ssrcs, reason, 0);
     let w1 = a.writer;
-    let b = w1.add_rr(buf, ssrc, run, 0);
+    let b = w1.add_sr(buf, info, run, 0);
     let w2 = b.writer;
     let c = w2.add_sdes(buf, &ssrcs, &counts, &types, &prefixes, &values, name, 0);
     let w3 = c.writer;
@@ -69,4 +77,73 @@ pub fn leave(buf: &mut [u8], ssrc: u32, name: &[u8], reason: &[u8]) -> Left
         close,
         writer,
     }
+}
+
+// What reading a datagram says: the reader, the walk, and four steps of it.
+pub struct ReadBack {
+    pub parsed: ParsedCompound,
+    pub opened: OpenedWalk,
+    pub first: Stepped,
+    pub second: Stepped,
+    pub third: Stepped,
+    pub fourth: Stepped,
+}
+
+// The walk that was opened, or one at the start.
+fn begun(opened: OpenedWalk) -> Walk
+    ensures { λ r. ⌜ r ≡ begunAt opened ⌝ }
+{
+    match opened {
+        OpenedWalk::Walk(w) => w,
+        OpenedWalk::Refused(_) => Walk { at: 0 },
+    }
+}
+
+// The walk after a step: a refusal leaves it as it was.
+fn after(w: Walk, answer: Stepped) -> Walk
+    ensures { λ r. ⌜ r ≡ onward w answer ⌝ }
+{
+    match answer {
+        Stepped::Packet(_, next) => next,
+        Stepped::Refused(_) => w,
+    }
+}
+
+pub fn read_back(s: &[u8]) -> ReadBack
+    ensures { λ r. ⌜ ReadsBack (now (s .entry)) r ⌝ }
+{
+    let parsed = Compound::parse(s);
+    let opened = Walk::open(s);
+    let w0 = begun(opened);
+    let first = w0.step(s);
+    let w1 = after(w0, first);
+    let second = w1.step(s);
+    let w2 = after(w1, second);
+    let third = w2.step(s);
+    let w3 = after(w2, third);
+    let fourth = w3.step(s);
+    ReadBack {
+        parsed,
+        opened,
+        first,
+        second,
+        third,
+        fourth,
+    }
+}
+
+pub struct LeftAndRead {
+    pub left: Left,
+    pub back: ReadBack,
+}
+
+// Writes the datagram of one who leaves, and reads what was written.
+pub fn leave_and_read(buf: &mut [u8], info: SenderInfo, name: &[u8], reason: &[u8]) -> LeftAndRead
+    ensures { λ r. ⌜ LeavesAndReads info (now (name .entry)) (now (reason .entry)) (now (buf .entry)) r (now (buf .exit)) ⌝ }
+{
+    let left = leave(buf, info, name, reason);
+    let writer = left.writer;
+    let len = writer.len;
+    let back = read_back(&buf[..len]);
+    LeftAndRead { left, back }
 }
