@@ -1,5 +1,8 @@
 -- Reading back what was written: the places of the steps, and what a closed datagram hands over.
 use Prim.Native.Nat.{ℕ, _<_}
+use mir.Val.{Fits}
+use mir.Syntax.{w8}
+use native.Mathlib.Omega.{arith}
 use mathlib.Core.Path.{_≡_, refl, sym, ap, _∙_, subst}
 use mathlib.Core.Bool.{Bool, true, false}
 use mathlib.Core.List.{List, [], _∷_}
@@ -131,9 +134,9 @@ module _ (info : SenderInfo) (name reason l : List ℕ) (r : LeftAndRead) (l₁ 
       (turn-ok _ (length l) _ (sym (ok-injective (said 2)) ∙ e₃) ∙ ap (listed (add (sdesOf info name)))
       (turn-ok _ (length l) _ (sym (ok-injective (said 1)) ∙ e₂) ∙ ap (listed (add (srOf info))) (ap (λ (x : Answer (Unit {0}) × Book). x .1) (turn-early info reason (length l)))))))
 
-  pub all-told : ((i : ℕ) → getD l₁ i 0 < 256) → ReadsBack (take (r .left .writer .len) l₁) (r .back) → LeavesAndReads info name reason l r l₁
+  pub all-told : ((i : ℕ) → Fits w8 (getD l₁ i 0)) → ReadsBack (take (r .left .writer .len) l₁) (r .back) → LeavesAndReads info name reason l r l₁
   all-told y b =
-      let h = bytes-take (r .left .writer .len) l₁ (bytes-each l₁ y) in
+      let h = bytes-take (r .left .writer .len) l₁ (bytes-each l₁ (λ i. omega (arith, y i))) in
       let c : outcomeOf (r .left .close) ≡ ok tt → Hands (bookAfter (leaving info name reason) (length l) empty .packets) (r .back) = λ e. hands _ (r .back) _ h b (read-closed e) in
       record {
         leaves = k;

@@ -6,7 +6,7 @@ use lib.ListN.{length, take}
 use Rattle.rfc3550.specs.Answer.{Answer}
 use Rattle.rfc3550.specs.Write.{Lists, Given, giveReport, giveSdes, giveBye}
 use Rattle.rfc3550.specs.Writer.{Writer, fresh, Request, add, close, call}
-use Rattle.rfc3550.specs.Claim.{System, compounds}
+use Rattle.rfc3550.specs.Claim.{compounds}
 use Rattle.report_write.specs.Report.{senderOf}
 use Rattle.report_write.specs.declared.sender.SenderInfo.{SenderInfo}
 use Rattle.sdes_write.specs.Packets.{lists}

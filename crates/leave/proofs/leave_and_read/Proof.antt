@@ -1,5 +1,3 @@
-use native.Mathlib.Omega.{arith}
-use mathlib.Core.Path.{sym}
 use lib.Seq.{length-take-le}
 use Rattle.leave.proofs.Leaving.{left-within}
 use Rattle.leave.proofs.Reading.{all-told}
@@ -11,10 +9,10 @@ leave-requires : tie.Need-leave-requires
 leave-requires c κs = search needs
 
 slice-reshare-prefix-read-back : tie.Need-slice-reshare-prefix-read-back
-slice-reshare-prefix-read-back c = left-within _ _ _ _ (c .before .before .before .leave .ensures)
+slice-reshare-prefix-read-back c = search (needs, left-within)
 
 slice-aggregate-read-back : tie.Need-slice-aggregate-read-back
-slice-aggregate-read-back c = sym (length-take-le _ _ (left-within _ _ _ _ (c .before .before .before .before .leave .ensures)))
+slice-aggregate-read-back c = search (needs, left-within, length-take-le)
 
 read-back-requires : tie.Need-read-back-requires
 read-back-requires c κs = search needs
@@ -23,9 +21,7 @@ same-length : tie.Need-same-length
 same-length c = search needs
 
 returns : tie.Need-returns
-returns c =
-    let a = c .before .before .before .before .before .before .before .before .before .before .args in
-    all-told (a .info) (a .name .now) (a .reason .now) (a .buf .now) _ _ (c .before .before .before .before .before .leave .ensures) (λ i. omega (arith, c .before .before .before .slice-known2 .given i)) (c .read-back .ensures)
+returns c = search (needs, all-told)
 
 pub leave-and-read-spec : {M : Type 1} → statement M
 leave-and-read-spec =

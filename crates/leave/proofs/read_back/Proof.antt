@@ -34,18 +34,7 @@ step-requires-4 : tie.Need-step-requires-4
 step-requires-4 c κs = search needs
 
 returns : tie.Need-returns
-returns c =
-    read-told (c .before .before .before .before .before .before .before .before .before .before .before .args .s .now) _ _ _ _ _
-    (c .before .before .before .before .before .before .before .before .before .parse .ensures)
-    (c .before .before .before .before .before .before .before .before .«open» .ensures)
-    (c .before .before .before .before .before .before .before .begun .ensures)
-    (c .before .before .before .before .before .before .step .ensures)
-    (c .before .before .before .before .before .after .ensures)
-    (c .before .before .before .before .step2 .ensures)
-    (c .before .before .before .after2 .ensures)
-    (c .before .before .step3 .ensures)
-    (c .before .after3 .ensures)
-    (c .step4 .ensures)
+returns c = search (needs, read-told)
 
 pub read-back-spec : {M : Type 1} → statement M
 read-back-spec =
