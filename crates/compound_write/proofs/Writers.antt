@@ -8,10 +8,10 @@ use native.Mathlib.Omega.{arith}
 use borrow.Author.Tests.{le-leb, lt-leb, leb-true, not-true, not-false}
 use lib.ListN.{length, take, drop, length-take, length-drop}
 use lib.Dec.{leb, ltb}
-use Rattle.rfc3550.specs.Answer.{refusal, Answer, ok, refused, need, _>>_, _>>=_, mapOk, capped}
+use Rattle.rfc3550.specs.Answer.{Refusal, refusal, Answer, ok, refused, need, _>>_, _>>=_, mapOk, capped}
 use Rattle.rfc3550.specs.Bytes.{store}
-use Rattle.rfc3550.specs.Packet.{type, layout, isReport}
-use Rattle.rfc3550.specs.Write.{Lists, Given, giveSdes, packetGiven, contentGiven, paddingGiven, sizeGiven, listsAgree, tests, ownTests, calculateSize}
+use Rattle.rfc3550.specs.Packet.{Block, Reporter, receiver, sender, type, layout, isReport}
+use Rattle.rfc3550.specs.Write.{Lists, Given, giveReport, giveSdes, packetGiven, contentGiven, paddingGiven, sizeGiven, listsAgree, tests, ownTests, calculateSize}
 use Rattle.rfc3550.specs.Writer.{Writer, add, close, names, addTests, closeTests, shut, call}
 use Rattle.rfc3550.proofs.Answer.{need-inv, then-inv, bind-elim, ok-injective, refused-injective, refused≢ok}
 use Rattle.utils.specs.Error.{writeRefusal}
@@ -23,13 +23,14 @@ use Rattle.utils.proofs.WriterStores.{store-part}
 use Rattle.utils.proofs.WriterPackets.{sized}
 use Rattle.utils.proofs.Injective.{writeRefusal-injective}
 use Rattle.utils.proofs.WriterInjective.{writtenOf-injective}
-use Rattle.compound_write.specs.Writer.{writerOf, outcomeOf, fitted, admitted, moved}
+use Rattle.compound_write.specs.Writer.{writerOf, outcomeOf, fitted, admitted, moved, turnedDown, addBlocks}
 use Rattle.compound_write.specs.declared.writer.Writer as code
 use Rattle.compound_write.specs.declared.writer.Outcome.{Outcome}
 use Rattle.compound_write.specs.declared.writer.Outcome.the-variants as outcome
 use Rattle.bye_write.proofs.Byes.{bye-fits}
 use Rattle.app_write.proofs.Apps.{app-fits}
-use Rattle.report_write.proofs.Reports.{receiver-fits, sender-fits}
+use Rattle.report_write.specs.Report.{blocksLent, flatOk, flatBlocks, sizeBlocks}
+use Rattle.report_write.proofs.Reports.{flat-ok, flat-accepted, receiver-agree, receiver-fits, sender-agree, sender-fits}
 use Rattle.sdes_write.proofs.Packets.{sdes-fits}
 use Rattle.compound_write.specs.Names.{lentCname}
 use Rattle.compound_write.proofs.Names.{agreed, names-lent}
@@ -178,6 +179,47 @@ module _ (g : Given) (w : Writer) (l : List ℕ) (report : Bool) (checked r : Wr
       rw (f, z) (store-part (w .len) (layout (packetGiven g)) l (omega arith)) in
       rw (t, s, i, c) (ap (λ (x : Answer (Unit {0}) × Writer). (x .0, x .1, store (w .len) (layout (packetGiven g)) l)) e)
 
+-- a report whose blocks are lent as one flat list
+module _ (rep : Reporter) (xs : List ℕ) (p : ℕ) (w : Writer) (l : List ℕ) (checked r : Written)
+    (own : writtenOf checked ≡ sizeBlocks rep (flatBlocks xs) p) (tested : writtenOf r ≡ admitted w true (writtenOf checked) (length l)) where
+  is-report : (s : Reporter) (bs : List Block) → isReport (type (contentGiven (giveReport s bs p))) ≡ true
+  is-report (receiver ssrc) bs = refl
+  is-report (sender ssrc ntp rtp packets octets) bs = refl
+
+  or-true : (b : Bool) → (b || true) ≡ true
+  or-true true = refl
+  or-true false = refl
+
+  -- a list that is turned down is told so after 26 and 29
+  turned : (x : Refusal) (e : RtcpWriteError) → refused (writeRefusal e) ≡ admitted w true (refused x) (length l) → turnedDown w x ≡ refused (writeRefusal e)
+  unfolding admitted turnedDown need _>>_ _>>=_
+  turned x e q = go (not (w .closed)) refl (not (w .padded)) refl
+    where
+      go : (a : Bool) → not (w .closed) ≡ a → (b : Bool) → not (w .padded) ≡ b → turnedDown w x ≡ refused (writeRefusal e)
+      go false f b g = simp f (ap refused (refused-injective _ _ (sym (simp f at q))))
+      go true f false g = simp (f, g) (ap refused (refused-injective _ _ (sym (simp (f, g) at q))))
+      go true f true g = simp (f, g) (ap refused (refused-injective _ _ (sym (simp (f, g, or-true (ltb 0 (w .len))) at q))))
+
+  pub flat-add-refused : (e : RtcpWriteError) (o : Answer (Unit {0})) (w₁ : Writer) → r ≡ Refused e → _≡_ {A = Answer (Unit {0}) × Writer} (o, w₁) (refused (writeRefusal e), w) → (o, w₁, l) ≡ addBlocks rep (flatBlocks xs) p w l
+  unfolding addBlocks sizeBlocks _>>=_
+  flat-add-refused e o w₁ q h = go (flatBlocks xs) refl
+    where
+      go : (a : Answer (List Block)) → flatBlocks xs ≡ a → (o, w₁, l) ≡ addBlocks rep (flatBlocks xs) p w l
+      go (ok bs) f = rw f (add-refused (giveReport rep bs p) w l true checked r (is-report rep bs) (rw f at own) tested e o w₁ q h)
+      go (refused x) f =
+          let c : writtenOf checked ≡ refused x = rw f at own in
+          let d : turnedDown w x ≡ refused (writeRefusal e) = turned x e (sym (ap writtenOf q) ∙ tested ∙ ap (λ (a : Answer ℕ). admitted w true a (length l)) c) in
+          rw (f, d) (ap (λ (y : Answer (Unit {0}) × Writer). (y .0, y .1, l)) h)
+
+  pub flat-add-done : (k at : ℕ) (o : Answer (Unit {0})) (w₁ : Writer) (last : List ℕ) → r ≡ Size k → at ≡ w .len → _≡_ {A = Answer (Unit {0}) × Writer} (o, w₁) (ok tt, moved w k p false)
+      → last ≡ store 0 (layout (packetGiven (giveReport rep (blocksLent xs) p))) (take (length l - at) (drop at l))
+      → (o, w₁, take at l ++ (last ++ drop (length l - at) (drop at l))) ≡ addBlocks rep (flatBlocks xs) p w l
+  unfolding addBlocks sizeBlocks _>>=_
+  flat-add-done k at o w₁ last q z e f =
+      let c = checked-size w true checked r (length l) k tested q in
+      let t : flatBlocks xs ≡ ok (blocksLent xs) = flat-ok xs (flat-accepted rep xs p checked k own c) in
+      rw t (add-done (giveReport rep (blocksLent xs) p) w l true checked r (is-report rep (blocksLent xs)) (rw t at own) tested k at false o w₁ last q z e refl f)
+
 -- an SDES that has a size: its lists agree, and it names what its items do
 module _ (l : Lists) (k n : ℕ) (checked : Written) (own : writtenOf checked ≡ calculateSize (giveSdes l k)) (q : checked ≡ Size n) where
   lists-agree : listsAgree l ≡ true
@@ -205,4 +247,4 @@ module _ (w : Writer) where
   unfolding call closeTests need _>>_
   close-unnamed o w₁ e f h = simp (e, f) (ap (λ (x : Answer (Unit {0}) × Writer). (x .0, x .1, [])) h)
 
-pub ruleset adds = (needs, not-true, not-false, admit-closed, admit-padded, admit-first, admit-refused, admit-fitted, fitted-short, fitted-over, fitted-size, checked-size, room-starts, room-sum, room-part, add-refused, add-done, bye-fits, app-fits, receiver-fits, sender-fits, sdes-fits, close-closed, close-done, close-unnamed)
+pub ruleset adds = (needs, not-true, not-false, admit-closed, admit-padded, admit-first, admit-refused, admit-fitted, fitted-short, fitted-over, fitted-size, checked-size, room-starts, room-sum, room-part, add-refused, add-done, bye-fits, app-fits, receiver-agree, receiver-fits, sender-agree, sender-fits, sdes-fits, flat-add-refused, flat-add-done, close-closed, close-done, close-unnamed)

@@ -1,8 +1,11 @@
 -- The writer and its answers as the code has them, and what every add shares.
 use Prim.Native.Nat.{ℕ, _+_}
 use mathlib.Core.Bool.{Bool, _||_, not}
+use mathlib.Core.List.{List}
 use lib.Dec.{leb, ltb}
-use Rattle.rfc3550.specs.Answer.{Answer, ok, refused, need, _>>_, _>>=_, capped}
+use Rattle.rfc3550.specs.Answer.{Refusal, Answer, ok, refused, need, _>>_, _>>=_, capped}
+use Rattle.rfc3550.specs.Packet.{Block, Reporter}
+use Rattle.rfc3550.specs.Write.{giveReport}
 use Rattle.rfc3550.specs.Writer as rfc
 use Rattle.utils.specs.Error.{writeRefusal}
 use Rattle.compound_write.specs.declared.writer.Writer.{Writer}
@@ -39,3 +42,15 @@ admitted w report size n = do
 -- the writer with a packet of that size, that padding and, or not, a CNAME laid down
 abbrev pub moved : rfc.Writer → ℕ → ℕ → Bool → rfc.Writer
 moved w size padding cname = record { len = w .len + size; padded = ltb 0 padding; cname = w .cname || cname; closed = w .closed }
+
+-- ---- a report whose blocks are lent as one flat list: the list's refusal stands after 26 and 29, ahead of a report's own order; 27 is none of a report's
+
+unfoldable pub turnedDown : rfc.Writer → Refusal → Answer (Unit {0})
+turnedDown w e = do
+  need (not (w .closed)) 26 0 0
+  need (not (w .padded)) 29 0 0
+  refused e
+
+unfoldable pub addBlocks : Reporter → Answer (List Block) → ℕ → rfc.Writer → List ℕ → Answer (Unit {0}) × rfc.Writer × List ℕ
+addBlocks r (ok bs) k w l = rfc.call (rfc.add (giveReport r bs k)) w l
+addBlocks r (refused e) k w l = (turnedDown w e, w, l)

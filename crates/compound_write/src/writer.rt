@@ -1,7 +1,6 @@
 // The compound writer. It holds the length so far, and the buffer is lent again at each call.
 use crate::cname;
 use report_write::receiver;
-use report_write::report_block::Run;
 use report_write::sender;
 use report_write::sender::SenderInfo;
 use sdes_write::sdes;
@@ -13,13 +12,13 @@ ghost use mathlib.Core.List.{[]};
 ghost use Prim.Native.Nat.{_+_, _^_, _<_};
 ghost use Rattle.rfc3550.specs.Answer.{ok, refused, capped};
 ghost use Rattle.rfc3550.specs.Packet.{receiver};
-ghost use Rattle.rfc3550.specs.Write.{giveReport, giveSdes, giveBye, giveApp};
+ghost use Rattle.rfc3550.specs.Write.{giveSdes, giveBye, giveApp};
 ghost use Rattle.rfc3550.specs.Writer.{fresh, add, close, call};
 ghost use Rattle.utils.specs.Error.{writeRefusal};
 ghost use Rattle.utils.specs.Writer.{writtenOf};
-ghost use Rattle.report_write.specs.Report.{blocksIn, senderOf};
+ghost use Rattle.report_write.specs.Report.{senderOf, flatBlocks};
 ghost use Rattle.sdes_write.specs.Packets.{lists};
-ghost use Rattle.compound_write.specs.Writer.{outcomeOf, writerOf, callOf, fitted, admitted, moved};
+ghost use Rattle.compound_write.specs.Writer.{outcomeOf, writerOf, callOf, fitted, admitted, moved, addBlocks};
 
 pub struct Writer {
     pub len: usize,
@@ -87,7 +86,7 @@ impl Writer {
     }
 
     // The size of a packet that may be laid down: 26, 29, 27, the packet's own order, then 10.
-    fn admit(self, report: bool, checked: Written, space: usize) -> Written
+    pub fn admit(self, report: bool, checked: Written, space: usize) -> Written
         ensures { λ r. ⌜ writtenOf r ≡ admitted (writerOf self) report (writtenOf checked) space ⌝ }
     {
         if self.closed {
@@ -107,7 +106,7 @@ impl Writer {
     }
 
     // A refusal leaves the writer as it was.
-    fn refuse(self, e: RtcpWriteError) -> Call
+    pub fn refuse(self, e: RtcpWriteError) -> Call
         ensures { λ r. ⌜ callOf r ≡ (refused (writeRefusal e), writerOf self) ⌝ }
     {
         Call {
@@ -117,7 +116,7 @@ impl Writer {
     }
 
     // A packet of so many bytes was laid down.
-    fn advance(self, size: usize, padding: u64, cname: bool) -> Call
+    pub fn advance_unchecked(self, size: usize, padding: u64, cname: bool) -> Call
         requires { ⌜ self .len + size < 2 ^ 64 ⌝ }
         ensures { λ r. ⌜ callOf r ≡ (ok tt, moved (writerOf self) size padding cname) ⌝ }
     {
@@ -132,30 +131,30 @@ impl Writer {
         }
     }
 
-    pub fn add_rr(self, buf: &mut [u8], ssrc: u32, run: Run, padding: u64) -> Call
-        ensures { λ r. ⌜ (outcomeOf (r .answer), writerOf (r .writer), now (buf .exit)) ≡ call (add (giveReport (receiver ssrc) (blocksIn run) padding)) (writerOf self) (now (buf .entry)) ⌝ }
+    pub fn add_rr(self, buf: &mut [u8], ssrc: u32, blocks: &[u32], padding: u64) -> Call
+        ensures { λ r. ⌜ (outcomeOf (r .answer), writerOf (r .writer), now (buf .exit)) ≡ addBlocks (receiver ssrc) (flatBlocks (now (blocks .entry))) padding (writerOf self) (now (buf .entry)) ⌝ }
     {
-        let checked = receiver::calculate_size(ssrc, run, padding);
+        let checked = receiver::calculate_size(ssrc, blocks, padding);
         match self.admit(true, checked, buf.len()) {
             Written::Refused(e) => self.refuse(e),
             Written::Size(size) => {
                 let at = self.len;
-                receiver::write_into_unchecked(&mut buf[at..], ssrc, run, padding, size);
-                self.advance(size, padding, false)
+                receiver::write_into_unchecked(&mut buf[at..], ssrc, blocks, padding, size);
+                self.advance_unchecked(size, padding, false)
             }
         }
     }
 
-    pub fn add_sr(self, buf: &mut [u8], info: SenderInfo, run: Run, padding: u64) -> Call
-        ensures { λ r. ⌜ (outcomeOf (r .answer), writerOf (r .writer), now (buf .exit)) ≡ call (add (giveReport (senderOf info) (blocksIn run) padding)) (writerOf self) (now (buf .entry)) ⌝ }
+    pub fn add_sr(self, buf: &mut [u8], info: SenderInfo, blocks: &[u32], padding: u64) -> Call
+        ensures { λ r. ⌜ (outcomeOf (r .answer), writerOf (r .writer), now (buf .exit)) ≡ addBlocks (senderOf info) (flatBlocks (now (blocks .entry))) padding (writerOf self) (now (buf .entry)) ⌝ }
     {
-        let checked = sender::calculate_size(info, run, padding);
+        let checked = sender::calculate_size(info, blocks, padding);
         match self.admit(true, checked, buf.len()) {
             Written::Refused(e) => self.refuse(e),
             Written::Size(size) => {
                 let at = self.len;
-                sender::write_into_unchecked(&mut buf[at..], info, run, padding, size);
-                self.advance(size, padding, false)
+                sender::write_into_unchecked(&mut buf[at..], info, blocks, padding, size);
+                self.advance_unchecked(size, padding, false)
             }
         }
     }
@@ -169,7 +168,7 @@ impl Writer {
             Written::Size(size) => {
                 let at = self.len;
                 bye_write::write_into_unchecked(&mut buf[at..], sources, reason, padding, size);
-                self.advance(size, padding, false)
+                self.advance_unchecked(size, padding, false)
             }
         }
     }
@@ -199,7 +198,7 @@ impl Writer {
                     padding,
                     size,
                 );
-                self.advance(size, padding, false)
+                self.advance_unchecked(size, padding, false)
             }
         }
     }
@@ -234,7 +233,7 @@ impl Writer {
                     size,
                 );
                 let named = cname::has_cname_unchecked(types, values);
-                self.advance(size, padding, named)
+                self.advance_unchecked(size, padding, named)
             }
         }
     }

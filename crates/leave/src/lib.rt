@@ -4,14 +4,16 @@ use compound::compound::OpenedWalk;
 use compound::compound::ParsedCompound;
 use compound::compound::Stepped;
 use compound::compound::Walk;
+use compound_write::writer::Call;
 use compound_write::writer::Outcome;
 use compound_write::writer::Writer;
-use report::report_block::ReportBlock;
-use report_write::report_block::Run;
 use report_write::sender::SenderInfo;
 ghost use mathlib.Core.Path.{_≡_};
 ghost use mathlib.Core.List.{[]};
-ghost use Rattle.report_write.specs.Report.{blocksIn};
+ghost use Rattle.rfc3550.specs.Write.{giveReport};
+ghost use Rattle.rfc3550.specs.Writer.{add, call};
+ghost use Rattle.report_write.specs.Report.{senderOf};
+ghost use Rattle.compound_write.specs.Writer.{outcomeOf, writerOf};
 ghost use Rattle.leave.specs.Leaving.{leaving, Leaves};
 ghost use Rattle.leave.specs.Reading.{begunAt, onward, ReadsBack, LeavesAndReads};
 
@@ -24,22 +26,12 @@ pub struct Left {
     pub writer: Writer,
 }
 
-fn no_blocks() -> Run
-    ensures { λ r. ⌜ blocksIn r ≡ [] ⌝ }
+// A report of one who has nothing to report of others.
+fn add_bare_sr(writer: Writer, buf: &mut [u8], info: SenderInfo) -> Call
+    ensures { λ r. ⌜ (outcomeOf (r .answer), writerOf (r .writer), now (buf .exit)) ≡ call (add (giveReport (senderOf info) [] 0)) (writerOf writer) (now (buf .entry)) ⌝ }
 {
-    let b = ReportBlock {
-        ssrc: 0,
-        fraction_lost: 0,
-        cumulative_lost: 0,
-        extended_sequence_number: 0,
-        interarrival_jitter: 0,
-        last_sender_report_timestamp: 0,
-        delay_since_last_sender_report_timestamp: 0,
-    };
-    Run {
-        blocks: [b; 31],
-        len: 0,
-    }
+    let numbers = [0u32];
+    writer.add_sr(buf, info, &numbers[..0], 0)
 }
 
 // A BYE that comes too early, so that it is refused, the report, the CNAME, the BYE and the close: what the book says of them.
@@ -52,11 +44,10 @@ pub fn leave(buf: &mut [u8], info: SenderInfo, name: &[u8], reason: &[u8]) -> Le
     let types = [1u8];
     let prefixes = [0u64];
     let values = [name.len() as u64];
-    let run = no_blocks();
     let w0 = Writer::new();
     let a = w0.add_bye(buf, &ssrcs, reason, 0);
     let w1 = a.writer;
-    let b = w1.add_sr(buf, info, run, 0);
+    let b = add_bare_sr(w1, buf, info);
     let w2 = b.writer;
     let c = w2.add_sdes(buf, &ssrcs, &counts, &types, &prefixes, &values, name, 0);
     let w3 = c.writer;

@@ -5,10 +5,14 @@ use mathlib.Core.List.{List, [], _∷_, nil≢cons, cons≢nil, head-eq-of-cons-
 use Prim.Native.Nat.{ℕ}
 use Rattle.rfc3550.specs.Packet as rfc
 use Rattle.report.specs.declared.«report_block».ReportBlock.{ReportBlock}
-use Rattle.report_write.proofs.Reports.{blockOf-injective, senderOf-injective}
+use Rattle.report_write.proofs.Reports.{senderOf-injective}
 use Rattle.report_records.specs.declared.Reporter.{Reporter}
 use Rattle.report_records.specs.declared.Reporter.the-variants as reporter
-use Rattle.report_records.specs.Records.{reporterOf, blocksLent}
+use Rattle.report_records.specs.Records.{blockOf, reporterOf, blocksLent}
+
+pub blockOf-injective : (b c : ReportBlock) → blockOf b ≡ blockOf c → b ≡ c
+blockOf-injective b c h =
+    λ i. record { ssrc = h i .ssrc; «fraction_lost» = h i .fraction; «cumulative_lost» = h i .lost; «extended_sequence_number» = h i .sequence; «interarrival_jitter» = h i .jitter; «last_sender_report_timestamp» = h i .lsr; «delay_since_last_sender_report_timestamp» = h i .dlsr }
 
 pub blocksLent-injective : (bs cs : List ReportBlock) → blocksLent bs ≡ blocksLent cs → bs ≡ cs
 blocksLent-injective [] [] e = refl

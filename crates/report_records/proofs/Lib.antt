@@ -1,2 +1,4 @@
+pub mod Held
+pub mod Runs
 pub mod Records
 pub mod Injective

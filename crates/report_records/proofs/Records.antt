@@ -1,40 +1,15 @@
--- A report by whoever reports, the run that holds the blocks lent, and what is answered of either.
+-- The run that holds the blocks lent, and what is answered of either.
 use Prim.Native.Nat.{ℕ, zero, suc, _+_, _<_, _≤_, min}
 use mathlib.Core.Path.{_≡_, refl, sym, ap, _∙_}
 use mathlib.Core.List.{List, [], _∷_}
 use native.Mathlib.Nat.{not-suc-le-zero, le-of-suc-le-suc}
 use native.Mathlib.Omega.{arith}
-use borrow.Author.Needs.{needs}
 use lib.ListN.{length, getD, take, set, length-map}
 use Rattle.rfc3550.specs.Packet as rfc
 use Rattle.rfc3550.specs.Write.{giveReport, calculateSize, write}
-use Rattle.utils.specs.Writer.{writtenOf}
-use Rattle.utils.specs.declared.writer.Written.{Written}
 use Rattle.report.specs.declared.«report_block».ReportBlock.{ReportBlock}
-use Rattle.report_write.specs.declared.sender.SenderInfo.{SenderInfo}
-use Rattle.report_write.specs.Report.{noBlock, blockOf, held, blocksIn, senderOf}
-use Rattle.report_write.proofs.Runs.{run-size, run-write}
-use Rattle.report_records.specs.declared.Reporter.{Reporter}
-use Rattle.report_records.specs.declared.Reporter.the-variants as reporter
-use Rattle.report_records.specs.Records.{reporterOf, blocksLent, filled, runOf}
-
--- ---- who reports
-
-module _ (p : Reporter) (bs : List rfc.Block) (k : ℕ) (w : Written) where
-  pub receiver-sized : (ssrc : ℕ) → p ≡ reporter.Receiver ssrc → writtenOf w ≡ calculateSize (giveReport (rfc.receiver ssrc) bs k) → writtenOf w ≡ calculateSize (giveReport (reporterOf p) bs k)
-  receiver-sized ssrc q e = rw q e
-
-  pub sender-sized : (info : SenderInfo) → p ≡ reporter.Sender info → writtenOf w ≡ calculateSize (giveReport (senderOf info) bs k) → writtenOf w ≡ calculateSize (giveReport (reporterOf p) bs k)
-  sender-sized info q e = rw q e
-
-  module _ (l l₁ : List ℕ) where
-    pub receiver-written : (ssrc : ℕ) → p ≡ reporter.Receiver ssrc → (writtenOf w, l₁) ≡ write (giveReport (rfc.receiver ssrc) bs k) l → (writtenOf w, l₁) ≡ write (giveReport (reporterOf p) bs k) l
-    receiver-written ssrc q e = rw q e
-
-    pub sender-written : (info : SenderInfo) → p ≡ reporter.Sender info → (writtenOf w, l₁) ≡ write (giveReport (senderOf info) bs k) l → (writtenOf w, l₁) ≡ write (giveReport (reporterOf p) bs k) l
-    sender-written info q e = rw q e
-
-pub ruleset records = (needs, receiver-sized, sender-sized, receiver-written, sender-written)
+use Rattle.report_records.proofs.Runs.{run-size, run-write}
+use Rattle.report_records.specs.Records.{noBlock, blockOf, held, blocksIn, blocksLent, filled, runOf}
 
 -- ---- the run, filled from the front
 

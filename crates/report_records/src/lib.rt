@@ -1,17 +1,24 @@
 // Reports whose blocks are lent as one run of records: a thin layer over crate report_write, which decides everything.
+pub mod run;
+
 use report::report_block::ReportBlock;
 use report_write::receiver;
-use report_write::report_block::Run;
+use report_write::report_block;
 use report_write::sender;
 use report_write::sender::SenderInfo;
+use run::Run;
+use utils::error::RtcpWriteError;
+use utils::writer;
 use utils::writer::Written;
 ghost use mathlib.Core.Path.{_≡_};
-ghost use Prim.Native.Nat.{_<_, min};
+ghost use Prim.Native.Nat.{_<_, _≤_, min};
 ghost use lib.ListN.{length, getD};
-ghost use Rattle.rfc3550.specs.Write.{giveReport, calculateSize, write};
+ghost use Rattle.rfc3550.specs.Bytes.{store};
+ghost use Rattle.rfc3550.specs.Packet.{layout};
+ghost use Rattle.rfc3550.specs.Write.{giveReport, packetGiven, calculateSize, write};
 ghost use Rattle.utils.specs.Writer.{writtenOf};
-ghost use Rattle.report_write.specs.Report.{noBlock, blocksIn};
-ghost use Rattle.report_records.specs.Records.{reporterOf, blocksLent, noBlocks, runOf};
+ghost use Rattle.report_write.specs.Report.{ReportFits, headLaid};
+ghost use Rattle.report_records.specs.Records.{noBlock, blocksIn, reporterOf, leastOf, typeOf, blocksLent, noBlocks, runOf};
 
 // Who reports: a receiver, by its SSRC, or a sender.
 pub enum Reporter {
@@ -63,13 +70,25 @@ pub fn gather(blocks: &[ReportBlock]) -> Run
     Run { blocks: held, len }
 }
 
-fn run_size(reporter: Reporter, run: Run, padding: u64) -> Written
-    ensures { λ r. ⌜ writtenOf r ≡ calculateSize (giveReport (reporterOf reporter) (blocksIn run) padding) ⌝ }
+// How many bytes stand before the blocks.
+fn least(reporter: Reporter) -> u8
+    ensures { λ r. ⌜ r ≡ leastOf reporter ⌝ }
 {
     match reporter {
-        Reporter::Receiver(ssrc) => receiver::calculate_size(ssrc, run, padding),
-        Reporter::Sender(info) => sender::calculate_size(info, run, padding),
+        Reporter::Receiver(_) => receiver::MIN_PACKET_LEN,
+        Reporter::Sender(_) => sender::MIN_PACKET_LEN,
     }
+}
+
+pub fn run_size(reporter: Reporter, run: Run, padding: u64) -> Written
+    ensures { λ r. ⌜ writtenOf r ≡ calculateSize (giveReport (reporterOf reporter) (blocksIn run) padding) ⌝ }
+{
+    let count = run.len;
+    let checked = report_block::check_count(count, padding, least(reporter));
+    let Written::Size(size) = checked else {
+        return checked;
+    };
+    run::check_losses_unchecked(run, size)
 }
 
 // The size of a report, or why it is refused.
@@ -80,13 +99,45 @@ pub fn calculate_size(reporter: Reporter, blocks: &[ReportBlock], padding: u64) 
     run_size(reporter, run, padding)
 }
 
+// What stands before so many blocks.
+fn write_head(buf: &mut [u8], reporter: Reporter, count: usize, padding: u64, size: usize)
+    requires { ⌜ (count ≤ 31) × (leastOf reporter ≤ size) × (size ≤ 262144) × (size ≤ length (now buf)) ⌝ }
+    ensures { λ _. ⌜ now (buf .exit) ≡ headLaid (reporterOf reporter) (typeOf reporter) padding count size (now (buf .entry)) ⌝ }
+{
+    match reporter {
+        Reporter::Receiver(ssrc) => {
+            receiver::write_head_unchecked(buf, ssrc, count, padding, size);
+        }
+        Reporter::Sender(info) => {
+            sender::write_head_unchecked(buf, info, count, padding, size);
+        }
+    }
+}
+
+pub fn write_run_unchecked(buf: &mut [u8], reporter: Reporter, run: Run, padding: u64, size: usize)
+    requires { ⌜ ReportFits (leastOf reporter) (run .len) (blocksIn run) padding size (length (now buf)) ⌝ }
+    ensures { λ _. ⌜ now (buf .exit) ≡ store 0 (layout (packetGiven (giveReport (reporterOf reporter) (blocksIn run) padding))) (now (buf .entry)) ⌝ }
+{
+    let count = run.len;
+    let end = size - padding as usize;
+    let at = least(reporter) as usize;
+    write_head(buf, reporter, count, padding, size);
+    run::write_blocks_unchecked(buf, at, run);
+    writer::write_padding_unchecked(buf, end, padding);
+}
+
 fn write_run(buf: &mut [u8], reporter: Reporter, run: Run, padding: u64) -> Written
     ensures { λ r. ⌜ (writtenOf r, now (buf .exit)) ≡ write (giveReport (reporterOf reporter) (blocksIn run) padding) (now (buf .entry)) ⌝ }
 {
-    match reporter {
-        Reporter::Receiver(ssrc) => receiver::write_into(buf, ssrc, run, padding),
-        Reporter::Sender(info) => sender::write_into(buf, info, run, padding),
+    let checked = run_size(reporter, run, padding);
+    let Written::Size(size) = checked else {
+        return checked;
+    };
+    if buf.len() < size {
+        return Written::Refused(RtcpWriteError::OutputTooSmall(size as u64));
     }
+    write_run_unchecked(buf, reporter, run, padding, size);
+    Written::Size(size)
 }
 
 // Writes a report at the start of buf.

@@ -1,149 +1,86 @@
 -- The cases of a report's size and bytes, over the reporter, each from what the code has tested or called.
-use Prim.Native.Nat.{ℕ, zero, suc, _+_, _-_, _*_, _/_, _%_, _<_, _≤_, _^_}
+use Prim.Native.Nat.{ℕ, _+_, _-_, _*_, _/_, _≤_, _<_}
 use mathlib.Core.Path.{_≡_, refl, sym, ap, _∙_}
 use mathlib.Core.Bool.{Bool, true, false}
 use mathlib.Core.List.{List, [], _∷_, _++_, append-nil}
-use native.Mathlib.Nat.{add-zero, sub-zero, mod-eq-of-lt}
-use native.Mathlib.Numerals.{add-one}
 use native.Mathlib.Omega.{arith}
 use borrow.Author.Tests.{le-leb, lt-leb, leb-true, not-true, not-false}
-use lib.ListN.{length, drop, getD, length-append}
-use lib.Seq.{drop-drop, getD-drop}
+use lib.ListN.{length, length-append}
 use lib.Dec.{leb}
-use Rattle.rfc3550.specs.Answer.{Answer, ok, refused, refusal, need, _>>_}
+use Rattle.rfc3550.specs.Answer.{Answer, ok, refused, refusal, need, _>>_, _>>=_}
 use Rattle.rfc3550.specs.Bytes.{be, put, store}
-use Rattle.rfc3550.specs.Loss.{lossBits, lossIn, lossShown, lossMost}
-use Rattle.rfc3550.specs.Packet.{Block, Reporter, receiver, sender, Content, report, blockWidths, blockFields, blocksBytes, receiverWidths, senderWidths, reporterWidths, reporterFields, contentBytes, lowBits, type, layout}
-use Rattle.rfc3550.specs.Write.{Given, giveReport, packetGiven, paddingBytes, paddingOk, lossTests, ownTests, calculateSize}
-use Rattle.rfc3550.proofs.Answer.{need-inv, need-ok, then-inv, and-inv}
-use Rattle.rfc3550.proofs.Bytes.{length-be, length-store}
-use Rattle.rfc3550.proofs.Loss.{lossIn-fits}
+use Rattle.rfc3550.specs.Packet.{Block, Reporter, receiver, sender, report, blocksBytes, receiverWidths, senderWidths, reporterWidths, reporterFields, contentBytes, type, layout}
+use Rattle.rfc3550.specs.Write.{giveReport, packetGiven, paddingBytes, paddingOk, lossTests, ownTests, calculateSize}
+use Rattle.rfc3550.proofs.Answer.{need-inv, ok-injective, refused≢ok}
+use Rattle.rfc3550.proofs.Bytes.{length-store}
 use Rattle.utils.specs.Writer.{writtenOf, header}
+use Rattle.utils.specs.declared.error.RtcpWriteError.{RtcpWriteError}
 use Rattle.utils.specs.declared.writer.Written.{Written}
 use Rattle.utils.specs.declared.writer.Written.the-variants.{Size, Refused}
-use Rattle.utils.proofs.WriterStores.{store-nil, store-store, stores, be-cons, be-one}
-use Rattle.utils.proofs.WriterPackets.{writes, padding-most, sized, size-ok, size-refused, parts-laid, header-long, packet-laid}
-use Rattle.report.specs.declared.«report_block».ReportBlock.{ReportBlock}
-use Rattle.report_write.specs.declared.«report_block».Run.{Run}
+use Rattle.utils.proofs.WriterStores.{stores}
+use Rattle.utils.proofs.WriterPackets.{writes, write-refused, write-short, write-done, padding-most, sized, size-ok, size-refused, parts-laid, header-long, packet-laid}
 use Rattle.report_write.specs.declared.sender.SenderInfo.{SenderInfo}
-use Rattle.report_write.specs.Report.{noBlock, blockOf, held, blocksIn, senderOf, lossesSize, reportSize, ReportFits}
-
--- ---- the blocks of a run
-
-pub length-held : (n : ℕ) (bs : List ReportBlock) → length (held n bs) ≡ n
-unfolding held
-length-held zero bs = refl
-length-held (suc n) bs = ap suc (length-held n (drop 1 bs))
-
--- what is left of them, one block on
-held-next : (n i : ℕ) (bs : List ReportBlock) → i < n → held (n - i) (drop i bs) ≡ blockOf (getD bs i noBlock) ∷ held (n - (i + 1)) (drop (i + 1) bs)
-unfolding held
-held-next n i bs h =
-    let e : n - i ≡ suc (n - (i + 1)) = omega arith in
-    rw (e, getD-drop i bs 0 noBlock, add-zero, drop-drop 1 i bs)
-
-abbrev blockBytes : Block → List ℕ
-blockBytes b = put blockWidths (blockFields b)
-
-length-block : (b : Block) → length (put blockWidths (blockFields b)) ≡ 24
-unfolding put be
-length-block b = refl
-
-length-blocks : (bs : List Block) → length (blocksBytes bs) ≡ length bs * 24
-unfolding blocksBytes
-length-blocks [] = refl
-length-blocks (b ∷ bs) = rw (length-append (blockBytes b) (blocksBytes bs), length-block b, length-blocks bs) (omega arith)
-
--- ---- one block
-
-loss-word : (f x : ℕ) (r : List ℕ) → x ≤ 16777215 → be 4 (f * 16777216 + x) ++ r ≡ be 1 f ++ (be 3 (lossBits x) ++ r)
-unfolding lossBits
-loss-word f x r h = rw (be-cons 3 f x (omega arith), be-one f, mod-eq-of-lt {n = x} {m = 16777216} (omega arith))
-
-pub block-laid : (at w : ℕ) (b : ReportBlock) (l l₁ l₂ l₃ l₄ l₅ l₆ : List ℕ) → at + 24 ≤ length l → b .«cumulative_lost» ≤ 16777215 → w ≡ b .«fraction_lost» * 16777216 + b .«cumulative_lost»
-    → l₁ ≡ store at (be 4 (b .ssrc)) l → l₂ ≡ store (at + 4) (be 4 w) l₁ → l₃ ≡ store (at + 8) (be 4 (b .«extended_sequence_number»)) l₂
-    → l₄ ≡ store (at + 12) (be 4 (b .«interarrival_jitter»)) l₃ → l₅ ≡ store (at + 16) (be 4 (b .«last_sender_report_timestamp»)) l₄
-    → l₆ ≡ store (at + 20) (be 4 (b .«delay_since_last_sender_report_timestamp»)) l₅ → l₆ ≡ store at (put blockWidths (blockFields (blockOf b))) l
-unfolding put be
-block-laid at w b l l₁ l₂ l₃ l₄ l₅ l₆ h f e e₁ e₂ e₃ e₄ e₅ e₆ =
-    e₆ ∙ rw (e₅, e₄, e₃, e₂, e₁, e) (stores at (be 4 (b .ssrc)) (be 4 (b .«fraction_lost» * 16777216 + b .«cumulative_lost») ∷ be 4 (b .«extended_sequence_number») ∷ be 4 (b .«interarrival_jitter») ∷ be 4 (b .«last_sender_report_timestamp») ∷ be 4 (b .«delay_since_last_sender_report_timestamp») ∷ []) l h)
-    ∙ ap (λ (bs : List ℕ). store at (be 4 (b .ssrc) ++ bs) l) (loss-word (b .«fraction_lost») (b .«cumulative_lost») _ f)
-
--- ---- the blocks, one after the other
-
-pub record Blocks (at n : ℕ) (bs : List ReportBlock) (l : List ℕ) (i : ℕ) (l₁ : List ℕ) : Type 0 where
-  pub within : i ≤ n
-  pub long : length l₁ ≡ length l
-  pub low : lossTests (held (n - i) (drop i bs)) ≡ ok tt
-  pub rest : store (at + i * 24) (blocksBytes (held (n - i) (drop i bs))) l₁ ≡ store at (blocksBytes (held n bs)) l
-
-module _ (at n : ℕ) (bs : List ReportBlock) (l : List ℕ) where
-  pub blocks-start : lossTests (held n bs) ≡ ok tt → Blocks at n bs l 0 l
-  blocks-start h = record { within = omega arith; long = refl; low = rw sub-zero h; rest = rw (sub-zero, add-zero) }
-
-  module _ (i : ℕ) (l₁ : List ℕ) (w : Blocks at n bs l i l₁) where
-    pub blocks-low : i < n → getD bs i noBlock .«cumulative_lost» ≤ 16777215
-    unfolding lossTests
-    blocks-low h = lossIn-fits _ (need-inv _ _ _ _ _ (rw (held-next n i bs h) at (w .low)) .0)
-
-    pub blocks-again : (l₂ : List ℕ) → at + n * 24 ≤ length l → i < n → l₂ ≡ store (at + i * 24) (put blockWidths (blockFields (blockOf (getD bs i noBlock)))) l₁ → Blocks at n bs l (i + 1) l₂
-    unfolding lossTests blocksBytes
-    blocks-again l₂ f h e =
-        let b : Block = blockOf (getD bs i noBlock) in
-        let r : List Block = held (n - (i + 1)) (drop (i + 1) bs) in
-        let m : length (blocksBytes (held (n - (i + 1)) (drop (i + 1) bs))) ≡ (n - (i + 1)) * 24 =
-        length-blocks (held (n - (i + 1)) (drop (i + 1) bs)) ∙ ap (λ (k : ℕ). k * 24) (length-held (n - (i + 1)) (drop (i + 1) bs)) in
-        let lb = length-block (blockOf (getD bs i noBlock)) in
-        let g = w .long in
-        let s : store (at + (i + 1) * 24) (blocksBytes (held (n - (i + 1)) (drop (i + 1) bs))) l₂ ≡ store (at + i * 24) (blockBytes (blockOf (getD bs i noBlock)) ++ blocksBytes (held (n - (i + 1)) (drop (i + 1) bs))) l₁ =
-        rw e (store-store (at + i * 24) (at + (i + 1) * 24) (blockBytes (blockOf (getD bs i noBlock))) (blocksBytes (held (n - (i + 1)) (drop (i + 1) bs))) l₁ (omega arith) (omega arith)) in
-        record {
-          within = omega arith;
-          long = ap length e ∙ length-store (at + i * 24) (blockBytes (blockOf (getD bs i noBlock))) l₁ (omega arith) ∙ w .long;
-          low = need-inv _ _ _ _ _ (rw (held-next n i bs h) at (w .low)) .1;
-          rest = s ∙ (rw (held-next n i bs h) at (w .rest));
-        }
-
-    pub blocks-done : n ≤ i → l₁ ≡ store at (blocksBytes (held n bs)) l
-    unfolding blocksBytes held
-    blocks-done h =
-        let z : n - i ≡ 0 = omega arith in
-        sym (store-nil (at + i * 24) l₁) ∙ (rw z at (w .rest))
-
--- ---- the losses
-
-module _ (n size : ℕ) (bs : List ReportBlock) where
-  pub losses-start : lossesSize (held (n - 0) (drop 0 bs)) size ≡ lossesSize (held n bs) size
-  losses-start = rw sub-zero
-
-  module _ (i : ℕ) (w : lossesSize (held (n - i) (drop i bs)) size ≡ lossesSize (held n bs) size) where
-    pub losses-over : i < n → 16777215 < getD bs i noBlock .«cumulative_lost» → refused (refusal 17 (getD bs i noBlock .«cumulative_lost») 16777215) ≡ lossesSize (held n bs) size
-    unfolding lossesSize lossTests lossIn lossShown need _>>_
-    losses-over h f = rw (held-next n i bs h, lt-leb _ _ f) at w
-
-    pub losses-again : i < n → getD bs i noBlock .«cumulative_lost» ≤ 16777215 → lossesSize (held (n - (i + 1)) (drop (i + 1) bs)) size ≡ lossesSize (held n bs) size
-    unfolding lossesSize lossTests lossIn lossShown need _>>_
-    losses-again h f = rw (held-next n i bs h, le-leb _ _ f) at w
-
-    pub losses-done : n ≤ i → ok size ≡ lossesSize (held n bs) size
-    unfolding lossesSize lossTests held _>>_
-    losses-done h = let z : n - i ≡ 0 = omega arith in rw z at w
+use Rattle.report_write.specs.Report.{senderOf, blocksLent, flatOk, flatBlocks, sizeBlocks, writeBlocks, countSize, lossesSize, reportSize, flatSize, ReportFits, headLaid}
+use Rattle.report_write.proofs.Blocks.{length-blocks}
+use Rattle.report_write.proofs.Flat.{length-lent, flats}
 
 -- ---- the size
 
-module _ (least : ℕ) (run : Run) (k : ℕ) where
-  pub too-many : 31 < run .len → refused (refusal 18 (run .len) 31) ≡ reportSize least (blocksIn run) k
-  unfolding reportSize need _>>_
-  too-many h = simp (length-held, lt-leb _ _ h)
+module _ (least n k : ℕ) where
+  pub too-many : 31 < n → refused (refusal 18 n 31) ≡ countSize least n k
+  unfolding countSize need _>>_
+  too-many h = simp (lt-leb _ _ h)
 
-  module _ (h : run .len ≤ 31) (t : Bool) (e : t ≡ paddingOk k) where
-    pub bad-padding : t ≡ false → refused (refusal 11 k 0) ≡ reportSize least (blocksIn run) k
-    unfolding reportSize need _>>_
-    bad-padding q = simp (length-held, le-leb _ _ h, ← e, q)
+  module _ (h : n ≤ 31) (t : Bool) (e : t ≡ paddingOk k) where
+    pub bad-padding : t ≡ false → refused (refusal 11 k 0) ≡ countSize least n k
+    unfolding countSize need _>>_
+    bad-padding q = simp (le-leb _ _ h, ← e, q)
 
-    pub losses-left : (w : Written) → t ≡ true → writtenOf w ≡ lossesSize (blocksIn run) (least + run .len * 24 + k) → writtenOf w ≡ reportSize least (blocksIn run) k
-    unfolding reportSize need _>>_
-    losses-left w q f = f ∙ sym (simp (length-held, le-leb _ _ h, ← e, q))
+    pub count-fine : t ≡ true → ok (least + n * 24 + k) ≡ countSize least n k
+    unfolding countSize need _>>_
+    count-fine q = simp (le-leb _ _ h, ← e, q)
+
+-- what has a size has at most 31
+pub count-known : (least n k : ℕ) (w : Written) (m : ℕ) → writtenOf w ≡ countSize least n k → w ≡ Size m → n ≤ 31
+unfolding countSize
+count-known least n k w m e q = leb-true _ _ (need-inv _ _ _ _ _ (sym e ∙ ap writtenOf q) .0)
+
+module _ (least : ℕ) (bs : List Block) (k : ℕ) (w : Written) (e : writtenOf w ≡ countSize least (length bs) k) where
+  pub count-refused : (x : RtcpWriteError) → w ≡ Refused x → writtenOf w ≡ reportSize least bs k
+  unfolding reportSize _>>=_
+  count-refused x q = simp (← e, q)
+
+  pub count-sized : (m : ℕ) (v : Written) → w ≡ Size m → writtenOf v ≡ lossesSize bs m → writtenOf v ≡ reportSize least bs k
+  unfolding reportSize _>>=_
+  count-sized m v q f = f ∙ sym (simp (← e, q))
+
+-- ---- of a flat list
+
+module _ (xs : List ℕ) where
+  pub flat-ok : flatOk xs ≡ true → flatBlocks xs ≡ ok (blocksLent xs)
+  unfolding flatBlocks need _>>_
+  flat-ok e = simp e
+
+  pub flat-refused : flatOk xs ≡ false → flatBlocks xs ≡ refused (refusal 24 0 0)
+  unfolding flatBlocks need _>>_
+  flat-refused e = simp e
+
+  module _ (least k : ℕ) (t : Bool) (e : t ≡ flatOk xs) where
+    pub lists-disagree : t ≡ false → refused (refusal 24 0 0) ≡ flatSize least (flatBlocks xs) k
+    unfolding flatSize _>>=_
+    lists-disagree q = sym (rw (flat-refused (sym e ∙ q)))
+
+    module _ (q : t ≡ true) (w : Written) (f : writtenOf w ≡ countSize least (length xs / 7) k) where
+      counted : writtenOf w ≡ countSize least (length (blocksLent xs)) k
+      counted = rw (length-lent xs) f
+
+      pub flat-count-refused : (x : RtcpWriteError) → w ≡ Refused x → writtenOf w ≡ flatSize least (flatBlocks xs) k
+      unfolding flatSize _>>=_
+      flat-count-refused x p = rw (flat-ok (sym e ∙ q)) (count-refused least (blocksLent xs) k w counted x p)
+
+      pub flat-count-sized : (m : ℕ) (v : Written) → w ≡ Size m → writtenOf v ≡ lossesSize (blocksLent xs) m → writtenOf v ≡ flatSize least (flatBlocks xs) k
+      unfolding flatSize _>>=_
+      flat-count-sized m v p g = rw (flat-ok (sym e ∙ q)) (count-sized least (blocksLent xs) k w counted m v p g)
 
 -- ---- over the reporter
 
@@ -152,8 +89,8 @@ module _ (r : Reporter) (least : ℕ) (q : least ≡ 4 + length (put (reporterWi
   unfolding contentBytes
   content-length bs = simp (append-nil, length-append) (omega (arith, length-blocks bs))
 
-  report-size : least ≤ 28 → (bs : List Block) (k : ℕ) → reportSize least bs k ≡ calculateSize (giveReport r bs k)
-  unfolding reportSize lossesSize ownTests need _>>_
+  pub report-size : least ≤ 28 → (bs : List Block) (k : ℕ) → reportSize least bs k ≡ calculateSize (giveReport r bs k)
+  unfolding reportSize countSize lossesSize ownTests need _>>_ _>>=_
   report-size low bs k = go (leb (length bs) 31) refl (paddingOk k) refl (lossTests bs) refl
     where
       go : (x : Bool) → leb (length bs) 31 ≡ x → (y : Bool) → paddingOk k ≡ y → (z : Answer (Unit {0})) → lossTests bs ≡ z → reportSize least bs k ≡ calculateSize (giveReport r bs k)
@@ -165,60 +102,122 @@ module _ (r : Reporter) (least : ℕ) (q : least ≡ 4 + length (put (reporterWi
           let m : k ≤ 252 = padding-most _ k refl b in
           simp (a, b, c) (size-ok (giveReport r bs k) (least + length bs * 24 + k) (simp (a, b, c)) (omega (arith, content-length bs)) (omega arith))
 
-  report-fits : (run : Run) (k : ℕ) (w : Written) (n space : ℕ) → writtenOf w ≡ calculateSize (giveReport r (blocksIn run) k) → w ≡ Size n → n ≤ space → ReportFits least run k n space
+  pub report-fits : (bs : List Block) (k : ℕ) (n space : ℕ) → calculateSize (giveReport r bs k) ≡ ok n → n ≤ space → ReportFits least (length bs) bs k n space
   unfolding ownTests
-  report-fits run k w n space e p h =
-      let z = sized (giveReport r (blocksIn run) k) n (sym e ∙ ap writtenOf p) in
+  report-fits bs k n space e h =
+      let z = sized (giveReport r bs k) n e in
       let a = need-inv _ _ _ _ _ (z .own) in
       let b = need-inv _ _ _ _ _ (a .1) in
-      let m = length-held (run .len) (run .blocks) in
-      let c : length (blocksIn run) ≤ 31 = leb-true _ _ (a .0) in
       record {
-        count = omega arith;
+        many = refl;
+        count-fits = leb-true _ _ (a .0);
         padding = padding-most _ k refl (b .0);
         losses = b .1;
-        size = omega (arith, content-length (blocksIn run));
+        size = z .is ∙ omega (arith, content-length bs);
         most = z .most;
         room = h;
       }
 
-  report-laid : (run : Run) (k t size : ℕ) (l l₁ l₂ l₃ l₄ : List ℕ) → t ≡ type (report r (blocksIn run) []) → ReportFits least run k size (length l) → l₁ ≡ store 0 (header k (run .len) t size) l
-      → l₂ ≡ store 4 (put (reporterWidths r) (reporterFields r)) l₁ → l₃ ≡ store least (blocksBytes (blocksIn run)) l₂ → l₄ ≡ store (size - k) (paddingBytes k) l₃
-      → l₄ ≡ store 0 (layout (packetGiven (giveReport r (blocksIn run) k))) l
+  pub report-laid : (count : ℕ) (bs : List Block) (k t size : ℕ) (l l₂ l₃ l₄ : List ℕ) → t ≡ type (report r bs []) → ReportFits least count bs k size (length l)
+      → l₂ ≡ headLaid r t k count size l → l₃ ≡ store least (blocksBytes bs) l₂ → l₄ ≡ store (size - k) (paddingBytes k) l₃
+      → l₄ ≡ store 0 (layout (packetGiven (giveReport r bs k))) l
   unfolding contentBytes
-  report-laid run k t size l l₁ l₂ l₃ l₄ u f e₁ e₂ e₃ e₄ =
+  report-laid count bs k t size l l₂ l₃ l₄ u f e₂ e₃ e₄ =
       let z = f .size in
       let m = f .room in
-      let n = length-held (run .len) (run .blocks) in
-      let c = content-length (blocksIn run) in
-      let b = length-blocks (blocksIn run) in
-      let ln = header-long k (run .len) t size l l₁ (omega arith) e₁ in
-      let p = parts-laid 4 least (put (reporterWidths r) (reporterFields r)) (blocksBytes (blocksIn run)) l₁ l₂ l₃ e₂ e₃ (omega arith) (omega arith) in
-      packet-laid (report r (blocksIn run) []) k size (size - k) l l₁ l₃ l₄ (omega arith) m (omega arith) (rw (n, ← u) e₁) (rw append-nil p) e₄
+      let n = f .many in
+      let c = content-length bs in
+      let b = length-blocks bs in
+      let ln = header-long k count t size l (store 0 (header k count t size) l) (omega arith) refl in
+      let p = parts-laid 4 least (put (reporterWidths r) (reporterFields r)) (blocksBytes bs) (store 0 (header k count t size) l) l₂ l₃ e₂ e₃ (omega arith) (omega arith) in
+      packet-laid (report r bs []) k size (size - k) l (store 0 (header k count t size) l) l₃ l₄ (omega arith) m (omega arith) (rw (n, ← u)) (rw append-nil p) e₄
+
+-- ---- a report of a flat list
+
+-- what has a size has lists that agree
+accepted-if : (r : Reporter) (xs : List ℕ) (k : ℕ) (w : Written) (n : ℕ) → writtenOf w ≡ sizeBlocks r (flatBlocks xs) k → w ≡ Size n → (t : Bool) → flatOk xs ≡ t → flatOk xs ≡ true
+unfolding sizeBlocks _>>=_
+accepted-if r xs k w n e p true f = f
+accepted-if r xs k w n e p false f = absurd (refused≢ok (sym (rw (flat-refused xs f, p) at e)))
+
+pub flat-accepted : (r : Reporter) (xs : List ℕ) (k : ℕ) (w : Written) (n : ℕ) → writtenOf w ≡ sizeBlocks r (flatBlocks xs) k → w ≡ Size n → flatOk xs ≡ true
+flat-accepted r xs k w n e p = accepted-if r xs k w n e p (flatOk xs) refl
+
+module _ (r : Reporter) (least : ℕ) (q : least ≡ 4 + length (put (reporterWidths r) (reporterFields r))) (low : least ≤ 28) (xs : List ℕ) (k : ℕ) where
+  flat-size : (w : Written) → writtenOf w ≡ flatSize least (flatBlocks xs) k → writtenOf w ≡ sizeBlocks r (flatBlocks xs) k
+  unfolding flatSize sizeBlocks
+  flat-size w e = e ∙ ap (λ (f : List Block → Answer ℕ). flatBlocks xs >>= f) (λ i bs. report-size r least q low bs k i)
+
+  module _ (w : Written) (n : ℕ) (e : writtenOf w ≡ sizeBlocks r (flatBlocks xs) k) (p : w ≡ Size n) where
+    flat-sized : calculateSize (giveReport r (blocksLent xs) k) ≡ ok n
+    unfolding sizeBlocks _>>=_
+    flat-sized = sym (rw (flat-ok xs (flat-accepted r xs k w n e p), p) at e)
+
+    flat-fits : (space : ℕ) → n ≤ space → ReportFits least (length xs / 7) (blocksLent xs) k n space
+    flat-fits space h =
+        let f = report-fits r least q (blocksLent xs) k n space flat-sized h in
+        let m = length-lent xs in
+        let z = f .size in
+        let c = f .count-fits in
+        record { many = m; count-fits = omega arith; padding = f .padding; losses = f .losses; size = omega arith; most = f .most; room = h }
+
+module _ (r : Reporter) (xs : List ℕ) (k : ℕ) (w : Written) (l : List ℕ) (h : writtenOf w ≡ sizeBlocks r (flatBlocks xs) k) where
+  -- where a size is refused, the lists are or the report is
+  pub flat-write-refused : (e : RtcpWriteError) → w ≡ Refused e → (writtenOf w, l) ≡ writeBlocks r (flatBlocks xs) k l
+  unfolding sizeBlocks writeBlocks _>>=_
+  flat-write-refused e q = go (flatBlocks xs) refl
+    where
+      go : (a : Answer (List Block)) → flatBlocks xs ≡ a → (writtenOf w, l) ≡ writeBlocks r (flatBlocks xs) k l
+      go (ok bs) f = rw f (write-refused (giveReport r bs k) w l (rw f at h) e q)
+      go (refused x) f = rw f (ap (λ (a : Answer ℕ). (a, l)) (rw f at h))
+
+  module _ (n : ℕ) (q : w ≡ Size n) where
+    fine : flatOk xs ≡ true
+    fine = flat-accepted r xs k w n h q
+
+    agreed : writtenOf w ≡ calculateSize (giveReport r (blocksLent xs) k)
+    unfolding sizeBlocks _>>=_
+    agreed = rw (flat-ok xs fine) at h
+
+    pub flat-write-short : length l < n → (refused (refusal 10 n 0), l) ≡ writeBlocks r (flatBlocks xs) k l
+    unfolding writeBlocks
+    flat-write-short f = rw (flat-ok xs fine) (write-short (giveReport r (blocksLent xs) k) w l agreed n q f)
+
+    pub flat-write-done : (l₁ : List ℕ) → n ≤ length l → l₁ ≡ store 0 (layout (packetGiven (giveReport r (blocksLent xs) k))) l → (ok n, l₁) ≡ writeBlocks r (flatBlocks xs) k l
+    unfolding writeBlocks
+    flat-write-done l₁ f e = rw (flat-ok xs fine) (write-done (giveReport r (blocksLent xs) k) w l agreed n l₁ q f e)
 
 -- ---- RR
 
 module _ (ssrc : ℕ) where
-  receiver-least : 8 ≡ 4 + length (put receiverWidths (ssrc ∷ []))
+  pub receiver-least : 8 ≡ 4 + length (put receiverWidths (ssrc ∷ []))
   unfolding put be
   receiver-least = refl
 
-  pub receiver-size : (bs : List Block) (k : ℕ) (w : Written) → writtenOf w ≡ reportSize 8 bs k → writtenOf w ≡ calculateSize (giveReport (receiver ssrc) bs k)
-  receiver-size bs k w e = e ∙ report-size (receiver ssrc) 8 receiver-least (omega arith) bs k
-
-  pub receiver-fits : (run : Run) (k : ℕ) (w : Written) (n space : ℕ) → writtenOf w ≡ calculateSize (giveReport (receiver ssrc) (blocksIn run) k) → w ≡ Size n → n ≤ space → ReportFits 8 run k n space
-  receiver-fits = report-fits (receiver ssrc) 8 receiver-least
-
-  pub receiver-laid : (run : Run) (k size : ℕ) (l l₁ l₂ l₃ l₄ : List ℕ) → ReportFits 8 run k size (length l) → l₁ ≡ store 0 (header k (run .len) 201 size) l
-      → l₂ ≡ store 4 (be 4 ssrc) l₁ → l₃ ≡ store 8 (blocksBytes (blocksIn run)) l₂ → l₄ ≡ store (size - k) (paddingBytes k) l₃
-      → l₄ ≡ store 0 (layout (packetGiven (giveReport (receiver ssrc) (blocksIn run) k))) l
+  pub receiver-head : (k count size : ℕ) (l l₁ l₂ : List ℕ) → l₁ ≡ store 0 (header k count 201 size) l → l₂ ≡ store 4 (be 4 ssrc) l₁ → l₂ ≡ headLaid (receiver ssrc) 201 k count size l
   unfolding put
-  receiver-laid run k size l l₁ l₂ l₃ l₄ f e₁ e₂ e₃ e₄ = report-laid (receiver ssrc) 8 receiver-least run k 201 size l l₁ l₂ l₃ l₄ refl f e₁ (rw append-nil e₂) e₃ e₄
+  receiver-head k count size l l₁ l₂ e f = f ∙ rw (e, append-nil)
+
+  module _ (xs : List ℕ) (k : ℕ) where
+    pub receiver-size : (w : Written) → writtenOf w ≡ flatSize 8 (flatBlocks xs) k → writtenOf w ≡ sizeBlocks (receiver ssrc) (flatBlocks xs) k
+    receiver-size = flat-size (receiver ssrc) 8 receiver-least (omega arith) xs k
+
+    module _ (w : Written) (n : ℕ) (e : writtenOf w ≡ sizeBlocks (receiver ssrc) (flatBlocks xs) k) (p : w ≡ Size n) where
+      pub receiver-agree : flatOk xs ≡ true
+      receiver-agree = flat-accepted (receiver ssrc) xs k w n e p
+
+      pub receiver-fits : (space : ℕ) → n ≤ space → ReportFits 8 (length xs / 7) (blocksLent xs) k n space
+      receiver-fits = flat-fits (receiver ssrc) 8 receiver-least (omega arith) xs k w n e p
+
+    pub receiver-laid : (size : ℕ) (l l₂ l₃ l₄ : List ℕ) → ReportFits 8 (length xs / 7) (blocksLent xs) k size (length l)
+        → l₂ ≡ headLaid (receiver ssrc) 201 k (length xs / 7) size l → l₃ ≡ store 8 (blocksBytes (blocksLent xs)) l₂ → l₄ ≡ store (size - k) (paddingBytes k) l₃
+        → l₄ ≡ store 0 (layout (packetGiven (giveReport (receiver ssrc) (blocksLent xs) k))) l
+    receiver-laid size l l₂ l₃ l₄ f = report-laid (receiver ssrc) 8 receiver-least (length xs / 7) (blocksLent xs) k 201 size l l₂ l₃ l₄ refl f
 
 -- ---- SR
 
 module _ (i : SenderInfo) where
-  sender-least : 28 ≡ 4 + length (put senderWidths (reporterFields (senderOf i)))
+  pub sender-least : 28 ≡ 4 + length (put senderWidths (reporterFields (senderOf i)))
   unfolding put be
   sender-least = refl
 
@@ -228,24 +227,34 @@ module _ (i : SenderInfo) where
   info-laid l l₁ l₂ l₃ l₄ l₅ h e₁ e₂ e₃ e₄ e₅ =
       e₅ ∙ rw (e₄, e₃, e₂, e₁) (stores 4 (be 4 (i .ssrc)) (be 8 (i .«ntp_timestamp») ∷ be 4 (i .«rtp_timestamp») ∷ be 4 (i .«packet_count») ∷ be 4 (i .«octet_count») ∷ []) l h)
 
-  pub sender-size : (bs : List Block) (k : ℕ) (w : Written) → writtenOf w ≡ reportSize 28 bs k → writtenOf w ≡ calculateSize (giveReport (senderOf i) bs k)
-  sender-size bs k w e = e ∙ report-size (senderOf i) 28 sender-least (omega arith) bs k
+  pub sender-head : (k count size : ℕ) (l l₁ l₂ : List ℕ) → l₁ ≡ store 0 (header k count 200 size) l → l₂ ≡ store 4 (put senderWidths (reporterFields (senderOf i))) l₁ → l₂ ≡ headLaid (senderOf i) 200 k count size l
+  sender-head k count size l l₁ l₂ e f = f ∙ rw e
 
-  pub sender-fits : (run : Run) (k : ℕ) (w : Written) (n space : ℕ) → writtenOf w ≡ calculateSize (giveReport (senderOf i) (blocksIn run) k) → w ≡ Size n → n ≤ space → ReportFits 28 run k n space
-  sender-fits = report-fits (senderOf i) 28 sender-least
+  module _ (xs : List ℕ) (k : ℕ) where
+    pub sender-size : (w : Written) → writtenOf w ≡ flatSize 28 (flatBlocks xs) k → writtenOf w ≡ sizeBlocks (senderOf i) (flatBlocks xs) k
+    sender-size = flat-size (senderOf i) 28 sender-least (omega arith) xs k
 
-  pub sender-laid : (run : Run) (k size : ℕ) (l l₁ l₂ l₃ l₄ : List ℕ) → ReportFits 28 run k size (length l) → l₁ ≡ store 0 (header k (run .len) 200 size) l
-      → l₂ ≡ store 4 (put senderWidths (reporterFields (senderOf i))) l₁ → l₃ ≡ store 28 (blocksBytes (blocksIn run)) l₂ → l₄ ≡ store (size - k) (paddingBytes k) l₃
-      → l₄ ≡ store 0 (layout (packetGiven (giveReport (senderOf i) (blocksIn run) k))) l
-  sender-laid run k size l l₁ l₂ l₃ l₄ f e₁ e₂ e₃ e₄ = report-laid (senderOf i) 28 sender-least run k 200 size l l₁ l₂ l₃ l₄ refl f e₁ e₂ e₃ e₄
+    module _ (w : Written) (n : ℕ) (e : writtenOf w ≡ sizeBlocks (senderOf i) (flatBlocks xs) k) (p : w ≡ Size n) where
+      pub sender-agree : flatOk xs ≡ true
+      sender-agree = flat-accepted (senderOf i) xs k w n e p
 
-pub ruleset reports = (writes, not-true, not-false, block-laid, blocks-start, blocks-low, blocks-again, blocks-done, losses-start, losses-over, losses-again, losses-done, too-many, bad-padding, losses-left, receiver-size, receiver-fits, receiver-laid, info-laid, sender-size, sender-fits, sender-laid)
+      pub sender-fits : (space : ℕ) → n ≤ space → ReportFits 28 (length xs / 7) (blocksLent xs) k n space
+      sender-fits = flat-fits (senderOf i) 28 sender-least (omega arith) xs k w n e p
 
--- ---- the views lose nothing (of a run, nothing but the blocks past its count)
+    pub sender-laid : (size : ℕ) (l l₂ l₃ l₄ : List ℕ) → ReportFits 28 (length xs / 7) (blocksLent xs) k size (length l)
+        → l₂ ≡ headLaid (senderOf i) 200 k (length xs / 7) size l → l₃ ≡ store 28 (blocksBytes (blocksLent xs)) l₂ → l₄ ≡ store (size - k) (paddingBytes k) l₃
+        → l₄ ≡ store 0 (layout (packetGiven (giveReport (senderOf i) (blocksLent xs) k))) l
+    sender-laid size l l₂ l₃ l₄ f = report-laid (senderOf i) 28 sender-least (length xs / 7) (blocksLent xs) k 200 size l l₂ l₃ l₄ refl f
 
-pub blockOf-injective : (b c : ReportBlock) → blockOf b ≡ blockOf c → b ≡ c
-blockOf-injective b c h =
-    λ i. record { ssrc = h i .ssrc; «fraction_lost» = h i .fraction; «cumulative_lost» = h i .lost; «extended_sequence_number» = h i .sequence; «interarrival_jitter» = h i .jitter; «last_sender_report_timestamp» = h i .lsr; «delay_since_last_sender_report_timestamp» = h i .dlsr }
+-- what a head leaves of a buffer's length
+pub head-long : (r : Reporter) (t k count size : ℕ) (l l₁ : List ℕ) → 4 + length (put (reporterWidths r) (reporterFields r)) ≤ length l → l₁ ≡ headLaid r t k count size l → length l₁ ≡ length l
+head-long r t k count size l l₁ h e =
+    let n = header-long k count t size l (store 0 (header k count t size) l) (omega arith) refl in
+    ap length e ∙ length-store 4 (put (reporterWidths r) (reporterFields r)) (store 0 (header k count t size) l) (omega arith) ∙ n
+
+pub ruleset reports = (writes, flats, not-true, not-false, too-many, bad-padding, count-fine, lists-disagree, flat-count-refused, flat-count-sized, receiver-head, receiver-size, receiver-agree, receiver-fits, receiver-laid, info-laid, sender-head, sender-size, sender-agree, sender-fits, sender-laid, flat-write-refused, flat-write-short, flat-write-done)
+
+-- ---- the views lose nothing
 
 pub senderOf-injective : (a b : SenderInfo) → senderOf a ≡ senderOf b → a ≡ b
 senderOf-injective a b h =
@@ -255,6 +264,3 @@ senderOf-injective a b h =
     let p : a .«packet_count» ≡ b .«packet_count» = cc in
     let o : a .«octet_count» ≡ b .«octet_count» = cc in
     λ i. record { ssrc = s i; «ntp_timestamp» = n i; «rtp_timestamp» = r i; «packet_count» = p i; «octet_count» = o i }
-
-pub length-blocksIn : (run : Run) → length (blocksIn run) ≡ run .len
-length-blocksIn run = length-held (run .len) (run .blocks)

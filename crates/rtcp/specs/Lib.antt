@@ -5,5 +5,4 @@ pub mod Bye
 pub mod Sdes
 pub mod Compound
 pub mod WriteResult
-pub mod WriteReport
 pub mod WriteCompound

@@ -1,12 +1,9 @@
 -- The compound writer as C gets it. A flag that is not 0 is set. A call hands on the writer after it, on a refusal the one that went in.
 use Prim.Native.Nat.{ℕ}
-use mathlib.Core.Bool.{not}
 use mathlib.Core.List.{List}
 use lib.Dec.{ltb}
-use Rattle.rfc3550.specs.Answer.{Refusal, Answer, ok, refused, need, _>>_}
-use Rattle.rfc3550.specs.Packet.{Block, Reporter}
-use Rattle.rfc3550.specs.Write.{giveReport}
-use Rattle.rfc3550.specs.Writer.{Writer, add, call}
+use Rattle.rfc3550.specs.Answer.{Answer, ok, refused}
+use Rattle.rfc3550.specs.Writer.{Writer}
 use Rattle.rtcp.specs.declared.write_compound.RtcpWriter.{RtcpWriter}
 use Rattle.rtcp.specs.declared.write_compound.RtcpCall.{RtcpCall}
 use Rattle.rtcp.specs.Result.{numberOf, firstOf, secondOf, bit}
@@ -37,15 +34,3 @@ callResult w a =
 -- a call on the writer w: its result and beside it the buffer that is left
 abbrev pub calledOut : RtcpWriter → Answer (Unit {0}) × Writer × List ℕ → RtcpCall × List ℕ
 calledOut w x = (callResult w (handedOn (x .0) (x .1)), x .2)
-
--- ---- a report whose blocks are lent as one flat run: a run's refusal stands after 26 and 29, ahead of a report's own order; 27 is none of a report's
-
-unfoldable pub turnedDown : Writer → Refusal → Answer (Unit {0})
-turnedDown w e = do
-  need (not (w .closed)) 26 0 0
-  need (not (w .padded)) 29 0 0
-  refused e
-
-unfoldable pub addBlocks : Reporter → Answer (List Block) → ℕ → Writer → List ℕ → Answer (Unit {0}) × Writer × List ℕ
-addBlocks r (ok bs) k w l = call (add (giveReport r bs k)) w l
-addBlocks r (refused e) k w l = (turnedDown w e, w, l)

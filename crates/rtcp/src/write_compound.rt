@@ -1,7 +1,5 @@
 // The compound writer. Its state is four numbers that the caller keeps and hands in by value; the buffer is lent again at each call.
 use super::result::bit;
-use super::write_report::check_blocks;
-use super::write_report::gather_unchecked;
 use compound_write::writer::Call;
 use compound_write::writer::Outcome;
 use compound_write::writer::Writer;
@@ -9,15 +7,15 @@ use report_write::sender::SenderInfo;
 use utils::error::RtcpWriteError;
 ghost use mathlib.Core.Path.{_≡_};
 ghost use mathlib.Core.List.{[]};
-ghost use Rattle.rfc3550.specs.Answer.{refused, refusal};
+ghost use Rattle.rfc3550.specs.Answer.{refused};
 ghost use Rattle.rfc3550.specs.Packet.{receiver, sender};
 ghost use Rattle.rfc3550.specs.Write.{giveSdes, giveBye, giveApp};
 ghost use Rattle.rfc3550.specs.Writer.{fresh, add, close, call};
 ghost use Rattle.utils.specs.Error.{writeRefusal};
+ghost use Rattle.report_write.specs.Report.{flatBlocks};
 ghost use Rattle.sdes_write.specs.Packets.{lists};
-ghost use Rattle.compound_write.specs.Writer.{outcomeOf, writerOf};
-ghost use Rattle.rtcp.specs.WriteReport.{flatBlocks};
-ghost use Rattle.rtcp.specs.WriteCompound.{writerIn, writerOut, handedOn, callResult, calledOut, turnedDown, addBlocks};
+ghost use Rattle.compound_write.specs.Writer.{outcomeOf, writerOf, addBlocks};
+ghost use Rattle.rtcp.specs.WriteCompound.{writerIn, writerOut, handedOn, callResult, calledOut};
 
 // The length so far, and three flags: one that is not 0 is set.
 #[repr(C)]
@@ -94,19 +92,6 @@ impl RtcpCall {
     }
 }
 
-// Why a report is not added whose blocks do not fit together.
-fn lists_disagree(writer: Writer) -> RtcpWriteError
-    ensures { λ r. ⌜ refused (writeRefusal r) ≡ turnedDown (writerOf writer) (refusal 24 0 0) ⌝ }
-{
-    if writer.closed {
-        return RtcpWriteError::WriterClosed;
-    }
-    if writer.padded {
-        return RtcpWriteError::AlreadyPadded;
-    }
-    RtcpWriteError::ListsDisagree
-}
-
 #[no_mangle]
 pub extern "C" fn rtcp_writer_new() -> RtcpWriter
     ensures { λ r. ⌜ r ≡ writerOut fresh ⌝ }
@@ -125,11 +110,7 @@ pub extern "C" fn rtcp_writer_add_rr(
     ensures { λ r. ⌜ (r, now (buf .exit)) ≡ calledOut writer (addBlocks (receiver ssrc) (flatBlocks (now (blocks .entry))) padding (writerIn writer) (now (buf .entry))) ⌝ }
 {
     let w = writer.held();
-    if !check_blocks(blocks) {
-        return RtcpCall::refused(writer, lists_disagree(w));
-    }
-    let run = gather_unchecked(blocks);
-    RtcpCall::from_call(writer, w.add_rr(buf, ssrc, run, padding))
+    RtcpCall::from_call(writer, w.add_rr(buf, ssrc, blocks, padding))
 }
 
 #[no_mangle]
@@ -147,10 +128,6 @@ pub extern "C" fn rtcp_writer_add_sr(
     ensures { λ r. ⌜ (r, now (buf .exit)) ≡ calledOut writer (addBlocks (sender ssrc «ntp_timestamp» «rtp_timestamp» «packet_count» «octet_count») (flatBlocks (now (blocks .entry))) padding (writerIn writer) (now (buf .entry))) ⌝ }
 {
     let w = writer.held();
-    if !check_blocks(blocks) {
-        return RtcpCall::refused(writer, lists_disagree(w));
-    }
-    let run = gather_unchecked(blocks);
     let info = SenderInfo {
         ssrc,
         ntp_timestamp,
@@ -158,7 +135,7 @@ pub extern "C" fn rtcp_writer_add_sr(
         packet_count,
         octet_count,
     };
-    RtcpCall::from_call(writer, w.add_sr(buf, info, run, padding))
+    RtcpCall::from_call(writer, w.add_sr(buf, info, blocks, padding))
 }
 
 #[no_mangle]

@@ -5,9 +5,6 @@ use borrow.Author.Needs.{needs}
 use Rattle.leave.proofs.leave.Statement.{statement}
 use Rattle.leave.proofs.leave.Tie as tie
 
-no-blocks-requires : tie.Need-no-blocks-requires
-no-blocks-requires c κs = search needs
-
 new-requires : tie.Need-new-requires
 new-requires c κs = search needs
 
@@ -17,8 +14,8 @@ slice-aggregate-add-bye c = search needs
 add-bye-requires : tie.Need-add-bye-requires
 add-bye-requires c κs = search needs
 
-add-sr-requires : tie.Need-add-sr-requires
-add-sr-requires c κs = search needs
+add-bare-sr-requires : tie.Need-add-bare-sr-requires
+add-bare-sr-requires c κs = search needs
 
 slice-aggregate-add-sdes : tie.Need-slice-aggregate-add-sdes
 slice-aggregate-add-sdes c = search needs
@@ -48,20 +45,20 @@ close-requires : tie.Need-close-requires
 close-requires c κs = search needs
 
 same-length : tie.Need-same-length
-same-length c = c .before .before .before .before .before .add-bye2 .kept .1 .0 ∙ c .before .before .before .before .before .before .before .before .before .before .before .add-sdes .kept .1 .0 ∙ c .before .before .before .before .before .before .before .before .before .before .before .before .before .before .before .before .before .before .before .before .before .add-sr .kept .1 .0 ∙ c .before .before .before .before .before .before .before .before .before .before .before .before .before .before .before .before .before .before .before .before .before .before .before .before .before .before .add-bye .kept .1 .0
+same-length c = c .before .before .before .before .before .add-bye2 .kept .1 .0 ∙ c .before .before .before .before .before .before .before .before .before .before .before .add-sdes .kept .1 .0 ∙ c .before .before .before .before .before .before .before .before .before .before .before .before .before .before .before .before .before .before .before .before .before .add-bare-sr .kept .1 .0 ∙ c .before .before .before .before .before .before .before .before .before .before .before .before .before .before .before .before .before .before .before .before .before .before .before .before .before .before .add-bye .kept .1 .0
 
 returns : tie.Need-returns
 returns c =
-    let a = c .before .before .before .before .before .before .before .before .before .before .before .before .before .before .before .before .before .before .before .before .before .before .before .before .before .before .before .before .before .before .before .before .before .before .args in
-    left-told (a .info) (a .name .now) (a .reason .now) (a .buf .now) (c .before .before .before .before .before .before .before .before .before .before .before .before .before .before .before .before .before .before .before .before .before .before .before .before .before .before .add-bye .last .1 .0) (c .before .before .before .before .before .before .before .before .before .before .before .before .before .before .before .before .before .before .before .before .before .add-sr .last .1 .0) (c .before .before .before .before .before .before .before .before .before .before .before .add-sdes .last .1 .0) (c .before .before .before .before .before .add-bye2 .last .1 .0)
-    _ _ _ _ _ _ _
-    (let g = c .before .before .before .before .before .before .before .before .before .before .before .before .before .before .before .before .before .before .before .before .before .before .before .before .before .before .before .before .before .before .before .before .before .before .good .1 .0 in (omega (arith, g), (omega (arith, g), (omega (arith, g), (omega (arith, g), (omega (arith, g), tt))))))
-    (λ i. omega (arith, c .before .before .before .before .before .before .before .before .before .before .before .before .before .before .before .before .before .before .before .before .before .before .before .before .before .before .before .before .before .before .before .before .shared-slice-known .given i))
-    (λ i. omega (arith, c .before .before .before .before .before .before .before .before .before .before .before .before .before .before .before .before .before .before .before .before .before .before .before .before .before .before .before .before .before .before .before .shared-slice-known2 .given i))
-    (c .before .before .before .before .before .before .before .before .before .before .before .before .before .before .before .before .before .before .before .before .before .before .before .before .before .before .before .before .before .before .no-blocks .ensures)
+    let a = c .before .before .before .before .before .before .before .before .before .before .before .before .before .before .before .before .before .before .before .before .before .before .before .before .before .before .before .before .before .before .before .before .before .args in
+    let g = c .before .before .before .before .before .before .before .before .before .before .before .before .before .before .before .before .before .before .before .before .before .before .before .before .before .before .before .before .before .before .before .before .before .good .1 .0 in
+    left-told (a .info) (a .name .now) (a .reason .now) (a .buf .now) (c .before .before .before .before .before .before .before .before .before .before .before .before .before .before .before .before .before .before .before .before .before .before .before .before .before .before .add-bye .last .1 .0) (c .before .before .before .before .before .before .before .before .before .before .before .before .before .before .before .before .before .before .before .before .before .add-bare-sr .last .1 .0) (c .before .before .before .before .before .before .before .before .before .before .before .add-sdes .last .1 .0) (c .before .before .before .before .before .add-bye2 .last .1 .0)
+    _ _ _ _ _ _
+    (omega (arith, g), (omega (arith, g), (omega (arith, g), (omega (arith, g), (omega (arith, g), tt)))))
+    (λ i. omega (arith, c .before .before .before .before .before .before .before .before .before .before .before .before .before .before .before .before .before .before .before .before .before .before .before .before .before .before .before .before .before .before .before .shared-slice-known .given i))
+    (λ i. omega (arith, c .before .before .before .before .before .before .before .before .before .before .before .before .before .before .before .before .before .before .before .before .before .before .before .before .before .before .before .before .before .before .shared-slice-known2 .given i))
     (c .before .before .before .before .before .before .before .before .before .before .before .before .before .before .before .before .before .before .before .before .before .before .before .before .before .before .before .before .before .new .ensures)
     (c .before .before .before .before .before .before .before .before .before .before .before .before .before .before .before .before .before .before .before .before .before .before .before .before .before .before .add-bye .ensures)
-    (c .before .before .before .before .before .before .before .before .before .before .before .before .before .before .before .before .before .before .before .before .before .add-sr .ensures)
+    (c .before .before .before .before .before .before .before .before .before .before .before .before .before .before .before .before .before .before .before .before .before .add-bare-sr .ensures)
     (c .before .before .before .before .before .before .before .before .before .before .before .add-sdes .ensures)
     (c .before .before .before .before .before .add-bye2 .ensures)
     (c .before .close .ensures)
@@ -70,11 +67,10 @@ pub leave-spec : {M : Type 1} → statement M
 leave-spec =
     tie.close
     (tie.spec
-    no-blocks-requires
     new-requires
     slice-aggregate-add-bye
     add-bye-requires
-    add-sr-requires
+    add-bare-sr-requires
     slice-aggregate-add-sdes
     slice-aggregate-add-sdes-2
     slice-aggregate-add-sdes-3

@@ -36,10 +36,10 @@ use denote.Triple.Spec.{Meets, tripleOf}
 use denote.Triple.Table.{entered}
 use denote.Triple.Walked.{says, needs, Stays, stay-none-slice, stay-none, walkOf, goes-none-slice, goes-none, Walks, ends-at, walked, walk-meets}
 use denote.Exit.{yes}
-use Rattle.report_write.specs.Report.{noBlock}
 use Rattle.report.specs.declared.«report_block».ReportBlock.{ReportBlock}
 use Rattle.report.proofs.report_block.ReportBlock as T
 use Rattle.report.proofs.report_block.ReportBlock.Laws as T′
+use Rattle.report_records.specs.Records.{noBlock}
 use Rattle.report_records.proofs.block_unchecked.Key.{name as #block-unchecked}
 use Rattle.report_records.proofs.block_unchecked as block-unchecked
 use Rattle.report_records.proofs.block_unchecked.Statement as stated

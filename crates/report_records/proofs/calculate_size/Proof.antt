@@ -44,11 +44,10 @@ use Rattle.utils.proofs.writer.Written as S
 use Rattle.utils.proofs.writer.Written.Laws as S′
 use Rattle.report.specs.declared.«report_block».ReportBlock.{ReportBlock}
 use Rattle.report.proofs.report_block.ReportBlock as T
-use Rattle.report_write.specs.Report.{blocksIn}
-use Rattle.report_write.specs.declared.«report_block».Run.{Run}
-use Rattle.report_write.proofs.report_block.Run as U
-use Rattle.report_write.proofs.report_block.Run.Laws as U′
-use Rattle.report_records.specs.Records.{reporterOf, blocksLent, runOf}
+use Rattle.report_records.specs.declared.run.Run.{Run}
+use Rattle.report_records.proofs.run.Run as U
+use Rattle.report_records.proofs.run.Run.Laws as U′
+use Rattle.report_records.specs.Records.{blocksIn, reporterOf, blocksLent, runOf}
 use Rattle.report_records.specs.declared.Reporter.{Reporter}
 use Rattle.report_records.proofs.Records.{lent-size}
 use Rattle.report_records.proofs.Reporter as P

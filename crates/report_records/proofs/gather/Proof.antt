@@ -54,11 +54,10 @@ use denote.Exit.{yes}
 use Rattle.report.specs.declared.«report_block».ReportBlock.{ReportBlock}
 use Rattle.report.proofs.report_block.ReportBlock as T
 use Rattle.report.proofs.report_block.ReportBlock.Laws as T′
-use Rattle.report_write.specs.Report.{noBlock}
-use Rattle.report_write.specs.declared.«report_block».Run.{Run}
-use Rattle.report_write.proofs.report_block.Run as U
-use Rattle.report_write.proofs.report_block.Run.Laws as U′
-use Rattle.report_records.specs.Records.{filled, noBlocks}
+use Rattle.report_records.specs.declared.run.Run.{Run}
+use Rattle.report_records.proofs.run.Run as U
+use Rattle.report_records.proofs.run.Run.Laws as U′
+use Rattle.report_records.specs.Records.{noBlock, filled, noBlocks}
 use Rattle.report_records.proofs.Records.{filled-next, filled-all, length-filled}
 use Rattle.report_records.proofs.held_count as held-count
 use Rattle.report_records.proofs.held_count.Symbol as held-count-def

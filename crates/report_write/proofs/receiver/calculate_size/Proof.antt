@@ -6,11 +6,11 @@ use Rattle.report_write.proofs.receiver.calculate_size.Reads as reads
 use Rattle.report_write.proofs.receiver.calculate_size.Lts as lts
 use Rattle.report_write.proofs.report_block.check_reports.Reads as check-reports-reads
 
--- src/receiver.rt:22:5
+-- src/receiver.rt:23:5
 check-reports-requires : tie.Need-check-reports-requires
 check-reports-requires c κs = search reports
 
--- src/receiver.rt:19:1
+-- src/receiver.rt:20:1
 returns : tie.Need-returns
 returns c = search reports
 

@@ -7,35 +7,35 @@ use Rattle.report_write.proofs.receiver.write_into.Lts as lts
 use Rattle.report_write.proofs.receiver.calculate_size.Reads as calculate-size-reads
 use Rattle.report_write.proofs.receiver.write_into_unchecked.Reads as write-into-unchecked-reads
 
--- src/receiver.rt:41:9
+-- src/receiver.rt:49:9
 calculate-size-requires : tie.Need-calculate-size-requires
 calculate-size-requires c κs = search reports
 
--- src/receiver.rt:42:23
+-- src/receiver.rt:50:23
 enum-known-checked : tie.Need-enum-known-checked
 enum-known-checked c = search reports
 
--- src/receiver.rt:43:9
+-- src/receiver.rt:51:9
 enum-told : tie.Need-enum-told
 enum-told c = search reports
 
--- src/receiver.rt:43:9
+-- src/receiver.rt:51:9
 returns : tie.Need-returns
 returns c = search reports
 
--- src/receiver.rt:46:9
+-- src/receiver.rt:54:9
 returns-2 : tie.Need-returns-2
 returns-2 c = search reports
 
--- src/receiver.rt:48:5
+-- src/receiver.rt:56:5
 write-into-unchecked-requires : tie.Need-write-into-unchecked-requires
 write-into-unchecked-requires c κs = search reports
 
--- src/receiver.rt:38:1
+-- src/receiver.rt:46:1
 same-length : tie.Need-same-length
 same-length c = search reports
 
--- src/receiver.rt:38:1
+-- src/receiver.rt:46:1
 returns-3 : tie.Need-returns-3
 returns-3 c = search reports
 

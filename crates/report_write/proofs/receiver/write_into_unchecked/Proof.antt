@@ -4,40 +4,31 @@ use Rattle.report_write.proofs.receiver.write_into_unchecked.Statement.
 use Rattle.report_write.proofs.receiver.write_into_unchecked.Tie as tie
 use Rattle.report_write.proofs.receiver.write_into_unchecked.Reads as reads
 use Rattle.report_write.proofs.receiver.write_into_unchecked.Lts as lts
+use Rattle.report_write.proofs.receiver.write_head_unchecked.Reads as write-head-unchecked-reads
 use Rattle.report_write.proofs.report_block.write_blocks_unchecked.Reads as write-blocks-unchecked-reads
-use Rattle.utils.proofs.writer.write_header_unchecked.Reads as write-header-unchecked-reads
 use Rattle.utils.proofs.writer.write_padding_unchecked.Reads as write-padding-unchecked-reads
-use Rattle.utils.proofs.writer.write_u32_unchecked.Reads as write-u32-unchecked-reads
 
--- src/receiver.rt:30:15
+-- src/receiver.rt:39:15
 sub-end : tie.Need-sub-end
 sub-end c = search reports
 
--- src/receiver.rt:31:50
-cast-write-header-unchecked : tie.Need-cast-write-header-unchecked
-cast-write-header-unchecked c = search reports
+-- src/receiver.rt:40:5
+write-head-unchecked-requires : tie.Need-write-head-unchecked-requires
+write-head-unchecked-requires c κs = search reports
 
--- src/receiver.rt:31:5
-write-header-unchecked-requires : tie.Need-write-header-unchecked-requires
-write-header-unchecked-requires c κs = search reports
-
--- src/receiver.rt:32:5
-write-u32-unchecked-requires : tie.Need-write-u32-unchecked-requires
-write-u32-unchecked-requires c κs = search reports
-
--- src/receiver.rt:33:5
+-- src/receiver.rt:41:5
 write-blocks-unchecked-requires : tie.Need-write-blocks-unchecked-requires
 write-blocks-unchecked-requires c κs = search reports
 
--- src/receiver.rt:34:5
+-- src/receiver.rt:42:5
 write-padding-unchecked-requires : tie.Need-write-padding-unchecked-requires
 write-padding-unchecked-requires c κs = search reports
 
--- src/receiver.rt:25:1
+-- src/receiver.rt:35:1
 same-length : tie.Need-same-length
 same-length c = search reports
 
--- src/receiver.rt:25:1
+-- src/receiver.rt:35:1
 returns : tie.Need-returns
 returns c = search reports
 
@@ -46,9 +37,7 @@ write-into-unchecked-spec =
     tie.close
     (tie.spec
     sub-end
-    cast-write-header-unchecked
-    write-header-unchecked-requires
-    write-u32-unchecked-requires
+    write-head-unchecked-requires
     write-blocks-unchecked-requires
     write-padding-unchecked-requires
     same-length

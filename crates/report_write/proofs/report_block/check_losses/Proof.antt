@@ -1,7 +1,7 @@
-use Rattle.report_write.specs.Report.{held, blocksIn, lossesSize}
-use lib.ListN.{drop}
+use Prim.Native.Nat.{_-_, _/_, _≤_}
 use mathlib.Core.Path.{_≡_}
-use Prim.Native.Nat.{_≤_, _-_}
+use lib.ListN.{length, drop}
+use Rattle.report_write.specs.Report.{blocksLent, lossesSize}
 use Rattle.report_write.proofs.Reports.{reports}
 use Rattle.report_write.proofs.report_block.check_losses.Statement.{statement}
 use Rattle.report_write.proofs.report_block.check_losses.Tie as tie
@@ -9,40 +9,48 @@ use Rattle.report_write.proofs.report_block.check_losses.Reads as reads
 use Rattle.report_write.proofs.report_block.check_losses.Lts as lts
 
 abbrev Inv-loop : tie.InvT-loop
-Inv-loop size run n i₀ i = (i ≤ n) × (n ≡ run .len) × (lossesSize (held (run .len - i) (drop i (run .blocks))) size ≡ lossesSize (blocksIn run) size)
+Inv-loop blocks size n i₀ i = (n ≡ length blocks / 7) × (i ≤ n) × (lossesSize (drop i (blocksLent blocks)) size ≡ lossesSize (blocksLent blocks) size)
 
 abbrev μ-loop : tie.MeasureT-loop
-μ-loop size run n i₀ i = n - i
+μ-loop blocks size n i₀ i = n - i
 
--- src/report_block.rt:66:5
+-- src/report_block.rt:60:5
 loop-holds : tie.Need-loop-holds Inv-loop μ-loop
 loop-holds c = search reports
 
--- src/report_block.rt:67:17
-mul-b : tie.Need-mul-b Inv-loop μ-loop
-mul-b c = search reports
+-- src/report_block.rt:61:28
+mul-value : tie.Need-mul-value Inv-loop μ-loop
+mul-value c = search reports
 
--- src/report_block.rt:67:17
-element-copy-out-b : tie.Need-element-copy-out-b Inv-loop μ-loop
-element-copy-out-b c = search reports
+-- src/report_block.rt:61:28
+add-value : tie.Need-add-value Inv-loop μ-loop
+add-value c = search reports
 
--- src/report_block.rt:70:13
+-- src/report_block.rt:61:21
+mul-value-2 : tie.Need-mul-value-2 Inv-loop μ-loop
+mul-value-2 c = search reports
+
+-- src/report_block.rt:61:21
+shared-slice-read-value : tie.Need-shared-slice-read-value Inv-loop μ-loop
+shared-slice-read-value c = search reports
+
+-- src/report_block.rt:63:13
 returns : tie.Need-returns Inv-loop μ-loop
 returns c = search reports
 
--- src/report_block.rt:72:9
+-- src/report_block.rt:68:9
 add-i : tie.Need-add-i Inv-loop μ-loop
 add-i c = search reports
 
--- src/report_block.rt:66:5
+-- src/report_block.rt:60:5
 loop-less : tie.Need-loop-less Inv-loop μ-loop
 loop-less c = search reports
 
--- src/report_block.rt:66:5
+-- src/report_block.rt:60:5
 loop-again : tie.Need-loop-again Inv-loop μ-loop
 loop-again c = search reports
 
--- src/report_block.rt:60:1
+-- src/report_block.rt:55:1
 returns-2 : tie.Need-returns-2 Inv-loop μ-loop
 returns-2 c = search reports
 
@@ -53,8 +61,10 @@ check-losses-spec =
     Inv-loop
     μ-loop
     loop-holds
-    mul-b
-    element-copy-out-b
+    mul-value
+    add-value
+    mul-value-2
+    shared-slice-read-value
     returns
     add-i
     loop-less

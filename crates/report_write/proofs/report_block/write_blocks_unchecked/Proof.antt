@@ -1,6 +1,9 @@
+use Prim.Native.Nat.{_-_, _/_, _≤_}
 use mathlib.Core.Path.{_≡_}
-use Prim.Native.Nat.{_-_}
-use Rattle.report_write.proofs.Reports.{reports, Blocks, blocks-low}
+use lib.ListN.{length}
+use Rattle.report_write.specs.Report.{blocksLent}
+use Rattle.report_write.proofs.Blocks.{Blocks}
+use Rattle.report_write.proofs.Reports.{reports}
 use Rattle.report_write.proofs.report_block.write_blocks_unchecked.Statement.{statement}
 use Rattle.report_write.proofs.report_block.write_blocks_unchecked.Tie as tie
 use Rattle.report_write.proofs.report_block.write_blocks_unchecked.Reads as reads
@@ -8,52 +11,48 @@ use Rattle.report_write.proofs.report_block.write_blocks_unchecked.Lts 
 use Rattle.report_write.proofs.report_block.write_block.Reads as write-block-reads
 
 abbrev Inv-loop : tie.InvT-loop
-Inv-loop buf₀ at run n i₀ buf i = (n ≡ run .len) × Blocks at (run .len) (run .blocks) buf₀ i buf
+Inv-loop buf₀ at blocks n i₀ buf i = (n ≡ length blocks / 7) × (i ≤ n) × Blocks at (blocksLent blocks) buf₀ i buf
 
 abbrev μ-loop : tie.MeasureT-loop
-μ-loop buf₀ at run n i₀ buf i = n - i
+μ-loop buf₀ at blocks n i₀ buf i = n - i
 
--- src/report_block.rt:52:5
+-- src/report_block.rt:108:5
 loop-holds : tie.Need-loop-holds Inv-loop μ-loop
 loop-holds c = search reports
 
--- src/report_block.rt:53:17
-mul-b : tie.Need-mul-b Inv-loop μ-loop
-mul-b c = search reports
-
--- src/report_block.rt:53:17
-element-copy-out-b : tie.Need-element-copy-out-b Inv-loop μ-loop
-element-copy-out-b c = search reports
-
--- src/report_block.rt:54:31
+-- src/report_block.rt:109:31
 mul-write-block : tie.Need-mul-write-block Inv-loop μ-loop
 mul-write-block c = search reports
 
--- src/report_block.rt:54:26
+-- src/report_block.rt:109:26
 add-write-block : tie.Need-add-write-block Inv-loop μ-loop
 add-write-block c = search reports
 
--- src/report_block.rt:54:9
+-- src/report_block.rt:109:47
+mul-write-block-2 : tie.Need-mul-write-block-2 Inv-loop μ-loop
+mul-write-block-2 c = search reports
+
+-- src/report_block.rt:109:9
 write-block-requires : tie.Need-write-block-requires Inv-loop μ-loop
 write-block-requires c κs = search reports
 
--- src/report_block.rt:55:9
+-- src/report_block.rt:110:9
 add-i : tie.Need-add-i Inv-loop μ-loop
 add-i c = search reports
 
--- src/report_block.rt:52:5
+-- src/report_block.rt:108:5
 loop-less : tie.Need-loop-less Inv-loop μ-loop
 loop-less c = search reports
 
--- src/report_block.rt:52:5
+-- src/report_block.rt:108:5
 loop-again : tie.Need-loop-again Inv-loop μ-loop
 loop-again c = search reports
 
--- src/report_block.rt:46:1
+-- src/report_block.rt:102:1
 same-length : tie.Need-same-length Inv-loop μ-loop
 same-length c = search reports
 
--- src/report_block.rt:46:1
+-- src/report_block.rt:102:1
 returns : tie.Need-returns Inv-loop μ-loop
 returns c = search reports
 
@@ -64,10 +63,9 @@ write-blocks-unchecked-spec =
     Inv-loop
     μ-loop
     loop-holds
-    mul-b
-    element-copy-out-b
     mul-write-block
     add-write-block
+    mul-write-block-2
     write-block-requires
     add-i
     loop-less

@@ -1,4 +1,4 @@
-use Rattle.report_write.proofs.Reports.{reports, info-laid}
+use Rattle.report_write.proofs.Reports.{reports}
 use borrow.Author.Needs.{needs}
 use Rattle.report_write.proofs.sender.write_info.Statement.{statement}
 use Rattle.report_write.proofs.sender.write_info.Tie as tie
@@ -33,9 +33,7 @@ same-length c = search reports
 
 -- src/sender.rt:35:1
 returns : tie.Need-returns
-returns c =
-    let a = c .before .before .before .before .before .before .before .before .before .before .before .before .before .before .before .before .before .before .before .before .before .args in
-    info-laid (a .info) (a .buf .now) _ _ _ _ _ (c .before .before .before .before .before .before .before .before .before .before .before .before .before .before .before .before .before .before .before .before .before .pre) (c .before .before .before .before .before .before .before .before .before .before .before .before .before .before .before .before .before .before .write-u32-unchecked .ensures) (c .before .before .before .before .before .before .before .before .before .before .before .before .before .before .write-u64-unchecked .ensures) (c .before .before .before .before .before .before .before .before .before .before .write-u32-unchecked2 .ensures) (c .before .before .before .before .before .before .write-u32-unchecked3 .ensures) (c .before .before .write-u32-unchecked4 .ensures)
+returns c = search reports
 
 pub write-info-spec : {M : Type 1} → statement M
 write-info-spec =

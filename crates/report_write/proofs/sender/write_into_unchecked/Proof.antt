@@ -5,39 +5,30 @@ use Rattle.report_write.proofs.sender.write_into_unchecked.Tie as tie
 use Rattle.report_write.proofs.sender.write_into_unchecked.Reads as reads
 use Rattle.report_write.proofs.sender.write_into_unchecked.Lts as lts
 use Rattle.report_write.proofs.report_block.write_blocks_unchecked.Reads as write-blocks-unchecked-reads
-use Rattle.report_write.proofs.sender.write_info.Reads as write-info-reads
-use Rattle.utils.proofs.writer.write_header_unchecked.Reads as write-header-unchecked-reads
+use Rattle.report_write.proofs.sender.write_head_unchecked.Reads as write-head-unchecked-reads
 use Rattle.utils.proofs.writer.write_padding_unchecked.Reads as write-padding-unchecked-reads
 
--- src/sender.rt:51:15
+-- src/sender.rt:71:15
 sub-end : tie.Need-sub-end
 sub-end c = search reports
 
--- src/sender.rt:52:50
-cast-write-header-unchecked : tie.Need-cast-write-header-unchecked
-cast-write-header-unchecked c = search reports
+-- src/sender.rt:72:5
+write-head-unchecked-requires : tie.Need-write-head-unchecked-requires
+write-head-unchecked-requires c κs = search reports
 
--- src/sender.rt:52:5
-write-header-unchecked-requires : tie.Need-write-header-unchecked-requires
-write-header-unchecked-requires c κs = search reports
-
--- src/sender.rt:53:5
-write-info-requires : tie.Need-write-info-requires
-write-info-requires c κs = search reports
-
--- src/sender.rt:54:5
+-- src/sender.rt:73:5
 write-blocks-unchecked-requires : tie.Need-write-blocks-unchecked-requires
 write-blocks-unchecked-requires c κs = search reports
 
--- src/sender.rt:55:5
+-- src/sender.rt:74:5
 write-padding-unchecked-requires : tie.Need-write-padding-unchecked-requires
 write-padding-unchecked-requires c κs = search reports
 
--- src/sender.rt:46:1
+-- src/sender.rt:61:1
 same-length : tie.Need-same-length
 same-length c = search reports
 
--- src/sender.rt:46:1
+-- src/sender.rt:61:1
 returns : tie.Need-returns
 returns c = search reports
 
@@ -46,9 +37,7 @@ write-into-unchecked-spec =
     tie.close
     (tie.spec
     sub-end
-    cast-write-header-unchecked
-    write-header-unchecked-requires
-    write-info-requires
+    write-head-unchecked-requires
     write-blocks-unchecked-requires
     write-padding-unchecked-requires
     same-length

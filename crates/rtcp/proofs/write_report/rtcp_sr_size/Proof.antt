@@ -1,37 +1,23 @@
-use Rattle.rtcp.proofs.WriteReports.{flats}
+use Rattle.rtcp.proofs.WriteReports.{sizes}
 use borrow.Author.Needs.{needs}
 use Rattle.rtcp.proofs.write_report.rtcp_sr_size.Statement.{statement}
 use Rattle.rtcp.proofs.write_report.rtcp_sr_size.Tie as tie
+use Rattle.rtcp.proofs.write_report.rtcp_sr_size.Reads as reads
+use Rattle.rtcp.proofs.write_report.rtcp_sr_size.Lts as lts
+use Rattle.report_write.proofs.sender.calculate_size.Reads as calculate-size-reads
+use Rattle.rtcp.proofs.write_result.RtcpWritten.from_written.Reads as from-written-reads
 
-check-blocks-requires : tie.Need-check-blocks-requires
-check-blocks-requires c κs = search needs
-
-from-written-requires : tie.Need-from-written-requires
-from-written-requires c κs = search needs
-
-returns : tie.Need-returns
-returns c = search flats
-
-gather-unchecked-requires : tie.Need-gather-unchecked-requires
-gather-unchecked-requires c κs = search flats
-
+-- src/write_report.rt:67:31
 calculate-size-requires : tie.Need-calculate-size-requires
-calculate-size-requires c κs = search needs
+calculate-size-requires c κs = search sizes
 
-from-written-requires-2 : tie.Need-from-written-requires-2
-from-written-requires-2 c κs = search needs
+-- src/write_report.rt:67:5
+from-written-requires : tie.Need-from-written-requires
+from-written-requires c κs = search sizes
 
-returns-2 : tie.Need-returns-2
-returns-2 c = search flats
+-- src/write_report.rt:56:1
+returns : tie.Need-returns
+returns c = search sizes
 
 pub rtcp-sr-size-spec : {M : Type 1} → statement M
-rtcp-sr-size-spec =
-    tie.close
-    (tie.spec
-    check-blocks-requires
-    from-written-requires
-    returns
-    gather-unchecked-requires
-    calculate-size-requires
-    from-written-requires-2
-    returns-2)
+rtcp-sr-size-spec = tie.close (tie.spec calculate-size-requires from-written-requires returns)

@@ -1,41 +1,28 @@
-use Rattle.rtcp.proofs.WriteReports.{flats}
+use Rattle.rtcp.proofs.WriteReports.{sizes}
 use borrow.Author.Needs.{needs}
 use Rattle.rtcp.proofs.write_report.rtcp_sr_write.Statement.{statement}
 use Rattle.rtcp.proofs.write_report.rtcp_sr_write.Tie as tie
+use Rattle.rtcp.proofs.write_report.rtcp_sr_write.Reads as reads
+use Rattle.rtcp.proofs.write_report.rtcp_sr_write.Lts as lts
+use Rattle.report_write.proofs.sender.write_into.Reads as write-into-reads
+use Rattle.rtcp.proofs.write_result.RtcpWritten.from_written.Reads as from-written-reads
 
-check-blocks-requires : tie.Need-check-blocks-requires
-check-blocks-requires c κs = search needs
-
-from-written-requires : tie.Need-from-written-requires
-from-written-requires c κs = search needs
-
-returns : tie.Need-returns
-returns c = search flats
-
-gather-unchecked-requires : tie.Need-gather-unchecked-requires
-gather-unchecked-requires c κs = search flats
-
+-- src/write_report.rt:52:31
 write-into-requires : tie.Need-write-into-requires
-write-into-requires c κs = search needs
+write-into-requires c κs = search sizes
 
-from-written-requires-2 : tie.Need-from-written-requires-2
-from-written-requires-2 c κs = search needs
+-- src/write_report.rt:52:5
+from-written-requires : tie.Need-from-written-requires
+from-written-requires c κs = search sizes
 
+-- src/write_report.rt:32:1
 same-length : tie.Need-same-length
-same-length c = search needs
+same-length c = search sizes
 
-returns-2 : tie.Need-returns-2
-returns-2 c = search flats
+-- src/write_report.rt:32:1
+returns : tie.Need-returns
+returns c = search sizes
 
 pub rtcp-sr-write-spec : {M : Type 1} → statement M
 rtcp-sr-write-spec =
-    tie.close
-    (tie.spec
-    check-blocks-requires
-    from-written-requires
-    returns
-    gather-unchecked-requires
-    write-into-requires
-    from-written-requires-2
-    same-length
-    returns-2)
+    tie.close (tie.spec write-into-requires from-written-requires same-length returns)

@@ -29,8 +29,8 @@ part-write-into-unchecked-end c = search adds
 write-into-unchecked-requires : tie.Need-write-into-unchecked-requires
 write-into-unchecked-requires c κs = search adds
 
-advance-requires : tie.Need-advance-requires
-advance-requires c κs = search adds
+advance-unchecked-requires : tie.Need-advance-unchecked-requires
+advance-unchecked-requires c κs = search adds
 
 returns : tie.Need-returns
 returns c = search adds
@@ -54,7 +54,7 @@ add-bye-spec =
     part-write-into-unchecked-start
     part-write-into-unchecked-end
     write-into-unchecked-requires
-    advance-requires
+    advance-unchecked-requires
     returns
     same-length
     returns-2)

@@ -47,8 +47,8 @@ has-cname-unchecked-requires c κs =
     let v = c .before .before .before .before .before .before .before .before .calculate-size .result in
     sdes-values (lists (a .ssrcs .now) (a .counts .now) (a .types .now) (a .prefixes .now) (a .values .now) (a .bytes .now)) (a .padding) _ v (c .before .before .before .before .before .before .before .before .calculate-size .ensures) (checked-size _ _ v _ _ _ (c .before .before .before .before .before .before .before .admit .ensures) (c .before .before .before .before .before .size .given .1))
 
-advance-requires : tie.Need-advance-requires
-advance-requires c κs =
+advance-unchecked-requires : tie.Need-advance-unchecked-requires
+advance-unchecked-requires c κs =
     room-sum _ _ (c .before .before .before .before .before .before .before .before .before .calculate-size .result) _ _ _ (c .before .before .before .before .before .before .before .before .admit .ensures) (c .before .before .before .before .before .before .size .given .1) _ refl (omega (arith, c .before .before .before .before .before .before .before .before .before .before .before .before .before .before .before .before .before .good))
 
 returns : tie.Need-returns
@@ -65,7 +65,7 @@ returns-2 c =
     let o = c .before .before .before .before .before .before .before .before .before .before .calculate-size .ensures in
     let h = c .before .before .before .before .before .before .before .before .before .admit .ensures in
     let q = c .before .before .before .before .before .before .before .size .given .1 in
-    add-done (giveSdes l (a .padding)) (writerOf (a .self)) (a .buf .now) false v _ refl o h _ (a .self .len) _ _ _ _ q refl (c .advance .ensures)
+    add-done (giveSdes l (a .padding)) (writerOf (a .self)) (a .buf .now) false v _ refl o h _ (a .self .len) _ _ _ _ q refl (c .advance-unchecked .ensures)
     (sdes-names l (a .padding) _ v o (checked-size _ _ v _ _ _ h q) _ (c .before .has-cname-unchecked .ensures)) (c .before .before .before .before .write-into-unchecked .ensures)
 
 pub add-sdes-spec : {M : Type 1} → statement M
@@ -82,7 +82,7 @@ add-sdes-spec =
     part-write-into-unchecked-end
     write-into-unchecked-requires
     has-cname-unchecked-requires
-    advance-requires
+    advance-unchecked-requires
     returns
     same-length
     returns-2)

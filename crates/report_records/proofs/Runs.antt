@@ -10,9 +10,9 @@ use lib.Dec.{leb}
 use Rattle.rfc3550.specs.Answer.{Answer, ok, refused, refusal, need, _>>_, _>>=_}
 use Rattle.rfc3550.specs.Packet.{Block, Reporter}
 use Rattle.rfc3550.specs.Write.{giveReport, tests, ownTests, calculateSize, room, write}
-use Rattle.report_write.specs.declared.«report_block».Run.{Run}
-use Rattle.report_write.specs.Report.{blocksIn}
-use Rattle.report_write.proofs.Reports.{length-blocksIn}
+use Rattle.report_records.specs.declared.run.Run.{Run}
+use Rattle.report_records.specs.Records.{blocksIn}
+use Rattle.report_records.proofs.Held.{length-held}
 
 module _ (r : Reporter) (k : ℕ) where
   pub too-many-blocks : (bs : List Block) → 31 < length bs → tests (giveReport r bs k) ≡ refused (refusal 18 (length bs) 31)
@@ -36,7 +36,7 @@ module _ (run : Run) (bs : List Block) (count : run .len ≡ length bs) (blocks 
       go true e = ap f (blocks (leb-true _ _ e))
       go false e =
           let n = leb-false (run .len) 31 e in
-          let a = length-blocksIn run in
+          let a = length-held (run .len) (run .blocks) in
           many (blocksIn run) bs (omega arith) (a ∙ count)
 
   module _ (r : Reporter) (k : ℕ) where

@@ -9,9 +9,9 @@ use Rattle.rfc3550.specs.Answer.{Refusal, refusal, refused, need, _>>_}
 use Rattle.rfc3550.specs.Packet.{Block, Reporter, type, isReport}
 use Rattle.rfc3550.specs.Write.{Given, giveReport, contentGiven}
 use Rattle.rfc3550.specs.Writer.{Writer, add, addTests, call}
-use Rattle.report_write.specs.declared.«report_block».Run.{Run}
-use Rattle.report_write.specs.Report.{blocksIn}
-use Rattle.report_write.proofs.Runs.{too-many-blocks, same-run}
+use Rattle.report_records.specs.declared.run.Run.{Run}
+use Rattle.report_records.specs.Records.{blocksIn}
+use Rattle.report_records.proofs.Runs.{too-many-blocks, same-run}
 
 call-refused : (g : Given) (w : Writer) (l : List ℕ) (x : Refusal) → addTests w g (length l) ≡ refused x → call (add g) w l ≡ (refused x, w, l)
 unfolding call

@@ -1,0 +1,170 @@
+-- Blocks lent as one flat list: the turns of the loops over them, and what their checks leave known.
+use Prim.Native.Nat.{ℕ, zero, suc, _+_, _-_, _*_, _/_, _%_, _<_, _≤_}
+use mathlib.Core.Path.{_≡_, refl, sym, ap, _∙_}
+use mathlib.Core.Bool.{Bool, true, false, _&&_}
+use mathlib.Core.List.{List, [], _∷_}
+use native.Mathlib.Nat.{add-zero}
+use native.Mathlib.Numerals.{add-one}
+use native.Mathlib.Omega.{arith}
+use borrow.Author.Tests.{le-leb, lt-leb, leb-true, eqb-true, eq-eqb, ne-eqb}
+use lib.ListN.{length, drop, getD, length-drop, drop-of-length-le}
+use lib.Seq.{drop-cons, drop-drop, getD-drop}
+use lib.Dec.{leb, eqb}
+use Rattle.rfc3550.specs.Answer.{ok, refused, refusal, need, _>>_}
+use Rattle.rfc3550.specs.Bytes.{be, put, store}
+use Rattle.rfc3550.specs.Packet.{Block, blockWidths, blockFields, blocksBytes}
+use Rattle.rfc3550.specs.Write.{lossTests}
+use Rattle.rfc3550.proofs.Answer.{and-inv, need-inv, ok-injective}
+use Rattle.report_write.specs.Report.{flatBlock, blocksFrom, fractionsIn, blocksLent, flatOk, flatBlocks, lossesSize, BlockThere}
+use Rattle.report_write.proofs.Blocks.{block-laid, Blocks, blocks-start, block-low, block-next, blocks-laid, loss-over, loss-next, losses-end}
+
+-- ---- the blocks of a flat list
+
+pub length-from : (n : ℕ) (xs : List ℕ) → length (blocksFrom n xs) ≡ n
+unfolding blocksFrom
+length-from zero xs = refl
+length-from (suc n) xs = ap suc (length-from n (drop 7 xs))
+
+pub length-lent : (xs : List ℕ) → length (blocksLent xs) ≡ length xs / 7
+length-lent xs = length-from (length xs / 7) xs
+
+drop-from : (i n : ℕ) (xs : List ℕ) → i < n → drop i (blocksFrom n xs) ≡ flatBlock (drop (i * 7) xs) ∷ drop (suc i) (blocksFrom n xs)
+unfolding blocksFrom
+drop-from i zero xs h = absurd (omega arith)
+drop-from zero (suc n) xs h = refl
+drop-from (suc i) (suc n) xs h =
+    let e : 7 + i * 7 ≡ suc i * 7 = omega arith in
+    drop-from i n (drop 7 xs) (omega arith) ∙ ap (λ (ys : List ℕ). flatBlock ys ∷ drop (suc i) (blocksFrom n (drop 7 xs))) (drop-drop (i * 7) 7 xs ∙ ap (λ (k : ℕ). drop k xs) e)
+
+-- what is left, one block on
+next-lent : (xs : List ℕ) (i : ℕ) → i < length xs / 7 → drop i (blocksLent xs) ≡ flatBlock (drop (i * 7) xs) ∷ drop (i + 1) (blocksLent xs)
+next-lent xs i h = rw add-one (drop-from i (length xs / 7) xs h)
+
+-- the block whose numbers start at `at`
+abbrev blockAt : List ℕ → ℕ → Block
+blockAt xs at = record { ssrc = getD xs at 0; fraction = getD xs (at + 1) 0; lost = getD xs (at + 2) 0; sequence = getD xs (at + 3) 0; jitter = getD xs (at + 4) 0; lsr = getD xs (at + 5) 0; dlsr = getD xs (at + 6) 0 }
+
+flat-block : (xs : List ℕ) (at : ℕ) → blockAt xs at ≡ flatBlock (drop at xs)
+flat-block xs at = simp (getD-drop, add-zero)
+
+-- ---- the fractions
+
+module _ (xs : List ℕ) where
+  pub fractions-start : fractionsIn (drop 0 (blocksLent xs)) ≡ fractionsIn (blocksLent xs)
+  fractions-start = refl
+
+  module _ (i : ℕ) (w : fractionsIn (drop i (blocksLent xs)) ≡ fractionsIn (blocksLent xs)) where
+    pub fractions-over : i < length xs / 7 → 255 < getD xs (i * 7 + 1) 0 → false ≡ fractionsIn (blocksLent xs)
+    unfolding fractionsIn
+    fractions-over h f = rw (next-lent xs i h, getD-drop (i * 7) xs 1 0, lt-leb _ _ f) at w
+
+    pub fractions-again : i < length xs / 7 → getD xs (i * 7 + 1) 0 ≤ 255 → fractionsIn (drop (i + 1) (blocksLent xs)) ≡ fractionsIn (blocksLent xs)
+    unfolding fractionsIn
+    fractions-again h f = rw (next-lent xs i h, getD-drop (i * 7) xs 1 0, le-leb _ _ f) at w
+
+    pub fractions-done : length xs / 7 ≤ i → true ≡ fractionsIn (blocksLent xs)
+    unfolding fractionsIn
+    fractions-done h = let z : drop i (blocksLent xs) ≡ [] = drop-of-length-le (blocksLent xs) {i = i} (rw (length-lent xs) h) in rw z at w
+
+  pub odd-list : (length xs % 7 ≡ 0 → ⊥) → false ≡ flatOk xs
+  odd-list h = sym (rw (ne-eqb _ _ h))
+
+  pub whole-list : (t : Bool) → length xs % 7 ≡ 0 → t ≡ fractionsIn (blocksLent xs) → t ≡ flatOk xs
+  whole-list t h e = e ∙ sym (rw (eq-eqb _ _ h))
+
+fraction-at : (n i : ℕ) (xs : List ℕ) → fractionsIn (blocksFrom n xs) ≡ true → i < n → getD xs (i * 7 + 1) 0 ≤ 255
+unfolding fractionsIn blocksFrom
+fraction-at zero i xs e h = absurd (omega arith)
+fraction-at (suc n) zero xs e h = leb-true _ _ (and-inv (leb (getD xs 1 0) 255) (fractionsIn (blocksFrom n (drop 7 xs))) e .0)
+fraction-at (suc n) (suc i) xs e h =
+    let q = fraction-at n i (drop 7 xs) (and-inv (leb (getD xs 1 0) 255) (fractionsIn (blocksFrom n (drop 7 xs))) e .1) (omega arith) in
+    let f : suc i * 7 + 1 ≡ 7 + (i * 7 + 1) = omega arith in
+    rw f (rw (getD-drop 7 xs (i * 7 + 1) 0) at q)
+
+fraction-fits : (xs : List ℕ) (i : ℕ) → flatOk xs ≡ true → i < length xs / 7 → getD xs (i * 7 + 1) 0 ≤ 255
+fraction-fits xs i e h = fraction-at (length xs / 7) i xs (and-inv (eqb (length xs % 7) 0) (fractionsIn (blocksLent xs)) e .1) h
+
+-- ---- the losses
+
+module _ (xs : List ℕ) (size : ℕ) where
+  pub losses-start : lossesSize (drop 0 (blocksLent xs)) size ≡ lossesSize (blocksLent xs) size
+  losses-start = refl
+
+  module _ (i : ℕ) (w : lossesSize (drop i (blocksLent xs)) size ≡ lossesSize (blocksLent xs) size) where
+    pub losses-over : i < length xs / 7 → 16777215 < getD xs (i * 7 + 2) 0 → refused (refusal 17 (getD xs (i * 7 + 2) 0) 16777215) ≡ lossesSize (blocksLent xs) size
+    losses-over h f =
+        let e = getD-drop (i * 7) xs 2 0 in
+        ap (λ (n : ℕ). refused (refusal 17 n 16777215)) (sym e) ∙ loss-over size (blocksLent xs) i w (flatBlock (drop (i * 7) xs)) (next-lent xs i h) (rw e f)
+
+    pub losses-again : i < length xs / 7 → getD xs (i * 7 + 2) 0 ≤ 16777215 → lossesSize (drop (i + 1) (blocksLent xs)) size ≡ lossesSize (blocksLent xs) size
+    losses-again h f = loss-next size (blocksLent xs) i w (flatBlock (drop (i * 7) xs)) (next-lent xs i h) (rw (getD-drop (i * 7) xs 2 0) f)
+
+    pub losses-done : length xs / 7 ≤ i → ok size ≡ lossesSize (blocksLent xs) size
+    losses-done h = losses-end size (blocksLent xs) i w (rw (length-lent xs) h)
+
+-- ---- the blocks laid
+
+pub flat-laid : (at from : ℕ) (xs l l₁ l₂ l₃ l₄ l₅ l₆ : List ℕ) → at + 24 ≤ length l → BlockThere xs from
+    → l₁ ≡ store at (be 4 (getD xs from 0)) l → l₂ ≡ store (at + 4) (be 4 (getD xs (from + 1) 0 * 16777216 + getD xs (from + 2) 0)) l₁ → l₃ ≡ store (at + 8) (be 4 (getD xs (from + 3) 0)) l₂
+    → l₄ ≡ store (at + 12) (be 4 (getD xs (from + 4) 0)) l₃ → l₅ ≡ store (at + 16) (be 4 (getD xs (from + 5) 0)) l₄ → l₆ ≡ store (at + 20) (be 4 (getD xs (from + 6) 0)) l₅
+    → l₆ ≡ store at (put blockWidths (blockFields (flatBlock (drop from xs)))) l
+flat-laid at from xs l l₁ l₂ l₃ l₄ l₅ l₆ h t e₁ e₂ e₃ e₄ e₅ e₆ =
+    block-laid at (blockAt xs from) l l₁ l₂ l₃ l₄ l₅ l₆ h (t .lost) e₁ e₂ e₃ e₄ e₅ e₆ ∙ ap (λ (b : Block). store at (put blockWidths (blockFields b)) l) (flat-block xs from)
+
+module _ (at : ℕ) (xs l : List ℕ) where
+  pub flat-start : lossTests (blocksLent xs) ≡ ok tt → Blocks at (blocksLent xs) l 0 l
+  flat-start h = blocks-start at (blocksLent xs) l h
+
+  module _ (i : ℕ) (l₁ : List ℕ) (w : Blocks at (blocksLent xs) l i l₁) where
+    pub flat-there : flatOk xs ≡ true → i < length xs / 7 → BlockThere xs (i * 7)
+    flat-there f h =
+        record {
+          within = omega arith;
+          fraction = fraction-fits xs i f h;
+          lost = rw (getD-drop (i * 7) xs 2 0) at (block-low at (blocksLent xs) l i l₁ w (flatBlock (drop (i * 7) xs)) (next-lent xs i h));
+        }
+
+    pub flat-room : at + length xs / 7 * 24 ≤ length l → i < length xs / 7 → at + i * 24 + 24 ≤ length l₁
+    flat-room f h = let g = w .long in omega arith
+
+    pub flat-again : (l₂ : List ℕ) → at + length xs / 7 * 24 ≤ length l → i < length xs / 7 → l₂ ≡ store (at + i * 24) (put blockWidths (blockFields (flatBlock (drop (i * 7) xs)))) l₁ → Blocks at (blocksLent xs) l (i + 1) l₂
+    flat-again l₂ f h e =
+        let n = length-lent xs in
+        block-next at (blocksLent xs) l i l₁ w (flatBlock (drop (i * 7) xs)) (next-lent xs i h) l₂ (omega arith) (omega arith) e
+
+    pub flat-done : length xs / 7 ≤ i → l₁ ≡ store at (blocksBytes (blocksLent xs)) l
+    flat-done h = blocks-laid at (blocksLent xs) l i l₁ w (rw (length-lent xs) h)
+
+pub ruleset flats = (fractions-start, fractions-over, fractions-again, fractions-done, odd-list, whole-list, losses-start, losses-over, losses-again, losses-done, flat-laid, flat-start, flat-there, flat-room, flat-again, flat-done)
+
+-- ---- a flat list that is accepted loses nothing: its numbers are those of its blocks
+
+abbrev flatten : List Block → List ℕ
+flatten [] = []
+flatten (b ∷ bs) = b .ssrc ∷ b .fraction ∷ b .lost ∷ b .sequence ∷ b .jitter ∷ b .lsr ∷ b .dlsr ∷ flatten bs
+
+module _ (xs : List ℕ) where
+  next : (i : ℕ) (t : List ℕ) → i < length xs → drop (suc i) xs ≡ t → drop i xs ≡ getD xs i 0 ∷ t
+  next i t h e = drop-cons xs i 0 h ∙ ap (λ (l : List ℕ). getD xs i 0 ∷ l) e
+
+  seven : 7 ≤ length xs → xs ≡ getD xs 0 0 ∷ getD xs 1 0 ∷ getD xs 2 0 ∷ getD xs 3 0 ∷ getD xs 4 0 ∷ getD xs 5 0 ∷ getD xs 6 0 ∷ drop 7 xs
+  seven h = next 0 _ (omega arith) (next 1 _ (omega arith) (next 2 _ (omega arith) (next 3 _ (omega arith) (next 4 _ (omega arith) (next 5 _ (omega arith) (next 6 _ (omega arith) refl))))))
+
+flatten-blocks : (n : ℕ) (xs : List ℕ) → length xs ≡ n * 7 → flatten (blocksFrom n xs) ≡ xs
+unfolding blocksFrom
+flatten-blocks zero [] h = refl
+flatten-blocks zero (x ∷ xs) h = absurd (omega arith)
+flatten-blocks (suc n) xs h =
+    ap (λ (l : List ℕ). getD xs 0 0 ∷ getD xs 1 0 ∷ getD xs 2 0 ∷ getD xs 3 0 ∷ getD xs 4 0 ∷ getD xs 5 0 ∷ getD xs 6 0 ∷ l)
+    (flatten-blocks n (drop 7 xs) (length-drop 7 xs ∙ omega arith))
+    ∙ sym (seven xs (omega arith))
+
+flat-inv : (xs : List ℕ) {bs : List Block} → flatBlocks xs ≡ ok bs → flatten bs ≡ xs
+unfolding flatBlocks
+flat-inv xs e =
+    let a = need-inv _ _ _ _ _ e in
+    let z : length xs % 7 ≡ 0 = eqb-true _ _ (and-inv (eqb (length xs % 7) 0) (fractionsIn (blocksLent xs)) (a .0) .0) in
+    ap flatten (sym (ok-injective (a .1))) ∙ flatten-blocks (length xs / 7) xs (omega arith)
+
+pub flatBlocks-injective : (xs ys : List ℕ) {bs : List Block} → flatBlocks xs ≡ ok bs → flatBlocks ys ≡ ok bs → xs ≡ ys
+flatBlocks-injective xs ys e f = sym (flat-inv xs e) ∙ flat-inv ys f
