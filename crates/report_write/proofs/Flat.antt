@@ -1,21 +1,23 @@
 -- Blocks lent as one flat list: the turns of the loops over them, and what their checks leave known.
-use Prim.Native.Nat.{ℕ, zero, suc, _+_, _-_, _*_, _/_, _%_, _<_, _≤_}
+use Prim.Native.Nat.{ℕ, zero, suc, _+_, _-_, _*_, _/_, _%_, _^_, _<_, _≤_}
 use mathlib.Core.Path.{_≡_, refl, sym, ap, _∙_}
 use mathlib.Core.Bool.{Bool, true, false, _&&_}
-use mathlib.Core.List.{List, [], _∷_}
+use mathlib.Core.List.{List, [], _∷_, _++_}
 use native.Mathlib.Nat.{add-zero}
 use native.Mathlib.Numerals.{add-one}
 use native.Mathlib.Omega.{arith}
 use borrow.Author.Tests.{le-leb, lt-leb, leb-true, eqb-true, eq-eqb, ne-eqb}
-use lib.ListN.{length, drop, getD, length-drop, drop-of-length-le}
-use lib.Seq.{drop-cons, drop-drop, getD-drop}
+use lib.ListN.{length, take, drop, getD, set, length-drop, drop-of-length-le}
+use lib.Seq.{drop-cons, drop-drop, getD-drop, length-take-le, set-at}
 use lib.Dec.{leb, eqb}
 use Rattle.rfc3550.specs.Answer.{ok, refused, refusal, need, _>>_}
 use Rattle.rfc3550.specs.Bytes.{be, put, store}
+use Rattle.rfc3550.specs.Loss.{lossIn}
 use Rattle.rfc3550.specs.Packet.{Block, blockWidths, blockFields, blocksBytes}
 use Rattle.rfc3550.specs.Write.{lossTests}
 use Rattle.rfc3550.proofs.Answer.{and-inv, need-inv, ok-injective}
-use Rattle.report_write.specs.Report.{flatBlock, blocksFrom, fractionsIn, blocksLent, flatOk, flatBlocks, lossesSize, BlockThere}
+use Rattle.utils.proofs.WriterStores.{be-cons}
+use Rattle.report_write.specs.Report.{flatBlock, blocksFrom, fractionsIn, bothIn, blocksLent, flatOk, flatBlocks, lossesSize, BlockThere}
 use Rattle.report_write.proofs.Blocks.{block-laid, Blocks, blocks-start, block-low, block-next, blocks-laid, loss-over, loss-next, losses-end}
 
 -- ---- the blocks of a flat list
@@ -66,11 +68,47 @@ module _ (xs : List ℕ) where
     unfolding fractionsIn
     fractions-done h = let z : drop i (blocksLent xs) ≡ [] = drop-of-length-le (blocksLent xs) {i = i} (rw (length-lent xs) h) in rw z at w
 
+  pub both-start : bothIn (drop 0 (blocksLent xs)) ≡ bothIn (blocksLent xs)
+  both-start = refl
+
+  module _ (i : ℕ) (w : bothIn (drop i (blocksLent xs)) ≡ bothIn (blocksLent xs)) where
+    pub both-fraction : i < length xs / 7 → 255 < getD xs (i * 7 + 1) 0 → false ≡ bothIn (blocksLent xs)
+    unfolding bothIn
+    both-fraction h f = rw (next-lent xs i h, getD-drop (i * 7) xs 1 0, lt-leb _ _ f) at w
+
+    pub both-loss : i < length xs / 7 → getD xs (i * 7 + 1) 0 ≤ 255 → 16777215 < getD xs (i * 7 + 2) 0 → false ≡ bothIn (blocksLent xs)
+    unfolding bothIn
+    both-loss h f g = rw (next-lent xs i h, getD-drop (i * 7) xs 1 0, getD-drop (i * 7) xs 2 0, le-leb _ _ f, lt-leb _ _ g) at w
+
+    pub both-again : i < length xs / 7 → getD xs (i * 7 + 1) 0 ≤ 255 → getD xs (i * 7 + 2) 0 ≤ 16777215 → bothIn (drop (i + 1) (blocksLent xs)) ≡ bothIn (blocksLent xs)
+    unfolding bothIn
+    both-again h f g = rw (next-lent xs i h, getD-drop (i * 7) xs 1 0, getD-drop (i * 7) xs 2 0, le-leb _ _ f, le-leb _ _ g) at w
+
+    pub both-done : length xs / 7 ≤ i → true ≡ bothIn (blocksLent xs)
+    unfolding bothIn
+    both-done h = let z : drop i (blocksLent xs) ≡ [] = drop-of-length-le (blocksLent xs) {i = i} (rw (length-lent xs) h) in rw z at w
+
   pub odd-list : (length xs % 7 ≡ 0 → ⊥) → false ≡ flatOk xs
   odd-list h = sym (rw (ne-eqb _ _ h))
 
   pub whole-list : (t : Bool) → length xs % 7 ≡ 0 → t ≡ fractionsIn (blocksLent xs) → t ≡ flatOk xs
   whole-list t h e = e ∙ sym (rw (eq-eqb _ _ h))
+
+-- where both fit, each does
+pub both-fractions : (bs : List Block) → bothIn bs ≡ true → fractionsIn bs ≡ true
+unfolding bothIn fractionsIn
+both-fractions [] e = refl
+both-fractions (b ∷ bs) e =
+    let a = and-inv (leb (b .fraction) 255) (leb (b .lost) 16777215 && bothIn bs) e in
+    rw (a .0) (both-fractions bs (and-inv (leb (b .lost) 16777215) (bothIn bs) (a .1) .1))
+
+pub both-losses : (bs : List Block) → bothIn bs ≡ true → lossTests bs ≡ ok tt
+unfolding bothIn lossTests lossIn need _>>_
+both-losses [] e = refl
+both-losses (b ∷ bs) e =
+    let a = and-inv (leb (b .fraction) 255) (leb (b .lost) 16777215 && bothIn bs) e in
+    let c = and-inv (leb (b .lost) 16777215) (bothIn bs) (a .1) in
+    rw (c .0) (both-losses bs (c .1))
 
 fraction-at : (n i : ℕ) (xs : List ℕ) → fractionsIn (blocksFrom n xs) ≡ true → i < n → getD xs (i * 7 + 1) 0 ≤ 255
 unfolding fractionsIn blocksFrom
@@ -111,6 +149,15 @@ pub flat-laid : (at from : ℕ) (xs l l₁ l₂ l₃ l₄ l₅ l₆ : List ℕ) 
 flat-laid at from xs l l₁ l₂ l₃ l₄ l₅ l₆ h t e₁ e₂ e₃ e₄ e₅ e₆ =
     block-laid at (blockAt xs from) l l₁ l₂ l₃ l₄ l₅ l₆ h (t .lost) e₁ e₂ e₃ e₄ e₅ e₆ ∙ ap (λ (b : Block). store at (put blockWidths (blockFields b)) l) (flat-block xs from)
 
+-- a word whose first byte is 0, and a byte over that
+pub loss-laid : (at f x : ℕ) (l l₁ : List ℕ) → x ≤ 16777215 → at + 4 ≤ length l → l₁ ≡ store at (be 4 x) l → set l₁ at f ≡ store at (be 4 (f * 16777216 + x)) l
+unfolding store
+loss-laid at f x l l₁ h r e =
+    let z : x ≡ 0 * 256 ^ 3 + x = omega arith in
+    let a : be 4 x ≡ 0 ∷ be 3 x = ap (be 4) z ∙ be-cons 3 0 x (omega arith) in
+    let b : be 4 (f * 16777216 + x) ≡ f ∷ be 3 x = be-cons 3 f x (omega arith) in
+    rw (e, a, b) (set-at (take at l) 0 (be 3 x ++ drop (at + suc (length (be 3 x))) l) f at (length-take-le at l (omega arith)))
+
 module _ (at : ℕ) (xs l : List ℕ) where
   pub flat-start : lossTests (blocksLent xs) ≡ ok tt → Blocks at (blocksLent xs) l 0 l
   flat-start h = blocks-start at (blocksLent xs) l h
@@ -135,7 +182,7 @@ module _ (at : ℕ) (xs l : List ℕ) where
     pub flat-done : length xs / 7 ≤ i → l₁ ≡ store at (blocksBytes (blocksLent xs)) l
     flat-done h = blocks-laid at (blocksLent xs) l i l₁ w (rw (length-lent xs) h)
 
-pub ruleset flats = (fractions-start, fractions-over, fractions-again, fractions-done, odd-list, whole-list, losses-start, losses-over, losses-again, losses-done, flat-laid, flat-start, flat-there, flat-room, flat-again, flat-done)
+pub ruleset flats = (fractions-start, fractions-over, fractions-again, fractions-done, both-start, both-fraction, both-loss, both-again, both-done, odd-list, whole-list, losses-start, losses-over, losses-again, losses-done, loss-laid, flat-laid, flat-start, flat-there, flat-room, flat-again, flat-done)
 
 -- ---- a flat list that is accepted loses nothing: its numbers are those of its blocks
 

@@ -1,5 +1,5 @@
 -- The cases of a report's size and bytes, over the reporter, each from what the code has tested or called.
-use Prim.Native.Nat.{ℕ, _+_, _-_, _*_, _/_, _≤_, _<_}
+use Prim.Native.Nat.{ℕ, _+_, _-_, _*_, _/_, _%_, _≤_, _<_}
 use mathlib.Core.Path.{_≡_, refl, sym, ap, _∙_}
 use mathlib.Core.Bool.{Bool, true, false}
 use mathlib.Core.List.{List, [], _∷_, _++_, append-nil}
@@ -20,9 +20,9 @@ use Rattle.utils.specs.declared.writer.Written.the-variants.{Size, Refused}
 use Rattle.utils.proofs.WriterStores.{stores}
 use Rattle.utils.proofs.WriterPackets.{writes, write-refused, write-short, write-done, padding-most, sized, size-ok, size-refused, parts-laid, header-long, packet-laid}
 use Rattle.report_write.specs.declared.sender.SenderInfo.{SenderInfo}
-use Rattle.report_write.specs.Report.{senderOf, blocksLent, flatOk, flatBlocks, sizeBlocks, writeBlocks, countSize, lossesSize, reportSize, flatSize, ReportFits, headLaid}
+use Rattle.report_write.specs.Report.{senderOf, blocksLent, fractionsIn, bothIn, flatOk, flatBlocks, sizeBlocks, writeBlocks, countSize, lossesSize, reportSize, flatSize, ReportFits, headLaid}
 use Rattle.report_write.proofs.Blocks.{length-blocks}
-use Rattle.report_write.proofs.Flat.{length-lent, flats}
+use Rattle.report_write.proofs.Flat.{length-lent, odd-list, whole-list, both-fractions, both-losses, flats}
 
 -- ---- the size
 
@@ -65,22 +65,39 @@ module _ (xs : List ℕ) where
   unfolding flatBlocks need _>>_
   flat-refused e = simp e
 
-  module _ (least k : ℕ) (t : Bool) (e : t ≡ flatOk xs) where
-    pub lists-disagree : t ≡ false → refused (refusal 24 0 0) ≡ flatSize least (flatBlocks xs) k
+  module _ (least k : ℕ) where
+    pub odd-lent : (length xs % 7 ≡ 0 → ⊥) → refused (refusal 24 0 0) ≡ flatSize least (flatBlocks xs) k
     unfolding flatSize _>>=_
-    lists-disagree q = sym (rw (flat-refused (sym e ∙ q)))
+    odd-lent h = sym (rw (flat-refused (sym (odd-list xs h))))
 
-    module _ (q : t ≡ true) (w : Written) (f : writtenOf w ≡ countSize least (length xs / 7) k) where
-      counted : writtenOf w ≡ countSize least (length (blocksLent xs)) k
-      counted = rw (length-lent xs) f
-
-      pub flat-count-refused : (x : RtcpWriteError) → w ≡ Refused x → writtenOf w ≡ flatSize least (flatBlocks xs) k
+    module _ (z : length xs % 7 ≡ 0) (t : Bool) where
+      pub fraction-over : t ≡ fractionsIn (blocksLent xs) → t ≡ false → refused (refusal 24 0 0) ≡ flatSize least (flatBlocks xs) k
       unfolding flatSize _>>=_
-      flat-count-refused x p = rw (flat-ok (sym e ∙ q)) (count-refused least (blocksLent xs) k w counted x p)
+      fraction-over e q = sym (rw (flat-refused (sym (whole-list xs t z e) ∙ q)))
 
-      pub flat-count-sized : (m : ℕ) (v : Written) → w ≡ Size m → writtenOf v ≡ lossesSize (blocksLent xs) m → writtenOf v ≡ flatSize least (flatBlocks xs) k
-      unfolding flatSize _>>=_
-      flat-count-sized m v p g = rw (flat-ok (sym e ∙ q)) (count-sized least (blocksLent xs) k w counted m v p g)
+      module _ (q : t ≡ true) (w : Written) (f : writtenOf w ≡ countSize least (length xs / 7) k) where
+        counted : writtenOf w ≡ countSize least (length (blocksLent xs)) k
+        counted = rw (length-lent xs) f
+
+        pub flat-count-refused : t ≡ fractionsIn (blocksLent xs) → (x : RtcpWriteError) → w ≡ Refused x → writtenOf w ≡ flatSize least (flatBlocks xs) k
+        unfolding flatSize _>>=_
+        flat-count-refused e x p = rw (flat-ok (sym (whole-list xs t z e) ∙ q)) (count-refused least (blocksLent xs) k w counted x p)
+
+        pub flat-count-sized : t ≡ fractionsIn (blocksLent xs) → (m : ℕ) (v : Written) → w ≡ Size m → writtenOf v ≡ lossesSize (blocksLent xs) m → writtenOf v ≡ flatSize least (flatBlocks xs) k
+        unfolding flatSize _>>=_
+        flat-count-sized e m v p g = rw (flat-ok (sym (whole-list xs t z e) ∙ q)) (count-sized least (blocksLent xs) k w counted m v p g)
+
+        -- where every fraction and every loss fit, the count and the padding decide
+        pub flat-count : t ≡ bothIn (blocksLent xs) → writtenOf w ≡ flatSize least (flatBlocks xs) k
+        unfolding flatSize reportSize lossesSize _>>=_ _>>_
+        flat-count e =
+            let b : bothIn (blocksLent xs) ≡ true = sym e ∙ q in
+            let o : flatOk xs ≡ true = sym (whole-list xs true z (sym (both-fractions (blocksLent xs) b))) in
+            rw (flat-ok o) (counted ∙ go (countSize least (length (blocksLent xs)) k) (lossTests (blocksLent xs)) (both-losses (blocksLent xs) b))
+          where
+            go : (a : Answer ℕ) (c : Answer (Unit {0})) → c ≡ ok tt → a ≡ (a >>= (λ (n : ℕ). c >> ok n))
+            go (ok n) c h = sym (rw h)
+            go (refused x) c h = refl
 
 -- ---- over the reporter
 
@@ -252,7 +269,7 @@ head-long r t k count size l l₁ h e =
     let n = header-long k count t size l (store 0 (header k count t size) l) (omega arith) refl in
     ap length e ∙ length-store 4 (put (reporterWidths r) (reporterFields r)) (store 0 (header k count t size) l) (omega arith) ∙ n
 
-pub ruleset reports = (writes, flats, not-true, not-false, too-many, bad-padding, count-fine, lists-disagree, flat-count-refused, flat-count-sized, receiver-head, receiver-size, receiver-agree, receiver-fits, receiver-laid, info-laid, sender-head, sender-size, sender-agree, sender-fits, sender-laid, flat-write-refused, flat-write-short, flat-write-done)
+pub ruleset reports = (writes, flats, not-true, not-false, too-many, bad-padding, count-fine, odd-lent, fraction-over, flat-count-refused, flat-count-sized, flat-count, receiver-head, receiver-size, receiver-agree, receiver-fits, receiver-laid, info-laid, sender-head, sender-size, sender-agree, sender-fits, sender-laid, flat-write-refused, flat-write-short, flat-write-done)
 
 -- ---- the views lose nothing
 

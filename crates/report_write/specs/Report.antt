@@ -29,6 +29,11 @@ unfoldable pub fractionsIn : List Block → Bool
 fractionsIn [] = true
 fractionsIn (b ∷ bs) = leb (b .fraction) 255 && fractionsIn bs
 
+-- the fraction and the loss of each fit
+unfoldable pub bothIn : List Block → Bool
+bothIn [] = true
+bothIn (b ∷ bs) = leb (b .fraction) 255 && (leb (b .lost) 16777215 && bothIn bs)
+
 abbrev pub blocksLent : List ℕ → List Block
 blocksLent xs = blocksFrom (length xs / 7) xs
 

@@ -11,7 +11,7 @@ ghost use Rattle.rfc3550.specs.Bytes.{be, put, store};
 ghost use Rattle.rfc3550.specs.Packet.{blockWidths, blockFields, blocksBytes};
 ghost use Rattle.rfc3550.specs.Write.{lossTests};
 ghost use Rattle.utils.specs.Writer.{writtenOf};
-ghost use Rattle.report_write.specs.Report.{flatBlock, blocksLent, fractionsIn, flatOk, flatBlocks, countSize, lossesSize, flatSize, BlockThere};
+ghost use Rattle.report_write.specs.Report.{flatBlock, blocksLent, fractionsIn, bothIn, flatOk, flatBlocks, countSize, lossesSize, flatSize, BlockThere};
 
 // The fraction of every block fits a byte.
 fn check_fractions(blocks: &[u32]) -> bool
@@ -28,14 +28,22 @@ fn check_fractions(blocks: &[u32]) -> bool
     true
 }
 
-// The list is a whole number of blocks, each with a fraction that fits.
-fn check_blocks(blocks: &[u32]) -> bool
-    ensures { λ r. ⌜ r ≡ flatOk (now (blocks .entry)) ⌝ }
+// The fraction and the loss of every block fit. That is so of nearly every list, and asked of both at once.
+fn check_both(blocks: &[u32]) -> bool
+    ensures { λ r. ⌜ r ≡ bothIn (blocksLent (now (blocks .entry))) ⌝ }
 {
-    if blocks.len() % 7 != 0 {
-        return false;
+    let n = blocks.len() / 7;
+    let mut i: usize = 0;
+    while i < n {
+        if 255 < blocks[i * 7 + 1] {
+            return false;
+        }
+        if 16777215 < blocks[i * 7 + 2] {
+            return false;
+        }
+        i += 1;
     }
-    check_fractions(blocks)
+    true
 }
 
 // The size of a report of so many blocks with so many bytes before them, or why it is refused.
@@ -74,7 +82,13 @@ fn check_losses(blocks: &[u32], size: usize) -> Written
 pub fn check_reports(blocks: &[u32], padding: u64, least: u8) -> Written
     ensures { λ r. ⌜ writtenOf r ≡ flatSize least (flatBlocks (now (blocks .entry))) padding ⌝ }
 {
-    if !check_blocks(blocks) {
+    if blocks.len() % 7 != 0 {
+        return Written::Refused(RtcpWriteError::ListsDisagree);
+    }
+    if check_both(blocks) {
+        return check_count(blocks.len() / 7, padding, least);
+    }
+    if !check_fractions(blocks) {
         return Written::Refused(RtcpWriteError::ListsDisagree);
     }
     let checked = check_count(blocks.len() / 7, padding, least);
@@ -92,13 +106,13 @@ fn write_number(buf: &mut [u8], at: usize, blocks: &[u32], i: usize)
     writer::write_u32_unchecked(buf, at, blocks[i]);
 }
 
-// Fraction lost and the 24 bits of cumulative lost are one word.
+// Fraction lost and the 24 bits of cumulative lost are one word: the fraction goes over the word's first byte, which is 0.
 fn write_loss(buf: &mut [u8], at: usize, blocks: &[u32], from: usize)
     requires { ⌜ (at + 4 ≤ length (now buf)) × BlockThere (now blocks) from ⌝ }
     ensures { λ _. ⌜ now (buf .exit) ≡ store at (be 4 (getD (now (blocks .entry)) (from + 1) 0 * 16777216 + getD (now (blocks .entry)) (from + 2) 0)) (now (buf .entry)) ⌝ }
 {
-    let loss = blocks[from + 1] * 16777216 + blocks[from + 2];
-    writer::write_u32_unchecked(buf, at, loss);
+    write_number(buf, at, blocks, from + 2);
+    buf[at] = blocks[from + 1] as u8;
 }
 
 // Lays the block whose numbers start at an index, at index at.
