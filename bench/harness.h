@@ -1,0 +1,47 @@
+/* What the sides in C have in common. A side is a program of harness.c and one file that has `operations`, `setup` and `written`. */
+#ifndef HARNESS_H
+#define HARNESS_H
+
+#include <stddef.h>
+#include <stdint.h>
+
+enum { ROOM = 1024, MOST = 31 };
+
+/* A packet or datagram as it is read, with the numbers to write it from, which plain code in harness.c took from its bytes. */
+struct Input {
+    uint8_t bytes[ROOM];
+    size_t len;
+    uint32_t ssrc;
+    uint64_t ntp;
+    uint32_t rtp, packets, octets;
+    uint32_t blocks[MOST][7];
+    size_t n_blocks;
+    uint32_t ssrcs[MOST];
+    uint64_t counts[MOST];
+    size_t n_chunks;
+    uint8_t types[MOST];
+    uint64_t lengths[MOST];
+    size_t n_items;
+    uint8_t text[ROOM]; /* the values of all items, one after the other */
+    size_t text_len;
+};
+
+extern struct Input rrsdes, sr31, sdes31;
+
+/* A reading returns the sum of all fields, a writing how many bytes it wrote. For a writing, `input` has the bytes that it must write. */
+struct Operation {
+    const char *name;
+    uint64_t (*run)(void);
+    const struct Input *input;
+};
+
+/* The side's operations, up to one without a name. */
+extern const struct Operation operations[];
+
+/* What a side does once, before the loop; `input` is what the operation writes, or null. */
+void setup(const struct Input *input);
+
+/* The bytes of the last writing. */
+const uint8_t *written(void);
+
+#endif
