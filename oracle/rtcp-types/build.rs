@@ -26,6 +26,7 @@ fn main() {
     let derived = match fs::read_to_string(folder.join("lib.rs")) {
         Ok(lib) => {
             println!("cargo::metadata=present=1");
+            println!("cargo::metadata=folder={}", folder.display());
             derive(&lib, &folder)
         }
         Err(_) => String::new(),

@@ -1,0 +1,276 @@
+//! The operations, and the loop that is measured.
+
+use crate::whole::{Compound, Packet};
+use rtcp_types::prelude::*;
+use rtcp_types::*;
+use std::hint::black_box;
+use std::time::Instant;
+
+const BATCHES: usize = 63;
+const BATCH: u64 = 200;
+
+/// The numbers of an input, for writing.
+#[derive(Default)]
+struct Fields {
+    ssrc: u32,
+    ntp: u64,
+    rtp: u32,
+    packets: u32,
+    octets: u32,
+    blocks: Vec<[u32; 7]>,
+    chunks: Vec<Chunk>,
+}
+
+struct Chunk {
+    ssrc: u32,
+    items: Vec<(u8, String)>,
+}
+
+/// The exit status.
+pub fn main() -> u8 {
+    let args: Vec<String> = std::env::args().collect();
+    let [_, inputs, operation, count] = args.as_slice() else {
+        return 2;
+    };
+    let Some((verb, name)) = operation.split_once('-') else {
+        return 3;
+    };
+    let Some(input) = load(inputs, name) else {
+        return 2;
+    };
+    let fields = fields(&input);
+    let mut out = [0; 1024];
+    let written = match (verb, name) {
+        ("parse", "rrsdes") => return finish(count, || sum_of_compound(black_box(&input))),
+        ("parse", "sr31") => return finish(count, || sum_of_sr(black_box(&input))),
+        ("parse", "sdes31") => return finish(count, || sum_of_sdes(black_box(&input))),
+        ("write", "rrsdes") => {
+            let (rr, sdes) = (rr(&fields), sdes(&fields));
+            finish(count, || write_both(&rr, &sdes, &mut out))
+        }
+        ("write", "sr31") => {
+            let builder = sr(&fields);
+            finish(count, || write(&builder, &mut out))
+        }
+        ("write", "sdes31") => {
+            let builder = sdes(&fields);
+            finish(count, || write(&builder, &mut out))
+        }
+        ("build", "rrsdes") => finish(count, || {
+            write_both(&rr(black_box(&fields)), &sdes(black_box(&fields)), &mut out)
+        }),
+        ("build", "sr31") => finish(count, || write(&sr(black_box(&fields)), &mut out)),
+        ("build", "sdes31") => finish(count, || write(&sdes(black_box(&fields)), &mut out)),
+        _ => return 3,
+    };
+    if written == 0 && out[..input.len()] != input {
+        return 4;
+    }
+    written
+}
+
+fn load(path: &str, name: &str) -> Option<Vec<u8>> {
+    let text = std::fs::read_to_string(path).ok()?;
+    let hex = text
+        .lines()
+        .filter_map(|line| line.split_once('\t'))
+        .find(|(named, _)| *named == name)?
+        .1;
+    (0..hex.len() / 2)
+        .map(|i| u8::from_str_radix(&hex[2 * i..2 * i + 2], 16).ok())
+        .collect()
+}
+
+fn fields(input: &[u8]) -> Fields {
+    let mut fields = Fields::default();
+    for packet in Compound::parse(input).expect("a good input") {
+        match packet.expect("a good input") {
+            Packet::Rr(rr) => {
+                fields.ssrc = rr.ssrc();
+                fields.blocks = rr.report_blocks().map(numbers).collect();
+            }
+            Packet::Sr(sr) => {
+                fields.ssrc = sr.ssrc();
+                fields.ntp = sr.ntp_timestamp();
+                fields.rtp = sr.rtp_timestamp();
+                fields.packets = sr.packet_count();
+                fields.octets = sr.octet_count();
+                fields.blocks = sr.report_blocks().map(numbers).collect();
+            }
+            Packet::Sdes(sdes) => fields.chunks = sdes.chunks().map(chunk).collect(),
+            _ => {}
+        }
+    }
+    fields
+}
+
+fn numbers(block: ReportBlock<'_>) -> [u32; 7] {
+    [
+        block.ssrc(),
+        block.fraction_lost().into(),
+        block.cumulative_lost(),
+        block.extended_sequence_number(),
+        block.interarrival_jitter(),
+        block.last_sender_report_timestamp(),
+        block.delay_since_last_sender_report_timestamp(),
+    ]
+}
+
+fn chunk(chunk: &SdesChunk<'_>) -> Chunk {
+    let text = |item: &SdesItem<'_>| item.get_value_string().expect("a good input");
+    let items = chunk.items().map(|item| (item.type_(), text(item)));
+    Chunk {
+        ssrc: chunk.ssrc(),
+        items: items.collect(),
+    }
+}
+
+/// The sums wrap, as those of the sides in C do.
+fn add(sum: u64, number: u64) -> u64 {
+    sum.wrapping_add(number)
+}
+
+fn sum_of_blocks<'a>(blocks: impl Iterator<Item = ReportBlock<'a>>) -> u64 {
+    blocks.fold(0, |sum, block| {
+        numbers(block)
+            .iter()
+            .fold(sum, |sum, number| add(sum, u64::from(*number)))
+    })
+}
+
+fn sum_of_chunks(sdes: &Sdes<'_>) -> u64 {
+    sdes.chunks().fold(0, |sum, chunk| {
+        chunk
+            .items()
+            .fold(add(sum, chunk.ssrc().into()), |sum, item| {
+                let value = item.value();
+                let first = u64::from(value[0]);
+                add(sum, u64::from(item.type_()) + value.len() as u64 + first)
+            })
+    })
+}
+
+fn sum_of_compound(input: &[u8]) -> u64 {
+    let Ok(compound) = Compound::parse(input) else {
+        return 0;
+    };
+    let mut sum = 0;
+    for packet in compound {
+        match packet {
+            Ok(Packet::Rr(rr)) => {
+                sum = add(sum, rr.ssrc().into());
+                sum = add(sum, sum_of_blocks(rr.report_blocks()));
+            }
+            Ok(Packet::Sdes(sdes)) => sum = add(sum, sum_of_chunks(&sdes)),
+            _ => return 0,
+        }
+    }
+    sum
+}
+
+fn sum_of_sr(input: &[u8]) -> u64 {
+    let Ok(sr) = SenderReport::parse(input) else {
+        return 0;
+    };
+    let numbers = [
+        sr.ssrc(),
+        sr.rtp_timestamp(),
+        sr.packet_count(),
+        sr.octet_count(),
+    ];
+    let sum = numbers.iter().fold(sr.ntp_timestamp(), |sum, number| {
+        add(sum, u64::from(*number))
+    });
+    add(sum, sum_of_blocks(sr.report_blocks()))
+}
+
+fn sum_of_sdes(input: &[u8]) -> u64 {
+    match Sdes::parse(input) {
+        Ok(sdes) => sum_of_chunks(&sdes),
+        Err(_) => 0,
+    }
+}
+
+fn block(numbers: &[u32; 7]) -> ReportBlockBuilder {
+    ReportBlock::builder(numbers[0])
+        .fraction_lost(numbers[1] as u8)
+        .cumulative_lost(numbers[2])
+        .extended_sequence_number(numbers[3])
+        .interarrival_jitter(numbers[4])
+        .last_sender_report_timestamp(numbers[5])
+        .delay_since_last_sender_report_timestamp(numbers[6])
+}
+
+fn rr(fields: &Fields) -> ReceiverReportBuilder {
+    let report = ReceiverReport::builder(fields.ssrc);
+    fields.blocks.iter().fold(report, |report, numbers| {
+        report.add_report_block(block(numbers))
+    })
+}
+
+fn sr(fields: &Fields) -> SenderReportBuilder {
+    let report = SenderReport::builder(fields.ssrc)
+        .ntp_timestamp(fields.ntp)
+        .rtp_timestamp(fields.rtp)
+        .packet_count(fields.packets)
+        .octet_count(fields.octets);
+    fields.blocks.iter().fold(report, |report, numbers| {
+        report.add_report_block(block(numbers))
+    })
+}
+
+fn sdes(fields: &Fields) -> SdesBuilder<'_> {
+    fields.chunks.iter().fold(Sdes::builder(), |sdes, chunk| {
+        let started = SdesChunk::builder(chunk.ssrc);
+        sdes.add_chunk(chunk.items.iter().fold(started, |chunk, (type_, value)| {
+            chunk.add_item(SdesItem::builder(*type_, value))
+        }))
+    })
+}
+
+fn write(builder: &impl RtcpPacketWriter, out: &mut [u8]) -> u64 {
+    match black_box(builder).write_into(black_box(out)) {
+        Ok(size) => size as u64,
+        Err(_) => 0,
+    }
+}
+
+/// Packet after packet: fewer instructions than through the compound builder,
+/// which asks each packet for its size twice.
+fn write_both(rr: &ReceiverReportBuilder, sdes: &SdesBuilder<'_>, out: &mut [u8]) -> u64 {
+    let size = write(rr, out);
+    size + write(sdes, &mut out[size as usize..])
+}
+
+/// Runs as the arguments say, and prints. By reference, as in C: the loop is not
+/// to be compiled together with what it runs.
+fn finish(count: &str, mut run: impl FnMut() -> u64) -> u8 {
+    let run: &mut dyn FnMut() -> u64 = black_box(&mut run);
+    if count == "time" {
+        println!("{:.2}", best(run));
+        return 0;
+    }
+    let Ok(n) = count.parse::<u64>() else {
+        return 2;
+    };
+    let once = run();
+    if once == 0 || repeat(run, n) != once.wrapping_mul(n) {
+        return 1;
+    }
+    println!("{once}");
+    0
+}
+
+fn repeat(run: &mut dyn FnMut() -> u64, n: u64) -> u64 {
+    (0..n).fold(0, |total, _| add(total, run()))
+}
+
+/// Nanoseconds of one run, in the best of the batches.
+fn best(run: &mut dyn FnMut() -> u64) -> f64 {
+    let batch = |_| {
+        let start = Instant::now();
+        black_box(repeat(run, BATCH));
+        start.elapsed().as_nanos() as f64 / BATCH as f64
+    };
+    (0..BATCHES).map(batch).fold(f64::INFINITY, f64::min)
+}
