@@ -1,4 +1,4 @@
-/* GStreamer 1.22. The buffer that is read is made once; one that is written is made at each writing, for its length is cut at the end of it. */
+/* GStreamer 1.22. The buffers, to read and to write, are made before the loop. */
 #include <gst/gst.h>
 #include <gst/rtp/gstrtcpbuffer.h>
 #include "harness.h"
@@ -13,6 +13,7 @@ void setup(const struct Input *input) {
     in_rrsdes = lent(&rrsdes);
     in_sr31 = lent(&sr31);
     in_sdes31 = lent(&sdes31);
+    out = gst_rtcp_buffer_new(ROOM);
 }
 
 const uint8_t *written(void) {
@@ -83,10 +84,8 @@ static uint64_t parse_sr31(void) { return gst_rtcp_buffer_validate(in_sr31) ? re
 /* A lone SDES packet is valid only as RTCP of reduced size. */
 static uint64_t parse_sdes31(void) { return gst_rtcp_buffer_validate_reduced(in_sdes31) ? read_all(in_sdes31) : 0; }
 
-/* The last buffer is kept until the next writing, so that its bytes can be looked at after the loop. */
 static void open_out(GstRTCPBuffer *rtcp) {
-    if (out != NULL) gst_buffer_unref(out);
-    out = gst_rtcp_buffer_new(ROOM);
+    gst_buffer_set_size(out, 0);
     gst_rtcp_buffer_map(out, GST_MAP_READWRITE, rtcp);
 }
 
@@ -144,7 +143,7 @@ static uint64_t write_sdes31(void) {
 }
 
 const struct Operation operations[] = {
-    {"parse-rrsdes", parse_rrsdes, NULL},    {"parse-sr31", parse_sr31, NULL},  {"parse-sdes31", parse_sdes31, NULL},
+    {"parse-rrsdes", parse_rrsdes, &rrsdes}, {"parse-sr31", parse_sr31, &sr31}, {"parse-sdes31", parse_sdes31, &sdes31},
     {"write-rrsdes", write_rrsdes, &rrsdes}, {"write-sr31", write_sr31, &sr31}, {"write-sdes31", write_sdes31, &sdes31},
     {NULL, NULL, NULL},
 };

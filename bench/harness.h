@@ -28,7 +28,8 @@ struct Input {
 
 extern struct Input rrsdes, sr31, sdes31;
 
-/* A reading returns the sum of all fields, a writing how many bytes it wrote. For a writing, `input` has the bytes that it must write. */
+/* A reading returns the sum of all fields, a writing, whose name starts with "write", how many bytes it wrote. What it reads or must write is `input`;
+   where that is null, nothing is held against it. */
 struct Operation {
     const char *name;
     uint64_t (*run)(void);
@@ -38,7 +39,7 @@ struct Operation {
 /* The side's operations, up to one without a name. */
 extern const struct Operation operations[];
 
-/* What a side does once, before the loop; `input` is what the operation writes, or null. */
+/* What a side does once, before the loop, for the operation's input. */
 void setup(const struct Input *input);
 
 /* The bytes of the last writing. */

@@ -38,7 +38,6 @@ static void take_blocks(const struct Input *in) {
 
 void setup(const struct Input *input) {
     out = mbuf_alloc(ROOM);
-    if (input == NULL) return;
     take_blocks(input);
     end_texts(input);
 }
@@ -133,7 +132,7 @@ static uint64_t write_sdes31(void) {
 }
 
 const struct Operation operations[] = {
-    {"parse-rrsdes", parse_rrsdes, NULL},    {"parse-sr31", parse_sr31, NULL},  {"parse-sdes31", parse_sdes31, NULL},
+    {"parse-rrsdes", parse_rrsdes, &rrsdes}, {"parse-sr31", parse_sr31, &sr31}, {"parse-sdes31", parse_sdes31, &sdes31},
     {"write-rrsdes", write_rrsdes, &rrsdes}, {"write-sr31", write_sr31, &sr31}, {"write-sdes31", write_sdes31, &sdes31},
     {NULL, NULL, NULL},
 };
