@@ -1,0 +1,176 @@
+# Writes docs/PERFORMANCE.md from the lines of bench/run: what, operation, side, value.
+BEGIN {
+    FS = "\t"
+    n_ops = split("parse-rrsdes parse-sr31 parse-sdes31 write-rrsdes write-sr31 write-sdes31", ops, " ")
+    title["parse-rrsdes"] = "read RR+SDES"; title["parse-sr31"] = "read SR, 31 blocks"; title["parse-sdes31"] = "read SDES, 31 chunks"
+    title["write-rrsdes"] = "write RR+SDES"; title["write-sr31"] = "write SR, 31 blocks"; title["write-sdes31"] = "write SDES, 31 chunks"
+    # In 32-bit words. Reading: header, SSRC and block words, and two for each SDES item (type and length; where its value is). Writing: all words.
+    fields["parse-rrsdes"] = 18; fields["parse-sr31"] = 193; fields["parse-sdes31"] = 94
+    fields["write-rrsdes"] = 25; fields["write-sr31"] = 193; fields["write-sdes31"] = 125
+    how["parse-rrsdes"] = "(2 + 6) + (2 + 4 × 2)"; how["parse-sr31"] = "7 + 31 × 6"; how["parse-sdes31"] = "1 + 31 × (1 + 2)"
+    how["write-rrsdes"] = "100 bytes / 4"; how["write-sr31"] = "772 bytes / 4"; how["write-sdes31"] = "500 bytes / 4"
+    n_peers = split("rtcp-types gstreamer libre", peers, " ")
+    n_counted = split("ours rtcp-types rtcp-types-builder rtcp-types-lto gstreamer libre", counted, " ")
+    n_timed = split("rtcp-types rtcp-types-builder rtcp-types-lto gstreamer libre pion", timed, " ")
+}
+
+$1 == "version" { version[$3] = $4 }
+$1 == "ir" { ir[$2, $3] = $4 }
+$1 == "ns" && (!(($2, $3) in ns) || $4 < ns[$2, $3]) { ns[$2, $3] = $4 }
+$1 == "wrong" { wrong[$2, $3] = 1 }
+$1 == "bytes" { bytes[$2] = $4 }
+$1 == "growth-ir" { growth_ir[$2, $3] = $4 }
+$1 == "growth-ns" && (!(($2, $3) in growth_ns) || $4 < growth_ns[$2, $3]) { growth_ns[$2, $3] = $4 }
+
+function label(side) {
+    if (side == "ours") return "ours"
+    if (side == "rtcp-types") return "rtcp-types"
+    if (side == "rtcp-types-builder") return "with its builder"
+    if (side == "rtcp-types-lto") return "with LTO"
+    if (side == "gstreamer") return "GStreamer"
+    return side
+}
+
+function thousands(n, text) {
+    text = n < 1000 ? n "" : int(n / 1000) "," sprintf("%03d", n % 1000)
+    return text
+}
+
+function known(side) { return side in version ? label(side) " " version[side] : label(side) " (not here)" }
+
+function row(cells, n, i, line) {
+    line = "|"
+    for (i = 1; i <= n; i++) line = line " " cells[i] " |"
+    print line
+}
+
+function rule(n, i, line) {
+    line = "|---|"
+    for (i = 2; i <= n; i++) line = line "---:|"
+    print line
+}
+
+# Leaves `best_side` and `best`.
+function find_best(op, i) {
+    best_side = ""
+    for (i = 1; i <= n_peers; i++)
+        if ((op, peers[i]) in ir && (best_side == "" || ir[op, peers[i]] < best)) { best_side = peers[i]; best = ir[op, peers[i]] }
+}
+
+function count_of(op, side) {
+    if ((op, side) in wrong) return "wrong bytes"
+    return (op, side) in ir ? thousands(ir[op, side]) : "-"
+}
+
+function ratio_of(op, side) {
+    if ((op, side) in wrong) return "wrong bytes"
+    return (op, side) in ns ? sprintf("%.2f", ns[op, side] / ns[op, "ours"]) : "-"
+}
+
+function print_share(i, op, cells) {
+    print "| operation | ours | best peer | ours in parts of it | words | limit | ours in parts of the limit |"
+    rule(7)
+    for (i = 1; i <= n_ops; i++) {
+        op = ops[i]
+        find_best(op)
+        cells[1] = title[op]; cells[2] = thousands(ir[op, "ours"])
+        cells[3] = best_side == "" ? "-" : thousands(best) " (" label(best_side) ")"
+        cells[4] = best_side == "" ? "-" : sprintf("%.2f", ir[op, "ours"] / best)
+        cells[5] = how[op] " = " fields[op]; cells[6] = thousands(3 * fields[op])
+        cells[7] = sprintf("%.1f", ir[op, "ours"] / (3 * fields[op]))
+        row(cells, 7)
+    }
+}
+
+function print_counts(i, k, cells) {
+    cells[1] = "operation"
+    for (k = 1; k <= n_counted; k++) cells[k + 1] = label(counted[k])
+    row(cells, n_counted + 1)
+    rule(n_counted + 1)
+    for (i = 1; i <= n_ops; i++) {
+        cells[1] = title[ops[i]]
+        for (k = 1; k <= n_counted; k++) cells[k + 1] = count_of(ops[i], counted[k])
+        row(cells, n_counted + 1)
+    }
+}
+
+function print_times(i, k, cells) {
+    cells[1] = "operation"; cells[2] = "ours, ns"
+    for (k = 1; k <= n_timed; k++) cells[k + 2] = label(timed[k])
+    row(cells, n_timed + 2)
+    rule(n_timed + 2)
+    for (i = 1; i <= n_ops; i++) {
+        cells[1] = title[ops[i]]; cells[2] = sprintf("%.0f", ns[ops[i], "ours"])
+        for (k = 1; k <= n_timed; k++) cells[k + 2] = ratio_of(ops[i], timed[k])
+        row(cells, n_timed + 2)
+    }
+}
+
+function print_growth(i, n, packets, cells) {
+    n = split("1 10 100 1000", packets, " ")
+    print "| packets | bytes | check, instructions a byte | check, ns a byte | walk, instructions a byte | walk, ns a byte |"
+    rule(6)
+    for (i = 1; i <= n; i++) {
+        cells[1] = thousands(packets[i]); cells[2] = thousands(bytes[packets[i]])
+        cells[3] = sprintf("%.2f", growth_ir[packets[i], "parse"]); cells[4] = sprintf("%.2f", growth_ns[packets[i], "parse"] / bytes[packets[i]])
+        cells[5] = sprintf("%.2f", growth_ir[packets[i], "walk"]); cells[6] = sprintf("%.2f", growth_ns[packets[i], "walk"] / bytes[packets[i]])
+        row(cells, 6)
+    }
+}
+
+END {
+    print "# What reading and writing take"
+    print ""
+    print "`bench/run` measures and writes this page; `bench/run --check` counts our instructions alone and fails where one operation is not below the best"
+    print "peer's figure that the command has in it. Sides of this run: ours through the C functions of librtcp.a (C by gcc " version["gcc"] " -O2);"
+    print known("rtcp-types") ", its sources unchanged (rustc " version["rustc"] ", the defaults of cargo's release profile); " known("gstreamer") "; " known("libre") ";"
+    print known("pion") " (Go " version["go"] ")."
+    print ""
+    print "## What is measured"
+    print ""
+    print "Three inputs (bench/inputs.tsv): a datagram of RR and SDES (100 bytes, one block, one chunk of four items), an SR with 31 blocks (772 bytes) and an"
+    print "SDES with 31 chunks of one item (500 bytes)."
+    print ""
+    print "Reading checks the bytes and reads every field: each SSRC, the sender's numbers, the seven numbers of each block; of each SDES item the type, the"
+    print "length of the value and its first byte. All fields are added up; the command fails where the sums of two sides differ. Writing writes the same"
+    print "bytes from fields at hand, and the command holds them to the input."
+    print ""
+    print "- rtcp-types reads the datagram through its own compound.rs, with stand-ins for the feedback and XR packets that it names. It writes with builders"
+    print "  made before the loop, so that only `write_into`, which checks and writes, is measured; 'with its builder' makes the builders in the loop."
+    print "  'with LTO' has the whole program compiled as one, so that the crate's functions are merged into the loop that reads. None of the sides is"
+    print "  compiled so by default, and the best peer below is taken without it."
+    print "- GStreamer reads and writes buffers made before the loop. Beyond one chunk it writes wrong bytes."
+    print "- libre and pion allocate what they read; pion also what it writes, libre writes into a buffer made before the loop."
+    print ""
+    print "## Instructions"
+    print ""
+    print "By callgrind, (Ir(3N) - Ir(N)) / 2N with N = 1000. The limit is a load, a byte swap and a store for each 32-bit word: 3 × words. Words, for reading:"
+    print "the header, each SSRC, the words of the sender's numbers and of the blocks, and two for each SDES item (its type and length; where its value is). For"
+    print "writing: all words of the packet. It is the limit of code that takes one word at a time; vector instructions could go below it."
+    print ""
+    print_share()
+    print ""
+    print "Each side (pion is not counted: valgrind does not carry the Go runtime through):"
+    print ""
+    print_counts()
+    print ""
+    print "## Time"
+    print ""
+    print "The best of 63 batches of 200, in the best of several rounds through all sides. Peers in parts of ours in the same run: 2.00 takes twice as long"
+    print "as ours. The nanoseconds of ours are those of one shared machine, for orientation."
+    print ""
+    print_times()
+    print ""
+    print "## Growth"
+    print ""
+    print "`rtcp_compound_parse`, and a whole walk (`rtcp_walk_open`, then `rtcp_walk_step` to the end), over datagrams that repeat RR, SDES with CNAME, SR,"
+    print "APP and BYE. The command fails where the instructions a byte at 1,000 packets are more than 2 % above those at 10. The datagram of one packet has"
+    print "no CNAME, so it is refused once all of it is read; the calls are the same."
+    print ""
+    print_growth()
+    print ""
+    print "## Memory"
+    print ""
+    print "The archive refers to no function that allocates or frees (`nm -u`; the command fails where it does), and what is read is handed over as places in"
+    print "the caller's own bytes. The command also lists the functions in which the compiler made a call of memcpy or memset."
+}
