@@ -28,8 +28,8 @@ struct Input {
 
 extern struct Input rrsdes, sr31, sdes31;
 
-/* A reading returns the sum of all fields, a writing, whose name starts with "write", how many bytes it wrote. What it reads or must write is `input`;
-   where that is null, nothing is held against it. */
+/* A reading returns the sum of all fields; a writing, whose name starts with "write", how many bytes it wrote. `input` is what it reads or must
+   write; where it is null, nothing is held against it. */
 struct Operation {
     const char *name;
     uint64_t (*run)(void);

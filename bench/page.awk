@@ -9,8 +9,8 @@ BEGIN {
     fields["write-rrsdes"] = 25; fields["write-sr31"] = 193; fields["write-sdes31"] = 125
     how["parse-rrsdes"] = "(2 + 6) + (2 + 4 × 2)"; how["parse-sr31"] = "7 + 31 × 6"; how["parse-sdes31"] = "1 + 31 × (1 + 2)"
     how["write-rrsdes"] = "100 bytes / 4"; how["write-sr31"] = "772 bytes / 4"; how["write-sdes31"] = "500 bytes / 4"
-    n_peers = split("rtcp-types gstreamer libre", peers, " ")
-    n_counted = split("ours rtcp-types rtcp-types-builder rtcp-types-lto gstreamer libre", counted, " ")
+    n_peers = split("rtcp-types gstreamer libre pion", peers, " ")
+    n_counted = split("ours rtcp-types rtcp-types-builder rtcp-types-lto gstreamer libre pion", counted, " ")
     n_timed = split("rtcp-types rtcp-types-builder rtcp-types-lto gstreamer libre pion", timed, " ")
 }
 
@@ -150,7 +150,7 @@ END {
     print ""
     print_share()
     print ""
-    print "Each side (pion is not counted: valgrind does not carry the Go runtime through):"
+    print "Each side (pion on one thread, without the signals by which Go's runtime interrupts it, at which callgrind stops):"
     print ""
     print_counts()
     print ""
