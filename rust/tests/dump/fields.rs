@@ -238,3 +238,31 @@ fn a_refusal_with_its_bytes() {
 ";
     assert_same(&printed(""), want);
 }
+
+#[test]
+fn the_summary_counts_each_kind() {
+    let sr = "80 C8 00 06 00 00 00 01 00 00 00 00 00 00 00 00 00 00 00 02 00 00 00 03 00 00 00 04";
+    let app = "80 CC 00 02 00 00 00 08 6E 6F 6E 65";
+    let parts = [
+        sr.into(),
+        "80 C9 00 01 00 00 00 01 ".repeat(2),
+        "81 CA 00 02 00 00 00 01 01 01 61 00 ".repeat(3),
+        "80 CB 00 00 ".repeat(4),
+        format!("{app} ").repeat(5),
+        "80 CD 00 00 ".repeat(6),
+    ];
+    let run = run(&["--raw", "--summary"], &bytes(&parts.join(" ")));
+    let want = "summary
+  datagrams: 1
+    read: 1
+    refused: 0
+  packets: 21
+    SR: 1
+    RR: 2
+    SDES: 3
+    BYE: 4
+    APP: 5
+    other types: 6
+";
+    assert_same(&run.out, want);
+}

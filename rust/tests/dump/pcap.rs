@@ -220,7 +220,7 @@ fn what_is_passed_over_is_counted() {
         // IP version 5, a header of 4 words, a total under the header, one past the frame,
         // and UDP lengths under 8 and past the packet.
         v4().replacen("45", "55", 1),
-        v4().replacen("45", "44", 1),
+        format!("44 00 00 30 {} {UDP} {DATAGRAM}", &IPV4[12..47]),
         v4().replacen("00 34", "00 13", 1),
         v4().replacen("00 34", "00 35", 1),
         v6().replacen("00 20 11", "00 21 11", 1),

@@ -66,7 +66,7 @@ fn ntp(timestamp: u64) -> String {
         return "0 (the sender has no clock)".into();
     }
     let (seconds, part) = (timestamp >> 32, timestamp & 0xFFFF_FFFF);
-    let milliseconds = part * 1000 >> 32;
+    let milliseconds = (part * 1000) >> 32;
     let time = match seconds >> 31 {
         0 => format!("{seconds}.{milliseconds:03} s of the sender's own clock"),
         _ => {
@@ -107,7 +107,7 @@ fn report_block(out: &mut impl Write, block: &ReportBlock) -> io::Result<()> {
         last => format!("{:04x}.{:04x}", last >> 16, last & 0xFFFF),
     };
     let delay = block.delay_since_last_sender_report_timestamp();
-    let milliseconds = u64::from(delay) * 1000 >> 16;
+    let milliseconds = (u64::from(delay) * 1000) >> 16;
     let (seconds, milliseconds) = (milliseconds / 1000, milliseconds % 1000);
     writeln!(out, "      fraction lost: {}/256", block.fraction_lost())?;
     writeln!(
