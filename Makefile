@@ -1,17 +1,21 @@
-# `make` builds the static library, `make install` puts it, its header and rtcp.pc under PREFIX, with DESTDIR before it.
+# `make` builds the static library, `make install` puts it, its header and rtcp.pc under PREFIX, with DESTDIR before it. `make sample` runs the main
+# job over the real datagrams in samples/.
 PREFIX ?= /usr/local
 DESTDIR ?=
 VERSION := $(shell sed -n 's/^version = "\(.*\)"/\1/p' rust/Cargo.toml)
 ARCHIVE := target/staticlib/librtcp.a
 
-.PHONY: all install uninstall
+CARGO_RUN := cargo run --quiet --offline --manifest-path rust/Cargo.toml
+CAPTURES := $(sort $(wildcard samples/captures/*.hex))
+
+.PHONY: all install uninstall sample
 
 all:
 	rt staticlib rtcp
 
 # Only where there is none: an install need not have the toolchain.
 $(ARCHIVE):
-	rt staticlib rtcp
+	rt staticlib rtcp >&2
 
 install: $(ARCHIVE)
 	install -d "$(DESTDIR)$(PREFIX)/lib/pkgconfig" "$(DESTDIR)$(PREFIX)/include"
@@ -23,3 +27,8 @@ install: $(ARCHIVE)
 uninstall:
 	rm -f "$(DESTDIR)$(PREFIX)/lib/librtcp.a" "$(DESTDIR)$(PREFIX)/lib/pkgconfig/rtcp.pc"
 	rm -f "$(DESTDIR)$(PREFIX)/include/rtcp.h"
+
+sample: $(ARCHIVE)
+	$(CARGO_RUN) --bin rtcpdump -- --first 1 $(CAPTURES)
+	$(CARGO_RUN) --example sample -- target/sample.hex $(CAPTURES)
+	$(CARGO_RUN) --bin rtcpdump -- target/sample.hex
