@@ -8,6 +8,7 @@ use bokyjave::prelude::*;
 use bokyjave::{
     App, Bye, Compound, CompoundWriter, ReceiverReport, ReportBlock, Sdes, SdesChunk, SdesItem,
 };
+use std::collections::BTreeSet;
 use std::io::Write;
 use std::path::{Path, PathBuf};
 use std::process::{Command, Stdio};
@@ -115,10 +116,12 @@ fn printed(hex: &str) -> String {
 #[test]
 fn rtcpdump_says_of_each_datagram_what_the_page_says() {
     let examples = of_kind("hex");
-    assert!(!examples.is_empty());
-    for example in examples {
+    for example in &examples {
         assert_eq!(printed(&example.code), example.answer, "{}", example.code);
     }
+    // The numbers that a datagram can get.
+    let numbers: BTreeSet<u64> = examples.iter().map(|it| it.number).collect();
+    assert!(numbers.into_iter().eq([1, 2, 3, 4, 5, 7, 8, 9]));
 }
 
 /// A call as it is written, and the text of its error.
@@ -127,8 +130,8 @@ type Call = (&'static str, fn() -> String);
 macro_rules! calls {
     ($({ $($code:tt)* })*) => {
         [$((stringify!($($code)*), || {
-            let answer = (|| { $($code)* })();
-            answer.map(|_| "accepted").unwrap_err().to_string()
+            let call = || { $($code)* };
+            call().map(|_| "accepted").unwrap_err().to_string()
         })),*]
     };
 }

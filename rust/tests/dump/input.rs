@@ -22,7 +22,7 @@ fn summary(read: u64, refused: &[(u64, u64)]) -> String {
 fn lines_with_and_without_a_label() {
     let joined: String = DATAGRAM.split(' ').collect::<String>().to_lowercase();
     let text = format!(
-        "# a comment\n\n{joined}\r\n\r\n   \nab\u{1b}:1\t{DATAGRAM}\nprogram:5005\t{joined}\n\
+        "# a comment\n\n{joined}\r\n\r\n   \nab\u{1b}:1\t{DATAGRAM}\nprogram\t:5005\t{joined}\n\
          empty:1\t\n80C9\n{DATAGRAM}"
     );
     let run = run(&[], text.as_bytes());
@@ -31,7 +31,7 @@ fn lines_with_and_without_a_label() {
     let want = format!(
         "datagram 1: standard input line 3, 24 bytes\n{PRINTED}\
          datagram 2: standard input line 6, ab\\u{{1b}}:1, 24 bytes\n{PRINTED}\
-         datagram 3: standard input line 7, program:5005, 24 bytes\n{PRINTED}\
+         datagram 3: standard input line 7, program\\t:5005, 24 bytes\n{PRINTED}\
          datagram 4: standard input line 8, empty:1, 0 bytes\n{truncated} 0)\n  bytes: none\n\
          datagram 5: standard input line 9, 2 bytes\n{truncated} 2)\n  bytes: 80c9\n\
          datagram 6: standard input line 10, 24 bytes\n{PRINTED}{}",

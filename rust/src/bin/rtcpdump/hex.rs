@@ -4,7 +4,7 @@
 pub struct Line<'a> {
     /// The line's number, from 1.
     pub number: usize,
-    /// The text before the tab; empty where there is none.
+    /// The text before the last tab; empty where there is none.
     pub label: &'a [u8],
     /// The datagram; none where the line is no hex digits in pairs.
     pub datagram: Option<Vec<u8>>,
@@ -33,7 +33,7 @@ fn line(number: usize, text: &[u8]) -> Option<Line<'_>> {
     if text.starts_with(b"#") || text.iter().all(|byte| *byte == b' ') {
         return None;
     }
-    let tab = text.iter().position(|byte| *byte == b'\t');
+    let tab = text.iter().rposition(|byte| *byte == b'\t');
     let (label, digits) = match tab {
         Some(tab) => (&text[..tab], &text[tab + 1..]),
         None => (&text[..0], text),

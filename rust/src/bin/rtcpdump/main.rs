@@ -23,15 +23,19 @@ fn main() -> ExitCode {
     let options = match Options::of(std::env::args_os().skip(1)) {
         Ok(Some(options)) => options,
         Ok(None) => {
-            print!("{USAGE}");
-            return ExitCode::SUCCESS;
+            return ended(io::stdout().write_all(USAGE.as_bytes()).map(|()| true));
         }
         Err(message) => {
             eprint!("rtcpdump: {message}\n\n{USAGE}");
             return ExitCode::from(2);
         }
     };
-    match run(&options) {
+    ended(run(&options))
+}
+
+/// The exit status: whether all was read, and could be printed.
+fn ended(run: io::Result<bool>) -> ExitCode {
+    match run {
         Ok(true) => ExitCode::SUCCESS,
         Ok(false) => ExitCode::FAILURE,
         // Whoever reads the output has seen enough.
