@@ -333,6 +333,16 @@ fn a_file_header_that_is_damaged() {
         let message = format!("offset 0: the file header has {len} of 24 bytes");
         ends_at(&data[..len], 0, &message);
     }
+    for header in [BIG_MICROSECONDS, LITTLE_NANOSECONDS] {
+        let mut data = file(header, 101, &[v4()]);
+        data[4] = data[4].wrapping_add(1);
+        let version = if is_little(header) { 3 } else { 258 };
+        ends_at(
+            &data,
+            0,
+            &format!("offset 4: version {version} of pcap is not read"),
+        );
+    }
     let data = file(LITTLE_MICROSECONDS, 105, &[v4()]);
     ends_at(&data, 0, "offset 20: link type 105 is not one that is read");
     let message = "offset 0: pcapng is not read; write it as classic pcap";

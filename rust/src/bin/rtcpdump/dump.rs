@@ -75,17 +75,13 @@ impl<'o, W: Write> Dump<'o, W> {
     fn pcap(&mut self, name: &str, data: &[u8]) -> io::Result<()> {
         let records = match Pcap::open(data) {
             Ok(records) => records,
-            Err(damage) => {
-                return self.damage(name, &format!("offset {}: {}", damage.at, damage.text))
-            }
+            Err(damage) => return self.damage(name, &damage.to_string()),
         };
         let link = records.link();
         for (index, record) in records.enumerate() {
             let record = match record {
                 Ok(record) => record,
-                Err(damage) => {
-                    return self.damage(name, &format!("offset {}: {}", damage.at, damage.text))
-                }
+                Err(damage) => return self.damage(name, &damage.to_string()),
             };
             match link.udp(record.frame) {
                 Ok(udp) => self.udp(&format!("{name} record {}", index + 1), &record, &udp)?,

@@ -2,9 +2,12 @@
 //! of 16 bytes.
 
 use crate::link::Link;
+use std::fmt;
 
 const FILE_HEADER: usize = 24;
 const RECORD_HEADER: usize = 16;
+/// The major version; a minor one changes nothing that is read here.
+const VERSION: u16 = 2;
 const MICROSECONDS: u32 = 0xA1B2_C3D4;
 const NANOSECONDS: u32 = 0xA1B2_3C4D;
 
@@ -16,6 +19,15 @@ pub enum Order {
 }
 
 impl Order {
+    /// Two bytes at a place, which are there.
+    fn u16_at(self, data: &[u8], at: usize) -> u16 {
+        let bytes = [data[at], data[at + 1]];
+        match self {
+            Order::Big => u16::from_be_bytes(bytes),
+            Order::Little => u16::from_le_bytes(bytes),
+        }
+    }
+
     /// Four bytes at a place, which are there.
     pub fn u32_at(self, data: &[u8], at: usize) -> u32 {
         let bytes = [data[at], data[at + 1], data[at + 2], data[at + 3]];
@@ -28,8 +40,14 @@ impl Order {
 
 /// Where a file is damaged, and how.
 pub struct Damage {
-    pub at: usize,
-    pub text: String,
+    at: usize,
+    text: String,
+}
+
+impl fmt::Display for Damage {
+    fn fmt(&self, f: &mut fmt::Formatter<'_>) -> fmt::Result {
+        write!(f, "offset {}: {}", self.at, self.text)
+    }
 }
 
 pub struct Record<'a> {
@@ -84,6 +102,10 @@ impl<'a> Pcap<'a> {
         if data.len() < FILE_HEADER {
             let text = format!("the file header has {} of 24 bytes", data.len());
             return damage(0, text);
+        }
+        let version = order.u16_at(data, 4);
+        if version != VERSION {
+            return damage(4, format!("version {version} of pcap is not read"));
         }
         // The upper half says how long the frames' check sequence is.
         let number = order.u32_at(data, 20) & 0xFFFF;
