@@ -10,11 +10,15 @@ use Rattle.rfc3550.specs.Packet.{contentBytes, chunkBytes}
 use Rattle.rfc3550.specs.Write.{Given, giveApp, contentGiven, paddingGiven, packetGiven, ownTests, tests, sizeGiven, calculateSize, chunkSize}
 use Rattle.rfc3550.proofs.Bytes.{length-be}
 use Rattle.rfc3550.proofs.Packet.{length-layout}
-use Rattle.utils.specs.Error.{writeRefusal, codeRefusal}
+use Rattle.utils.specs.Error.{parseRefusal, writeRefusal, codeRefusal}
+use Rattle.utils.specs.List.{listedOf}
 use Rattle.utils.specs.Writer.{writtenOf}
+use Rattle.utils.specs.declared.error.RtcpParseError.{RtcpParseError}
 use Rattle.utils.specs.declared.error.RtcpWriteError.{RtcpWriteError}
 use Rattle.utils.specs.declared.error.RtcpWriteError.the-variants as write
 use Rattle.utils.specs.declared.error.Code.{Code}
+use Rattle.utils.specs.declared.list.Listed.{Listed}
+use Rattle.utils.specs.declared.list.Listed.the-variants as listed
 use Rattle.utils.specs.declared.writer.Written.{Written}
 use Rattle.utils.specs.declared.writer.Written.the-variants.{Size, Refused}
 use Rattle.utils.proofs.Injective.{writeRefusal-injective}
@@ -28,6 +32,22 @@ size-out w n p = rw p
 pub refused-out : (w : Written) (e : RtcpWriteError) (c : Code) → w ≡ Refused e → codeRefusal c ≡ writeRefusal e
     → record { number = c .number; first = c .first; second = c .second; size = 0 } ≡ writtenOut (writtenOf w)
 refused-out w e c p q = rw p (ap (λ (k : Refusal). writtenOut (refused k)) q)
+
+-- ---- a list, handed over
+
+module _ (w : Listed) where
+  pub listed-out : (n : ℕ) → w ≡ listed.Len n → record { number = 0; first = 0; second = 0; size = n } ≡ writtenOut (listedOf w)
+  listed-out n p = rw p
+
+  pub short-out : (n : ℕ) → w ≡ listed.TooShort n → record { number = 10; first = n; second = 0; size = 0 } ≡ writtenOut (listedOf w)
+  short-out n p = rw p
+
+  pub unlisted-out : (e : RtcpParseError) (c : Code) → w ≡ listed.Refused e → codeRefusal c ≡ parseRefusal e
+      → record { number = c .number; first = c .first; second = c .second; size = 0 } ≡ writtenOut (listedOf w)
+  unlisted-out e c p q = rw p (ap (λ (k : Refusal). writtenOut (refused k)) q)
+
+  pub out-listed : (r : RtcpWritten) → r ≡ writtenOut (listedOf w) → (l : List ℕ) (x : Answer ℕ × List ℕ) → (listedOf w, l) ≡ x → (r, l) ≡ handedOut x
+  out-listed r h l x q = rw h (ap handedOut q)
 
 -- ---- a size and a write, handed on
 
@@ -61,7 +81,7 @@ module _ (w : Written) (r : RtcpWritten) (h : r ≡ writtenOut (writtenOf w)) wh
   pub out-chunk : (ts ps vs bs : List ℕ) → writtenOf w ≡ chunkSize 0 ts ps vs bs → (ssrc : ℕ) → r ≡ writtenOut (chunkSize ssrc ts ps vs bs)
   out-chunk ts ps vs bs q ssrc = out-size w r h _ (q ∙ chunk-same 0 ssrc ts ps vs bs)
 
-pub ruleset outs = (needs, size-out, refused-out, out-size, out-written, out-app, out-chunk)
+pub ruleset outs = (needs, size-out, refused-out, listed-out, short-out, unlisted-out, out-listed, out-size, out-written, out-app, out-chunk)
 
 -- ---- what C gets loses nothing
 

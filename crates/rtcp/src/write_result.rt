@@ -1,6 +1,8 @@
-// What every write and every size hands over.
+// What every write, every size and every call that fills a lent list hands over.
+use utils::list::Listed;
 use utils::writer::Written;
 ghost use mathlib.Core.Path.{_≡_};
+ghost use Rattle.utils.specs.List.{listedOf};
 ghost use Rattle.utils.specs.Writer.{writtenOf};
 ghost use Rattle.rtcp.specs.WriteResult.{writtenOut};
 
@@ -29,6 +31,34 @@ impl RtcpWritten {
                     number: code.number,
                     first: code.first,
                     second: code.second,
+                    size: 0,
+                }
+            }
+        }
+    }
+
+    pub fn from_listed(listed: Listed) -> RtcpWritten
+        ensures { λ r. ⌜ r ≡ writtenOut (listedOf listed) ⌝ }
+    {
+        match listed {
+            Listed::Len(len) => RtcpWritten {
+                number: 0,
+                first: 0,
+                second: 0,
+                size: len as u64,
+            },
+            Listed::TooShort(needed) => RtcpWritten {
+                number: 10,
+                first: needed as u64,
+                second: 0,
+                size: 0,
+            },
+            Listed::Refused(e) => {
+                let why = e.code();
+                RtcpWritten {
+                    number: why.number,
+                    first: why.first,
+                    second: why.second,
                     size: 0,
                 }
             }
