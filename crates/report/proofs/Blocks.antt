@@ -1,20 +1,31 @@
--- A report block from its seven numbers, and a lone block's steps.
+-- A report block from its seven numbers, a lone block's steps, and blocks as one flat run in a list.
 use borrow.Author.Needs.{needs}
-use mathlib.Core.Path.{_≡_}
-use mathlib.Core.List.{List}
-use Prim.Native.Nat.{ℕ, _+_, _<_, _≤_}
+use mathlib.Core.Path.{_≡_, refl, sym, ap, _∙_}
+use mathlib.Core.List.{List, [], _∷_, _++_}
+use Prim.Native.Nat.{ℕ, zero, suc, _+_, _-_, _*_, _%_, _<_, _≤_, _^_}
+use native.Mathlib.Nat.{add-zero, add-assoc, sub-zero, pow-suc}
 use native.Mathlib.Omega.{arith}
 use borrow.Author.Tests.{le-leb, lt-leb}
-use lib.ListN.{length, getD, take, drop}
-use lib.Seq.{drop-drop}
-use Rattle.rfc3550.specs.Answer.{ok, refuse, need, _>>_, mapOk}
-use Rattle.rfc3550.specs.Bytes.{val, get}
+use lib.Arith.{digits-lt, digits-mod}
+use lib.ListN.{length, getD, take, drop, set, length-append, length-drop}
+use lib.Seq.{drop-drop, getD-drop, length-take-le}
+use Rattle.rfc3550.specs.Answer.{ok, refused, refusal, refuse, need, _>>_, mapOk}
+use Rattle.rfc3550.specs.Bytes.{val, get, store}
 use Rattle.rfc3550.specs.Loss.{lossOf}
-use Rattle.rfc3550.specs.Packet.{blockWidths}
-use Rattle.rfc3550.specs.Read.{blockOf, readBlock}
-use Rattle.utils.proofs.Numbers.{val-byte}
-use Rattle.report.specs.Block.{blockView}
+use Rattle.rfc3550.specs.Packet.{Block, blockWidths}
+use Rattle.rfc3550.specs.Read.{blockOf, readBlock, readBlocks}
+use Rattle.rfc3550.proofs.Bytes.{length-store}
+use Rattle.utils.specs.List.{layList}
+use Rattle.utils.proofs.Lists.{lay-short, lay-done}
+use Rattle.utils.proofs.Numbers.{val-byte, val-join}
+use Rattle.utils.proofs.Parts.{length-readBlocks}
+use Rattle.utils.proofs.WriterStores.{store-nil, store-store, puts, store-puts}
+use Rattle.report.specs.Block.{blockView, blockNumbers, blocksNumbers}
 use Rattle.report.specs.declared.report_block.ReportBlock.{ReportBlock}
+
+abbrev recordNumbers : ReportBlock → List ℕ
+recordNumbers b =
+    b .ssrc ∷ b .«fraction_lost» ∷ b .«cumulative_lost» ∷ b .«extended_sequence_number» ∷ b .«interarrival_jitter» ∷ b .«last_sender_report_timestamp» ∷ b .«delay_since_last_sender_report_timestamp» ∷ []
 
 abbrev blockAt : List ℕ → ℕ → ReportBlock
 blockAt s at = blockView (blockOf (get blockWidths (drop at s)))
@@ -66,4 +77,84 @@ module _ (s : List ℕ) where
   unfolding readBlock need _>>_ mapOk
   block-whole b l m q = rw (le-leb 24 (length s) l, le-leb (length s) 24 m, q)
 
-pub ruleset blocks = (needs, block-is, block-short, block-long, block-whole)
+-- ---- the seven numbers of a block, one by one into a list
+
+-- a number of bytes
+below : (n : ℕ) (s : List ℕ) → ((i : ℕ) → getD s i 0 < 256) → n ≤ length s → val (take n s) < 256 ^ n
+unfolding val
+below zero s k h = omega arith
+below (suc n) [] k h = absurd (omega arith)
+below (suc n) (x ∷ s) k h =
+    rw (length-take-le n s (omega arith), pow-suc 256 n) (omega (arith, digits-lt {m = 256} (k 0) (below n s (λ i. k (suc i)) (omega arith))))
+
+-- the low 24 bits of a word
+low-bits : (s : List ℕ) (at w : ℕ) → ((i : ℕ) → getD s i 0 < 256) → at + 4 ≤ length s → w ≡ val (take 4 (drop at s)) → w % 16777216 ≡ val (take 3 (drop (at + 1) s))
+low-bits s at w k h e =
+    let b = below 3 (drop (at + 1) s) (λ i. rw getD-drop (k (at + 1 + i))) (rw length-drop (omega arith)) in
+    let j = val-join 1 3 s at 4 (val (take 1 (drop at s))) (val (take 3 (drop (at + 1) s))) h (omega arith) refl refl in
+    rw (e, ← j, digits-mod (val (take 1 (drop at s))) b)
+
+pub block-listed : (s l : List ℕ) (at to a b w d e f g : ℕ) → ((i : ℕ) → getD s i 0 < 256) → at + 24 ≤ length s → to + 7 ≤ length l → a ≡ val (take 4 (drop at s)) → b ≡ getD s (at + 4) 0
+    → w ≡ val (take 4 (drop (at + 4) s)) → d ≡ val (take 4 (drop (at + 8) s)) → e ≡ val (take 4 (drop (at + 12) s)) → f ≡ val (take 4 (drop (at + 16) s))
+    → g ≡ val (take 4 (drop (at + 20) s)) → puts to 1 (b ∷ w % 16777216 ∷ d ∷ e ∷ f ∷ g ∷ []) (set l to a) ≡ store to (blockNumbers (blockOf (get blockWidths (drop at s)))) l
+block-listed s l at to a b w d e f g k h m p₁ p₂ p₃ p₄ p₅ p₆ p₇ =
+    let x = block-is s at a b (w % 16777216) d e f g p₁ p₂ (low-bits s (at + 4) w k (omega arith) p₃ ∙ rw add-assoc) p₄ p₅ p₆ p₇ in
+    store-puts to a (b ∷ w % 16777216 ∷ d ∷ e ∷ f ∷ g ∷ []) l m
+    ∙ ap (λ (r : ReportBlock). store to (recordNumbers r) l) x
+
+-- ---- the blocks, one after the other
+
+length-numbers : (bs : List Block) → length (blocksNumbers bs) ≡ length bs * 7
+unfolding blocksNumbers
+length-numbers [] = refl
+length-numbers (b ∷ bs) = rw (length-append (blockNumbers b) (blocksNumbers bs), length-numbers bs) (omega arith)
+
+length-listed : (n : ℕ) (s : List ℕ) → length (blocksNumbers (readBlocks n s)) ≡ n * 7
+length-listed n s = length-numbers (readBlocks n s) ∙ ap (λ (k : ℕ). k * 7) (length-readBlocks n s)
+
+-- what is left of them, one block on
+blocks-next : (n i at : ℕ) (s : List ℕ) → i < n → readBlocks (n - i) (drop (at + i * 24) s) ≡ blockOf (get blockWidths (drop (at + i * 24) s)) ∷ readBlocks (n - (i + 1)) (drop (at + (i + 1) * 24) s)
+unfolding readBlocks
+blocks-next n i at s h =
+    let e : n - i ≡ suc (n - (i + 1)) = omega arith in
+    let f : at + i * 24 + 24 ≡ at + (i + 1) * 24 = omega arith in
+    rw (e, drop-drop 24 (at + i * 24) s, f)
+
+pub record Listing (s : List ℕ) (at n : ℕ) (l : List ℕ) (i : ℕ) (l₁ : List ℕ) : Type 0 where
+  pub within : i ≤ n
+  pub long : length l₁ ≡ length l
+  pub rest : store (i * 7) (blocksNumbers (readBlocks (n - i) (drop (at + i * 24) s))) l₁ ≡ store 0 (blocksNumbers (readBlocks n (drop at s))) l
+
+module _ (s : List ℕ) (at n : ℕ) (l : List ℕ) where
+  pub listing-start : Listing s at n l 0 l
+  listing-start = record { within = omega arith; long = refl; rest = rw (sub-zero, add-zero) }
+
+  module _ (i : ℕ) (l₁ : List ℕ) (w : Listing s at n l i l₁) where
+    pub listing-again : (l₂ : List ℕ) → n * 7 ≤ length l → i < n → l₂ ≡ store (i * 7) (blockNumbers (blockOf (get blockWidths (drop (at + i * 24) s)))) l₁ → Listing s at n l (i + 1) l₂
+    unfolding blocksNumbers
+    listing-again l₂ f h e =
+        let b : Block = blockOf (get blockWidths (drop (at + i * 24) s)) in
+        let m = length-listed (n - (i + 1)) (drop (at + (i + 1) * 24) s) in
+        let g = w .long in
+        let t : store ((i + 1) * 7) (blocksNumbers (readBlocks (n - (i + 1)) (drop (at + (i + 1) * 24) s))) l₂
+        ≡ store (i * 7) (blockNumbers (blockOf (get blockWidths (drop (at + i * 24) s))) ++ blocksNumbers (readBlocks (n - (i + 1)) (drop (at + (i + 1) * 24) s))) l₁ =
+        rw e (store-store (i * 7) ((i + 1) * 7) (blockNumbers (blockOf (get blockWidths (drop (at + i * 24) s)))) (blocksNumbers (readBlocks (n - (i + 1)) (drop (at + (i + 1) * 24) s))) l₁ (omega arith) (omega arith)) in
+        record {
+          within = omega arith;
+          long = ap length e ∙ length-store (i * 7) (blockNumbers (blockOf (get blockWidths (drop (at + i * 24) s)))) l₁ (omega arith) ∙ w .long;
+          rest = t ∙ (rw (blocks-next n i at s h) at (w .rest));
+        }
+
+    pub listing-done : n ≤ i → l₁ ≡ store 0 (blocksNumbers (readBlocks n (drop at s))) l
+    unfolding blocksNumbers readBlocks
+    listing-done h =
+        let z : n - i ≡ 0 = omega arith in
+        sym (store-nil (i * 7) l₁) ∙ (rw z at (w .rest))
+
+  pub blocks-short : length l < n * 7 → (refused (refusal 10 (n * 7) 0), l) ≡ layList (ok (blocksNumbers (readBlocks n (drop at s)))) l
+  blocks-short h = lay-short _ (blocksNumbers (readBlocks n (drop at s))) l (n * 7) refl (length-listed n (drop at s)) h
+
+  pub blocks-listed : (l₁ : List ℕ) → n * 7 ≤ length l → l₁ ≡ store 0 (blocksNumbers (readBlocks n (drop at s))) l → (ok (n * 7), l₁) ≡ layList (ok (blocksNumbers (readBlocks n (drop at s)))) l
+  blocks-listed l₁ h q = lay-done _ (blocksNumbers (readBlocks n (drop at s))) l (n * 7) refl (length-listed n (drop at s)) l₁ h q
+
+pub ruleset blocks = (needs, block-is, block-short, block-long, block-whole, block-listed, listing-start, listing-again, listing-done, blocks-short, blocks-listed)

@@ -2,23 +2,25 @@
 use mathlib.Core.Path.{_≡_, refl, ap, _∙_, sym, subst}
 use mathlib.Core.List.{List}
 use mathlib.Core.Logic.{⊎-elim}
-use Prim.Native.Nat.{ℕ, _+_, _-_, _*_, _<_, _≤_, _^_}
+use Prim.Native.Nat.{ℕ, zero, suc, _+_, _-_, _*_, _<_, _≤_, _^_}
 use native.Mathlib.Nat.{mod-lt}
 use native.Mathlib.Omega.{arith}
 use borrow.Author.Tests.{le-leb, lt-leb}
 use lib.ListN.{length, getD, take, drop, length-drop}
 use lib.Seq.{drop-drop, length-take-le, take-all}
-use Rattle.rfc3550.specs.Answer.{Refusal, ok, refused, refuse, need, _>>_, _>>=_, mapOk}
+use Rattle.rfc3550.specs.Answer.{Refusal, Answer, ok, refused, refuse, need, _>>_, _>>=_, mapOk}
 use Rattle.rfc3550.specs.Bytes.{get, sum}
 use Rattle.rfc3550.specs.Packet.{Block, Reporter, Content, report, Packet, blockWidths, receiverWidths, senderWidths}
 use Rattle.rfc3550.specs.Read.{Kind, SR, RR, least, kindFor, lowIn, blockOf, readBlocks, receiverOf, senderOf, readReport, readContent, readAs, blocksOf, readBlockAt}
 use Rattle.rfc3550.proofs.Answer.{refused≢ok}
+use Rattle.utils.specs.List.{layList}
 use Rattle.utils.specs.Parts.{partIn, paddingIn}
+use Rattle.utils.proofs.Lists.{lay-refused}
 use Rattle.utils.proofs.Reading.{packetOf, contentIn, got, got-is}
 use Rattle.utils.proofs.Parts.{drop-take, length-drop-take, get-take, nth-past, nth-readBlocks, length-readBlocks, split}
-use Rattle.report.specs.Block.{blockView}
+use Rattle.report.specs.Block.{blockView, blocksNumbers}
 use Rattle.report.specs.declared.report_block.ReportBlock.{ReportBlock}
-use Rattle.report.specs.Report.{extensionOf, extensionAt, extensionIn}
+use Rattle.report.specs.Report.{reportNumbers, extensionOf, extensionAt, extensionIn}
 
 -- a kind whose content is a report: the widths of the fields before the blocks, and who reports
 pub record Maker (k : Kind) (ws : List ℕ) (who : List ℕ → Reporter) : Type 0 where
@@ -97,8 +99,16 @@ pub record Held (k : Kind) (s : List ℕ) (n at body : ℕ) : Type 0 where
   pub within : body ≤ length s
   pub extension : take (body - at) (drop at s) ≡ extensionIn (readAs k s)
   pub padding : take (length s - body) (drop body s) ≡ paddingIn (readAs k s)
+  pub all : mapOk reportNumbers (readAs k s) ≡ ok (blocksNumbers (readBlocks n (drop (least k) s)))
   pub block : (i : ℕ) → i < n → readBlockAt k s i ≡ ok (blockOf (get blockWidths (drop (least k + 24 * i) s)))
   pub none : (i : ℕ) → n ≤ i → readBlockAt k s i ≡ refuse 25 0 0
+
+-- blocks read from a part that holds them
+readBlocks-take : (n b : ℕ) (s : List ℕ) → 24 * n ≤ b → readBlocks n (take b s) ≡ readBlocks n s
+unfolding readBlocks sum
+readBlocks-take zero b s h = refl
+readBlocks-take (suc n) b s h =
+    rw (get-take blockWidths 0 b s (omega arith), drop-take 24 b s, readBlocks-take n (b - 24) (drop 24 s) (omega arith))
 
 few-blocks : (s : List ℕ) → lowIn s < 32
 unfolding lowIn
@@ -112,6 +122,10 @@ module _ {k : Kind} {ws : List ℕ} {who : List ℕ → Reporter} (m : Maker k w
       rw e
       (nth-readBlocks (lowIn s) i (drop (least k) (take b s)) z
       ∙ rw (drop-drop (24 * i) (least k) (take b s), get-take blockWidths (least k + 24 * i) b s (omega arith)))
+
+  blocks-all : mapOk reportNumbers (readAs k s) ≡ ok (blocksNumbers (readBlocks (lowIn s) (drop (least k) s)))
+  unfolding mapOk
+  blocks-all = rw (e, drop-take (least k) b s, readBlocks-take (lowIn s) (b - least k) (drop (least k) s) (omega arith))
 
   block-none : (i : ℕ) → lowIn s ≤ i → readBlockAt k s i ≡ refuse 25 0 0
   unfolding readBlockAt _>>=_
@@ -127,6 +141,7 @@ module _ {k : Kind} {ws : List ℕ} {who : List ℕ → Reporter} (m : Maker k w
         within = l;
         extension = rw e;
         padding = rw e (take-all (length s - b) (drop b s) (rw length-drop (omega arith)));
+        all = blocks-all;
         block = block-at;
         none = block-none;
       }
@@ -145,6 +160,16 @@ held {k} {ws} {who} m s p e =
     subst (λ (p : Packet). Held k s (length (blocksOf (p .content))) (extensionAt (p .content)) (extensionAt (p .content) + length (extensionOf (p .content)))) w
     (rw (body-is m s b h l q, at-is m s b h l, count-is m s b h l) (held-at m s b h l q (e ∙ ap ok (sym w)))))
     (split b (end k s))
+
+-- ---- all blocks, into a list
+
+pub listed-refused : (k : Kind) (s : List ℕ) (r : Refusal) (l : List ℕ) → readAs k s ≡ refused r → (refused r, l) ≡ layList (mapOk reportNumbers (readAs k s)) l
+unfolding mapOk
+listed-refused k s r l e = lay-refused _ r l (rw e)
+
+pub listed-all : {k : Kind} {s : List ℕ} {n at b : ℕ} → Held k s n at b → (x : Answer ℕ × List ℕ) (l : List ℕ)
+    → x ≡ layList (ok (blocksNumbers (readBlocks n (drop (least k) s)))) l → x ≡ layList (mapOk reportNumbers (readAs k s)) l
+listed-all w x l q = rw (w .all) q
 
 -- ---- a block by its index
 

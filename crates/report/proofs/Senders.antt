@@ -6,25 +6,26 @@ use Prim.Native.Nat.{ℕ, _+_, _-_, _*_, _<_, _≤_, _^_}
 use native.Mathlib.Omega.{arith}
 use lib.ListN.{length, take, drop, length-drop}
 use lib.Seq.{drop-drop}
-use Rattle.rfc3550.specs.Answer.{Refusal, ok, refused, refuse, mapOk}
+use Rattle.rfc3550.specs.Answer.{Refusal, Answer, ok, refused, refuse, mapOk}
 use Rattle.rfc3550.specs.Bytes.{val, get}
 use Rattle.rfc3550.specs.Packet.{Packet, blockWidths}
-use Rattle.rfc3550.specs.Read.{SR, lowIn, checkPacket, blockOf, readAs, readBlockAt}
+use Rattle.rfc3550.specs.Read.{SR, lowIn, checkPacket, blockOf, readBlocks, readAs, readBlockAt}
 use Rattle.rfc3550.proofs.Answer.{mapOk-inv}
 use Rattle.utils.specs.Error.{parseRefusal, refusalIn}
 use Rattle.utils.specs.Parser.{checkedOf}
+use Rattle.utils.specs.List.{layList}
 use Rattle.utils.specs.Parts.{partIn, paddingIn}
 use Rattle.utils.specs.declared.error.RtcpParseError.{RtcpParseError}
 use Rattle.utils.specs.declared.parser.CheckedPacket.{CheckedPacket}
 use Rattle.utils.specs.declared.parser.CheckedPacket.the-variants.{Body}
 use Rattle.utils.proofs.Reading.{header-refused, header-passed, header-accepted, header-long, mapOk-refused, part-refused}
-use Rattle.report.specs.Block.{blockView}
-use Rattle.report.specs.Report.{senderOf, senderView, extensionIn}
+use Rattle.report.specs.Block.{blockView, blocksNumbers}
+use Rattle.report.specs.Report.{senderOf, senderView, reportNumbers, extensionIn}
 use Rattle.report.specs.declared.report_block.ReportBlock.{ReportBlock}
 use Rattle.report.specs.declared.sender.SenderReport.{SenderReport}
 use Rattle.report.specs.declared.sender.ParsedSenderReport.{ParsedSenderReport}
 use Rattle.report.specs.declared.sender.ParsedSenderReport.the-variants as parsed
-use Rattle.report.proofs.Reports.{sender-maker, end, short, long, count-is, body-is, Held, held, block-refused, block-past, block-there, block-scaled, block-within}
+use Rattle.report.proofs.Reports.{sender-maker, end, short, long, count-is, body-is, Held, held, listed-refused, listed-all, block-refused, block-past, block-there, block-scaled, block-within}
 
 module _ (s : List ℕ) (o : CheckedPacket) (b : ℕ) (e : o ≡ Body b) (h : checkedOf o ≡ checkPacket SR s) where
   pub report-header : (n : ℕ) → n ≤ 28 → n ≤ length s
@@ -67,6 +68,9 @@ module _ (s : List ℕ) (o : ParsedSenderReport) (h : senderOf o ≡ mapOk sende
   pub report-refused : (part : Packet → List ℕ) (v : RtcpParseError) → o ≡ parsed.Refused v → [] ≡ partIn part (readAs SR s)
   report-refused part v e = part-refused senderView (senderOf o) (parseRefusal v) part (readAs SR s) (ap senderOf e) h
 
+  pub numbers-refused : (v : RtcpParseError) (r : Refusal) (l : List ℕ) → o ≡ parsed.Refused v → r ≡ refusalIn (senderOf o) → (refused r, l) ≡ layList (mapOk reportNumbers (readAs SR s)) l
+  numbers-refused v r l e q = rw (q, e) (listed-refused SR s (parseRefusal v) l (mapOk-refused senderView (readAs SR s) (sym h ∙ ap senderOf e)))
+
   pub index-refused : (i : ℕ) (v : RtcpParseError) (r : Refusal) → o ≡ parsed.Refused v → r ≡ refusalIn (senderOf o) → refused r ≡ mapOk blockView (readBlockAt SR s i)
   index-refused i v r e q = rw (q, e) (block-refused SR s i (parseRefusal v) (mapOk-refused senderView (readAs SR s) (sym h ∙ ap senderOf e)))
 
@@ -91,6 +95,12 @@ module _ (s : List ℕ) (o : ParsedSenderReport) (h : senderOf o ≡ mapOk sende
     pub padding-part : take (length s - a .body) (drop (a .body) s) ≡ paddingIn (readAs SR s)
     padding-part = report-held .padding
 
+    pub numbers-within : 28 + a .«n_reports» * 24 ≤ length s
+    numbers-within = let h = report-held in omega arith
+
+    pub numbers-all : (x : Answer ℕ × List ℕ) (l : List ℕ) → x ≡ layList (ok (blocksNumbers (readBlocks (a .«n_reports») (drop 28 s)))) l → x ≡ layList (mapOk reportNumbers (readAs SR s)) l
+    numbers-all = listed-all report-held
+
     module _ (i : ℕ) where
       pub index-past : a .«n_reports» ≤ i → refuse 25 0 0 ≡ mapOk blockView (readBlockAt SR s i)
       index-past = block-past report-held i
@@ -108,4 +118,4 @@ module _ (s : List ℕ) (o : ParsedSenderReport) (h : senderOf o ≡ mapOk sende
         pub index-within : 28 + 24 * i + 24 ≤ length s
         index-within = block-within report-held i l
 
-pub ruleset senders = (needs, header-refused, report-header, report-body, blocks-short, report-read, report-refused, index-refused, report-room, report-start, report-within, extension-part, padding-part, index-past, index-there, index-scaled, index-fits, index-within)
+pub ruleset senders = (needs, header-refused, report-header, report-body, blocks-short, report-read, report-refused, index-refused, numbers-refused, numbers-within, numbers-all, report-room, report-start, report-within, extension-part, padding-part, index-past, index-there, index-scaled, index-fits, index-within)

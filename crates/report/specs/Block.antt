@@ -1,4 +1,6 @@
--- A report block's fields, under rtcp-types' names.
+-- A report block's fields, under rtcp-types' names, and blocks as one flat run.
+use Prim.Native.Nat.{ℕ}
+use mathlib.Core.List.{List, [], _∷_, _++_}
 use Rattle.rfc3550.specs.Answer.{Answer, ok, refused}
 use Rattle.rfc3550.specs.Packet.{Block}
 use Rattle.utils.specs.Error.{parseRefusal}
@@ -21,3 +23,12 @@ blockView b =
       «last_sender_report_timestamp» = b .lsr;
       «delay_since_last_sender_report_timestamp» = b .dlsr;
     }
+
+-- ---- seven numbers for each block, in the record's order
+
+abbrev pub blockNumbers : Block → List ℕ
+blockNumbers b = b .ssrc ∷ b .fraction ∷ b .lost ∷ b .sequence ∷ b .jitter ∷ b .lsr ∷ b .dlsr ∷ []
+
+unfoldable pub blocksNumbers : List Block → List ℕ
+blocksNumbers [] = []
+blocksNumbers (b ∷ bs) = blockNumbers b ++ blocksNumbers bs

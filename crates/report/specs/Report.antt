@@ -1,4 +1,4 @@
--- A report's fields and its extension, as functions of the packet.
+-- A report's fields, its blocks as one flat run and its extension, as functions of the packet.
 use Prim.Native.Nat.{ℕ, _+_, _*_}
 use mathlib.Core.List.{List, []}
 use lib.ListN.{length, getD}
@@ -7,6 +7,7 @@ use Rattle.rfc3550.specs.Packet.{Content, report, sdes, bye, app, unknown, Pack
 use Rattle.rfc3550.specs.Read.{least, kindFor, blocksOf}
 use Rattle.utils.specs.Error.{parseRefusal}
 use Rattle.utils.specs.Parts.{partIn}
+use Rattle.report.specs.Block.{blocksNumbers}
 use Rattle.report.specs.declared.receiver.ReceiverReport.{ReceiverReport}
 use Rattle.report.specs.declared.receiver.ParsedReceiverReport.{ParsedReceiverReport}
 use Rattle.report.specs.declared.receiver.ParsedReceiverReport.the-variants as receiver
@@ -36,6 +37,9 @@ extensionOf (sdes cs) = []
 extensionOf (bye ss l) = []
 extensionOf (app subtype ssrc name d) = []
 extensionOf (unknown t low b) = []
+
+abbrev pub reportNumbers : Packet → List ℕ
+reportNumbers p = blocksNumbers (blocksOf (p .content))
 
 -- the end of the blocks
 abbrev pub extensionAt : Content → ℕ

@@ -1,13 +1,16 @@
 // Report blocks.
 use utils::error::RtcpParseError;
+use utils::list::Listed;
+use utils::parser::u32_from_be_bytes;
 ghost use mathlib.Core.Path.{_≡_};
-ghost use Prim.Native.Nat.{_+_, _≤_};
+ghost use Prim.Native.Nat.{_+_, _*_, _≤_};
 ghost use lib.ListN.{length, drop};
-ghost use Rattle.rfc3550.specs.Answer.{mapOk};
-ghost use Rattle.rfc3550.specs.Bytes.{get};
+ghost use Rattle.rfc3550.specs.Answer.{ok, mapOk};
+ghost use Rattle.rfc3550.specs.Bytes.{get, store};
 ghost use Rattle.rfc3550.specs.Packet.{blockWidths};
-ghost use Rattle.rfc3550.specs.Read.{blockOf, readBlock};
-ghost use Rattle.report.specs.Block.{parsedBlockOf, blockView};
+ghost use Rattle.rfc3550.specs.Read.{blockOf, readBlock, readBlocks};
+ghost use Rattle.utils.specs.List.{listedOf, layList};
+ghost use Rattle.report.specs.Block.{parsedBlockOf, blockView, blockNumbers, blocksNumbers};
 
 pub struct ReportBlock {
     pub ssrc: u32,
@@ -53,12 +56,59 @@ pub fn parse_block_unchecked(s: &[u8], at: usize) -> ReportBlock
     ensures { λ r. ⌜ r ≡ blockView (blockOf (get blockWidths (drop at (now (s .entry))))) ⌝ }
 {
     ReportBlock {
-        ssrc: utils::parser::u32_from_be_bytes(s, at),
+        ssrc: u32_from_be_bytes(s, at),
         fraction_lost: s[at + 4],
         cumulative_lost: utils::parser::u24_from_be_bytes(s, at + 5),
-        extended_sequence_number: utils::parser::u32_from_be_bytes(s, at + 8),
-        interarrival_jitter: utils::parser::u32_from_be_bytes(s, at + 12),
-        last_sender_report_timestamp: utils::parser::u32_from_be_bytes(s, at + 16),
-        delay_since_last_sender_report_timestamp: utils::parser::u32_from_be_bytes(s, at + 20),
+        extended_sequence_number: u32_from_be_bytes(s, at + 8),
+        interarrival_jitter: u32_from_be_bytes(s, at + 12),
+        last_sender_report_timestamp: u32_from_be_bytes(s, at + 16),
+        delay_since_last_sender_report_timestamp: u32_from_be_bytes(s, at + 20),
     }
+}
+
+// The seven numbers of the block at a place, into a list from index to on. Cumulative lost is the low 24 bits of a word, which is read whole: so it
+// takes fewer instructions than byte by byte.
+fn list_block_unchecked(s: &[u8], at: usize, list: &mut [u32], to: usize)
+    requires { ⌜ (at + 24 ≤ length (now s)) × (to + 7 ≤ length (now list)) ⌝ }
+    ensures { λ _. ⌜ now (list .exit) ≡ store to (blockNumbers (blockOf (get blockWidths (drop at (now (s .entry)))))) (now (list .entry)) ⌝ }
+{
+    let fraction = s[at + 4];
+    let ssrc = u32_from_be_bytes(s, at);
+    let loss = u32_from_be_bytes(s, at + 4);
+    let sequence = u32_from_be_bytes(s, at + 8);
+    let jitter = u32_from_be_bytes(s, at + 12);
+    let lsr = u32_from_be_bytes(s, at + 16);
+    let dlsr = u32_from_be_bytes(s, at + 20);
+    list[to] = ssrc;
+    list[to + 1] = fraction as u32;
+    list[to + 2] = loss % 16777216;
+    list[to + 3] = sequence;
+    list[to + 4] = jitter;
+    list[to + 5] = lsr;
+    list[to + 6] = dlsr;
+}
+
+// The blocks that lie end to end from a place on, into a list from its start.
+fn list_all_unchecked(s: &[u8], at: usize, n: usize, list: &mut [u32])
+    requires { ⌜ (at + n * 24 ≤ length (now s)) × (n * 7 ≤ length (now list)) ⌝ }
+    ensures { λ _. ⌜ now (list .exit) ≡ store 0 (blocksNumbers (readBlocks n (drop at (now (s .entry))))) (now (list .entry)) ⌝ }
+{
+    let mut i: usize = 0;
+    while i < n {
+        list_block_unchecked(s, at + i * 24, list, i * 7);
+        i += 1;
+    }
+}
+
+// The same, where the list is long enough.
+pub fn list_blocks_unchecked(s: &[u8], at: usize, n: usize, list: &mut [u32]) -> Listed
+    requires { ⌜ at + n * 24 ≤ length (now s) ⌝ }
+    ensures { λ r. ⌜ (listedOf r, now (list .exit)) ≡ layList (ok (blocksNumbers (readBlocks n (drop at (now (s .entry)))))) (now (list .entry)) ⌝ }
+{
+    let len = n * 7;
+    if list.len() < len {
+        return Listed::TooShort(len);
+    }
+    list_all_unchecked(s, at, n, list);
+    Listed::Len(len)
 }

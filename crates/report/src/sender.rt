@@ -2,14 +2,16 @@
 use super::report_block::ParsedReportBlock;
 use super::report_block::ReportBlock;
 use utils::error::RtcpParseError;
+use utils::list::Listed;
 use utils::parser::CheckedPacket;
 ghost use mathlib.Core.Path.{_≡_};
 ghost use Rattle.rfc3550.specs.Answer.{mapOk};
 ghost use Rattle.rfc3550.specs.Read.{SR, readAs, readBlockAt};
 ghost use Rattle.utils.specs.Error.{parseRefusal, refusalIn};
+ghost use Rattle.utils.specs.List.{listedOf, layList};
 ghost use Rattle.utils.specs.Parts.{paddingIn};
 ghost use Rattle.report.specs.Block.{parsedBlockOf, blockView};
-ghost use Rattle.report.specs.Report.{senderOf, senderView, extensionIn};
+ghost use Rattle.report.specs.Report.{senderOf, senderView, reportNumbers, extensionIn};
 
 // The extension lies between the places extension and body, where the padding starts; padding is its length.
 pub struct SenderReport {
@@ -92,6 +94,18 @@ impl SenderReport {
         }
         let at = SenderReport::MIN_PACKET_LEN + ReportBlock::EXPECTED_SIZE * i;
         ParsedReportBlock::Block(super::report_block::parse_block_unchecked(s, at))
+    }
+
+    // Seven numbers for each block, in the record's order, into a lent list.
+    pub fn report_blocks(s: &[u8], blocks: &mut [u32]) -> Listed
+        ensures { λ r. ⌜ (listedOf r, now (blocks .exit)) ≡ layList (mapOk reportNumbers (readAs SR (now (s .entry)))) (now (blocks .entry)) ⌝ }
+    {
+        let parsed = SenderReport::parse(s);
+        let ParsedSenderReport::Report(report) = parsed else {
+            return Listed::Refused(parsed.refusal());
+        };
+        let n = report.n_reports;
+        super::report_block::list_blocks_unchecked(s, SenderReport::MIN_PACKET_LEN, n, blocks)
     }
 
     // The bytes after the blocks.

@@ -4,6 +4,7 @@ pub mod Reading
 pub mod Parts
 pub mod Errors
 pub mod Injective
+pub mod Lists
 pub mod WriterStores
 pub mod WriterCases
 pub mod WriterPackets
