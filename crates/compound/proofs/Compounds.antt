@@ -162,7 +162,7 @@ module _ (first : Bool) (s : List ℕ) (o : Span) (h : spanOf o ≡ frame first 
 
 -- ---- the loop: from a place on
 
-rest-is : (s : List ℕ) (at : ℕ) → take (length s - at) (drop at s) ≡ drop at s
+pub rest-is : (s : List ℕ) (at : ℕ) → take (length s - at) (drop at s) ≡ drop at s
 rest-is s at = take-all (length s - at) (drop at s) (rw length-drop (omega arith))
 
 -- the packets from a place on

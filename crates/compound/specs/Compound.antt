@@ -1,11 +1,11 @@
 -- What the code hands over of a datagram and of a walk over it, and the steps of a packet's frame.
-use Prim.Native.Nat.{ℕ}
+use Prim.Native.Nat.{ℕ, _+_}
 use mathlib.Core.Bool.{Bool, _||_, not}
-use mathlib.Core.List.{List}
+use mathlib.Core.List.{List, [], _∷_}
 use lib.ListN.{length}
 use lib.Dec.{leb, eqb}
 use Rattle.rfc3550.specs.Answer.{Answer, ok, refused, _>>_, need}
-use Rattle.rfc3550.specs.Packet.{Packet as Read, isReport}
+use Rattle.rfc3550.specs.Packet.{Packet as Read, type, layout, isReport}
 use Rattle.rfc3550.specs.Read.{versionIn, padded, typeIn, stated}
 use Rattle.utils.specs.Error.{parseRefusal}
 use Rattle.compound.specs.Packet.{packetView}
@@ -57,6 +57,14 @@ spanned s p = (packetView p, stated s)
 
 abbrev pub compoundView : List Read → Compound
 compoundView ps = record { «n_packets» = length ps }
+
+-- three numbers for each packet, in order: its type, its offset in the datagram and its length
+unfoldable pub rowsFrom : ℕ → List Read → List ℕ
+rowsFrom at [] = []
+rowsFrom at (p ∷ ps) = type (p .content) ∷ at ∷ length (layout p) ∷ rowsFrom (at + length (layout p)) ps
+
+abbrev pub packetRows : List Read → List ℕ
+packetRows ps = rowsFrom 0 ps
 
 abbrev pub parsedCompoundOf : ParsedCompound → Answer Compound
 parsedCompoundOf (parsed.Compound c) = ok c

@@ -4,15 +4,20 @@ use super::packet::ParsedPacket;
 use report::receiver::ReceiverReport;
 use report::sender::SenderReport;
 use utils::error::RtcpParseError;
+use utils::list::Listed;
 ghost use mathlib.Core.Path.{_≡_};
 ghost use mathlib.Core.Bool.{_||_};
-ghost use Prim.Native.Nat.{_≤_};
-ghost use lib.ListN.{length};
-ghost use Rattle.rfc3550.specs.Answer.{mapOk};
+ghost use mathlib.Core.List.{[], _∷_};
+ghost use Prim.Native.Nat.{_+_, _*_, _≤_};
+ghost use lib.ListN.{length, drop};
+ghost use Rattle.rfc3550.specs.Answer.{ok, mapOk};
+ghost use Rattle.rfc3550.specs.Bytes.{store};
+ghost use Rattle.rfc3550.specs.Read.{typeIn, stated};
 ghost use Rattle.rfc3550.specs.Compound.{readPacket, readCompound};
 ghost use Rattle.rfc3550.specs.Walk.{openWalk, step};
 ghost use Rattle.utils.specs.Error.{parseRefusal, refusalIn};
-ghost use Rattle.compound.specs.Compound.{frame, paddingLast, reportFirst, spanOf, readOf, spanned, parsedCompoundOf, compoundView, walkAt, openedOf, steppedOf, stepView};
+ghost use Rattle.utils.specs.List.{listedOf, layList};
+ghost use Rattle.compound.specs.Compound.{frame, paddingLast, reportFirst, spanOf, readOf, spanned, parsedCompoundOf, compoundView, packetRows, walkAt, openedOf, steppedOf, stepView};
 ghost use Rattle.compound.specs.Packet.{named};
 
 // The length of the packet at the start of the bytes left.
@@ -173,6 +178,50 @@ impl Compound {
             return ParsedCompound::Refused(RtcpParseError::NoCname);
         }
         ParsedCompound::Compound(Compound { n_packets })
+    }
+
+    // Three numbers for each packet, in order, into a lent list: its type, its offset in the datagram and its length.
+    pub fn packets(s: &[u8], packets: &mut [u64]) -> Listed
+        ensures { λ r. ⌜ (listedOf r, now (packets .exit)) ≡ layList (mapOk packetRows (readCompound (now (s .entry)))) (now (packets .entry)) ⌝ }
+    {
+        let parsed = Compound::parse(s);
+        let ParsedCompound::Compound(compound) = parsed else {
+            return Listed::Refused(parsed.refusal());
+        };
+        let len = compound.n_packets * 3;
+        if packets.len() < len {
+            return Listed::TooShort(len);
+        }
+        list_all_unchecked(s, compound, packets);
+        Listed::Len(len)
+    }
+}
+
+// The three numbers of the packet at a place, into a list from index to on, and the packet's length.
+fn list_packet_unchecked(s: &[u8], at: usize, list: &mut [u64], to: usize) -> usize
+    requires { ⌜ (at + 4 ≤ length (now s)) × (to + 3 ≤ length (now list)) ⌝ }
+    ensures { λ r. ⌜ (r ≡ stated (drop at (now (s .entry)))) × (now (list .exit) ≡ store to (typeIn (drop at (now (s .entry))) ∷ at ∷ r ∷ []) (now (list .entry))) ⌝ }
+{
+    let rest = &s[at..];
+    let packet_type = utils::parser::parse_packet_type(rest);
+    let len = utils::parser::parse_length(rest);
+    list[to] = packet_type as u64;
+    list[to + 1] = at as u64;
+    list[to + 2] = len as u64;
+    len
+}
+
+// The packets of an accepted datagram, into a list that is long enough.
+fn list_all_unchecked(s: &[u8], compound: Compound, list: &mut [u64])
+    requires { ⌜ (mapOk compoundView (readCompound (now s)) ≡ ok compound) × (compound .«n_packets» * 3 ≤ length (now list)) ⌝ }
+    ensures { λ _. ⌜ (ok (compound .«n_packets» * 3), now (list .exit)) ≡ layList (mapOk packetRows (readCompound (now (s .entry)))) (now (list .entry)) ⌝ }
+{
+    let n = compound.n_packets;
+    let mut at: usize = 0;
+    let mut i: usize = 0;
+    while i < n {
+        at = at + list_packet_unchecked(s, at, list, i * 3);
+        i += 1;
     }
 }
 

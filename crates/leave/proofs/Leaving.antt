@@ -9,16 +9,13 @@ use Rattle.rfc3550.specs.Bytes.{Bytes, Fits}
 use Rattle.rfc3550.specs.Packet.{Reporter, reporterFields}
 use Rattle.rfc3550.specs.Write.{giveReport}
 use Rattle.rfc3550.specs.Writer.{Writer, fresh, Request, add, close, call}
+use Rattle.utils.proofs.Numbers.{bytes-each}
 use Rattle.compound_write.specs.Writer.{outcomeOf, writerOf, addBlocks}
 use Rattle.report_write.specs.Report.{senderOf, blocksFrom, fractionsIn, flatBlocks}
 use Rattle.report_write.specs.declared.sender.SenderInfo.{SenderInfo}
 use Rattle.leave.specs.Leaving.{srOf, sdesOf, byeOf, leaving, runs, Leaves}
 use Rattle.leave.specs.declared.Left.{Left}
 use Rattle.compound_write.proofs.OneBuffer.{call-fits, close-any, adds-and-close}
-
-pub bytes-each : (l : List ℕ) → ((i : ℕ) → getD l i 0 < 256) → Bytes l
-bytes-each [] h = tt
-bytes-each (b ∷ bs) h = (h 0, bytes-each bs (λ i. h (suc i)))
 
 -- a flat list without numbers is one without blocks
 no-blocks : (r : Reporter) (k : ℕ) (w : Writer) (l : List ℕ) → addBlocks r (flatBlocks []) k w l ≡ call (add (giveReport r [] k)) w l

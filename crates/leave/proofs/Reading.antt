@@ -35,7 +35,8 @@ use Rattle.leave.specs.Reading.{begunAt, onward, stepAt, ReadsBack, Hand
 use Rattle.leave.specs.declared.Left.{Left}
 use Rattle.leave.specs.declared.ReadBack.{ReadBack}
 use Rattle.leave.specs.declared.LeftAndRead.{LeftAndRead}
-use Rattle.leave.proofs.Leaving.{bytes-each, left-within}
+use Rattle.utils.proofs.Numbers.{bytes-each}
+use Rattle.leave.proofs.Leaving.{left-within}
 
 -- ---- the places of the steps
 

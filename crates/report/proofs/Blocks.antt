@@ -2,22 +2,22 @@
 use borrow.Author.Needs.{needs}
 use mathlib.Core.Path.{_≡_, refl, sym, ap, _∙_}
 use mathlib.Core.List.{List, [], _∷_, _++_}
-use Prim.Native.Nat.{ℕ, zero, suc, _+_, _-_, _*_, _%_, _<_, _≤_, _^_}
-use native.Mathlib.Nat.{add-zero, add-assoc, sub-zero, pow-suc}
+use Prim.Native.Nat.{ℕ, suc, _+_, _-_, _*_, _%_, _<_, _≤_}
+use native.Mathlib.Nat.{add-zero, add-assoc, sub-zero}
 use native.Mathlib.Omega.{arith}
 use borrow.Author.Tests.{le-leb, lt-leb}
-use lib.Arith.{digits-lt, digits-mod}
+use lib.Arith.{digits-mod}
 use lib.ListN.{length, getD, take, drop, set, length-append, length-drop}
-use lib.Seq.{drop-drop, getD-drop, length-take-le}
+use lib.Seq.{drop-drop}
 use Rattle.rfc3550.specs.Answer.{ok, refused, refusal, refuse, need, _>>_, mapOk}
 use Rattle.rfc3550.specs.Bytes.{val, get, store}
 use Rattle.rfc3550.specs.Loss.{lossOf}
 use Rattle.rfc3550.specs.Packet.{Block, blockWidths}
 use Rattle.rfc3550.specs.Read.{blockOf, readBlock, readBlocks}
-use Rattle.rfc3550.proofs.Bytes.{length-store}
+use Rattle.rfc3550.proofs.Bytes.{val-take-lt, bytes-drop, length-store}
 use Rattle.utils.specs.List.{layList}
 use Rattle.utils.proofs.Lists.{lay-short, lay-done}
-use Rattle.utils.proofs.Numbers.{val-byte, val-join}
+use Rattle.utils.proofs.Numbers.{bytes-each, val-byte, val-join}
 use Rattle.utils.proofs.Parts.{length-readBlocks}
 use Rattle.utils.proofs.WriterStores.{store-nil, store-store, puts, store-puts}
 use Rattle.report.specs.Block.{blockView, blockNumbers, blocksNumbers}
@@ -79,18 +79,10 @@ module _ (s : List ℕ) where
 
 -- ---- the seven numbers of a block, one by one into a list
 
--- a number of bytes
-below : (n : ℕ) (s : List ℕ) → ((i : ℕ) → getD s i 0 < 256) → n ≤ length s → val (take n s) < 256 ^ n
-unfolding val
-below zero s k h = omega arith
-below (suc n) [] k h = absurd (omega arith)
-below (suc n) (x ∷ s) k h =
-    rw (length-take-le n s (omega arith), pow-suc 256 n) (omega (arith, digits-lt {m = 256} (k 0) (below n s (λ i. k (suc i)) (omega arith))))
-
 -- the low 24 bits of a word
 low-bits : (s : List ℕ) (at w : ℕ) → ((i : ℕ) → getD s i 0 < 256) → at + 4 ≤ length s → w ≡ val (take 4 (drop at s)) → w % 16777216 ≡ val (take 3 (drop (at + 1) s))
 low-bits s at w k h e =
-    let b = below 3 (drop (at + 1) s) (λ i. rw getD-drop (k (at + 1 + i))) (rw length-drop (omega arith)) in
+    let b = val-take-lt 3 (drop (at + 1) s) (rw length-drop (omega arith)) (bytes-drop (at + 1) s (bytes-each s k)) in
     let j = val-join 1 3 s at 4 (val (take 1 (drop at s))) (val (take 3 (drop (at + 1) s))) h (omega arith) refl refl in
     rw (e, ← j, digits-mod (val (take 1 (drop at s))) b)
 
