@@ -124,7 +124,7 @@ module _ (s : List ℕ) (b : ℕ) (l : 4 ≤ b) (m : b ≤ length s) where
   body-is : length (take b s) ≡ b
   body-is = length-take-le b s m
 
-  content-chunks : contentIn SDES s b ≡ mapOk sdes (readChunks (lowIn s) (length (take b s)) (drop 4 (take b s)))
+  pub content-chunks : contentIn SDES s b ≡ mapOk sdes (readChunks (lowIn s) (length (take b s)) (drop 4 (take b s)))
   unfolding readContent _>>=_ mapOk
   content-chunks =
       let n : 4 + length (drop 4 (take b s)) ≡ length (take b s) = rw length-drop (omega (arith, body-is)) in
