@@ -3,10 +3,11 @@
    Link librtcp.a. Every function is total: whatever the arguments, it returns, and reads and writes nothing but what it is lent. Nothing is
    kept between calls, so calls may run at the same time.
 
-   Lists: a pointer and the number of elements. The pointer may be null where the number is 0. Lists of one call must not overlap buf.
+   Lists: a pointer and the number of elements. The pointer may be null where the number is 0. What a call writes, buf or a list that it fills, must
+   not overlap anything else that it is lent.
 
    Answers: number is 0 where the call is done. Else it is a refusal of docs/REFUSALS.md with its details in first and second; then every other
-   number is 0, but a walk and a writer, which are the ones that went in, and a buffer is as it was.
+   number is 0, but a walk and a writer, which are the ones that went in, and a buffer or a list is as it was.
 
    Parts: an offset and a length in the caller's own bytes. Nothing is copied.
 
@@ -27,6 +28,13 @@
 #ifdef __cplusplus
 extern "C" {
 #endif
+
+/* What a write, a size and a call that fills a list answer: the size in bytes, or how many numbers stand at the list's start. A list that is too
+   short gets 10(how many numbers there are, 0), after every other refusal. Numbers of the list past those stay as they were. */
+struct RtcpWritten {
+    uint64_t number, first, second;
+    uint64_t size;
+};
 
 /* ---- reports ---- */
 
@@ -255,6 +263,21 @@ struct RtcpItemWalk rtcp_item_walk_open(const uint8_t *s, size_t len);
      see rtcp_item_walk_open */
 struct RtcpItemStep rtcp_item_walk_step(const uint8_t *s, size_t len, uint64_t at);
 
+/* All chunks and items of a packet at once: five numbers for each item, in order:
+     0  the SSRC of its chunk
+     1  its type
+     2  the offset of its value in the packet
+     3  the length of its prefix, which stands right before the value; 0 where it is not PRIV
+     4  the length of its value
+   and after the items of each chunk five that end it: the SSRC, 0, the offset of the closing zero, 0, 0. So a chunk without items has one such row,
+   and a packet without chunks none. len / 2 * 5 numbers are always enough, and with so many the rows are not counted first.
+   Refusals: those of rtcp_sdes_parse, then 10.
+     uint32_t rows[5 * 128];
+     struct RtcpWritten w = rtcp_sdes_items(packet, len, rows, 5 * 128);
+     for (uint64_t i = 0; i < w.size; i += 5)
+         if (rows[i + 1] != 0) use(rows[i], rows[i + 1], packet + rows[i + 2], rows[i + 4]); */
+struct RtcpWritten rtcp_sdes_items(const uint8_t *s, size_t len, uint32_t *rows, size_t rows_len);
+
 /* ---- datagrams ---- */
 
 struct RtcpCompound {
@@ -328,11 +351,6 @@ struct RtcpStep rtcp_walk_step(const uint8_t *s, size_t len, uint64_t at);
 
    blocks: seven numbers for each block, in the order of struct RtcpBlock. 24 where that is no whole number of blocks or a fraction is above 255.
    padding: bytes of padding; 11(padding, 0) where it is no multiple of 4 or above 252. */
-
-struct RtcpWritten {
-    uint64_t number, first, second;
-    uint64_t size;
-};
 
 /* A receiver report. Refusals: 24, 18(count, 31), 11, 17(loss, 16777215) block by block, 10.
      struct RtcpWritten w = rtcp_rr_write(buf, sizeof buf, ssrc, NULL, 0, 0);

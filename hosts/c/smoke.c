@@ -63,6 +63,27 @@ static void descriptions(void) {
     CHECK(RtcpPart, rtcp_item_priv_prefix(cname + 8, 5), 30, 1, 0, 0, 0);
 }
 
+/* The items at once, into a list that is one number longer, just long enough, and too short; a chunk without items, and no chunk. */
+static void item_lists(void) {
+    static const uint32_t numbers[] = {0x11223344, 1, 10, 0, 3, 0x11223344, 0, 13, 0, 0, 7};
+    static const uint32_t ends[] = {1, 0, 8, 0, 0, 16, 0, 16, 0, 0, 7};
+    static const uint8_t none[] = {0x80, 0xCA, 0x00, 0x00};
+    uint8_t priv[16] = {0x81, 0xCA, 0x00, 0x03, 0, 0, 0, 1};
+    static const uint32_t private_row[] = {1, 8, 13, 2, 1, 1, 0, 14, 0, 0, 7};
+    uint32_t list[11] = {0, 0, 0, 0, 0, 0, 0, 0, 0, 0, 7};
+    memcpy(priv + 8, private_item, sizeof private_item);
+    CHECK(RtcpWritten, rtcp_sdes_items(cname, sizeof cname, list, 9), 10, 10, 0, 0);
+    CHECK(RtcpWritten, rtcp_sdes_items(cname, sizeof cname, list, 11), 0, 0, 0, 10);
+    compare("the list of items", list, numbers, sizeof numbers);
+    CHECK(RtcpWritten, rtcp_sdes_items(two, sizeof two, list, 10), 0, 0, 0, 10);
+    compare("the list of chunks without items", list, ends, sizeof ends);
+    CHECK(RtcpWritten, rtcp_sdes_items(priv, sizeof priv, list, 10), 0, 0, 0, 10);
+    compare("the list with a prefix", list, private_row, sizeof private_row);
+    CHECK(RtcpWritten, rtcp_sdes_items(none, sizeof none, NULL, 0), 0, 0, 0, 0);
+    CHECK(RtcpWritten, rtcp_sdes_items(prefix, sizeof prefix, list, 11), 5, 5, 0, 0);
+    CHECK(RtcpWritten, rtcp_sdes_items(NULL, 0, NULL, 0), 2, 4, 0, 0);
+}
+
 static void others(void) {
     CHECK(RtcpBye, rtcp_bye_parse(bye, sizeof bye), 0, 0, 0, 1, 1, 9, 2, 11, 1, 12, 4);
     CHECK(RtcpSource, rtcp_bye_source(bye, sizeof bye, 0), 0, 0, 0, 0x11223344);
@@ -74,6 +95,7 @@ static void others(void) {
 int main(void) {
     reports();
     descriptions();
+    item_lists();
     others();
     if (!failed) {
         printf("hosts/c/smoke.c: as document 01 says\n");

@@ -229,3 +229,14 @@ pub mod open {
         rtcp_item_walk_open(s: &[u8]) -> RtcpItemWalk;
     }
 }
+
+/// The calls that hand over all parts at once, into a list. The crate's iterators
+/// step, and these say in the tests that they give the same.
+#[cfg(test)]
+pub mod lists {
+    use super::RtcpWritten;
+
+    functions! {
+        rtcp_sdes_items(s: &[u8], rows: &mut [u32]) -> RtcpWritten;
+    }
+}

@@ -548,17 +548,44 @@ impl<'a> SdesItemBuilder<'a> {
 #[cfg(test)]
 mod tests {
     use super::*;
+    use crate::ffi::lists::rtcp_sdes_items;
     use crate::ffi::open::{rtcp_chunk_walk_open, rtcp_item_walk_open};
+
+    const PACKETS: [&[u8]; 5] = [
+        b"\x80\xCA\x00\x00",
+        b"\xA0\xCA\x00\x01\x00\x00\x00\x04",
+        b"\x81\xCA\x00\x03\x11\x22\x33\x44\x01\x03a@b\x00\x00\x00",
+        b"\x81\xCA\x00\x03\x11\x22\x33\x44\x08\x04\x02abc\x00\x00",
+        b"\xA2\xCA\x00\x06\x00\x00\x00\x01\x01\x01a\x00\x00\x00\x00\x02\x00\x00\x00\x00\x00\x00\x00\x00\x00\x00\x00\x08",
+    ];
+
+    #[test]
+    fn all_items_at_once_are_those_of_the_iterators() {
+        for packet in PACKETS {
+            let sdes = Sdes::parse(packet).expect("an SDES packet");
+            let mut rows = [0; 64];
+            let written = rtcp_sdes_items(packet, &mut rows).done().expect("rows");
+            let mut rows = rows[..written.size as usize].chunks(5);
+            for chunk in sdes.chunks() {
+                for item in chunk.items() {
+                    let row = rows.next().expect("a row");
+                    let value = row[2] as usize;
+                    let prefix = &packet[value - row[3] as usize..value];
+                    assert_eq!(row[..2], [chunk.ssrc(), item.type_().into()]);
+                    assert_eq!(&packet[value..][..row[4] as usize], item.value());
+                    assert_eq!(prefix, item.priv_prefix().unwrap_or_default());
+                }
+                let end = rows.next().expect("the row that ends a chunk");
+                assert_eq!(end, [chunk.ssrc(), 0, end[2], 0, 0]);
+                assert_eq!(packet[end[2] as usize], 0);
+            }
+            assert_eq!(rows.next(), None);
+        }
+    }
 
     #[test]
     fn walks_start_where_the_library_opens_them() {
-        let packets: [&[u8]; 4] = [
-            b"\x80\xCA\x00\x00",
-            b"\xA0\xCA\x00\x01\x00\x00\x00\x04",
-            b"\x81\xCA\x00\x03\x11\x22\x33\x44\x01\x03a@b\x00\x00\x00",
-            b"\xA2\xCA\x00\x06\x00\x00\x00\x01\x01\x01a\x00\x00\x00\x00\x02\x00\x00\x00\x00\x00\x00\x00\x00\x00\x00\x00\x08",
-        ];
-        for packet in packets {
+        for packet in PACKETS {
             let sdes = Sdes::parse(packet).expect("an SDES packet");
             let opened = rtcp_chunk_walk_open(packet).done().expect("a walk");
             let chunks = sdes.chunks();

@@ -6,7 +6,7 @@ use mathlib.Core.List.{List, [], _∷_, _++_, append-assoc}
 use native.Mathlib.Nat.{add-zero, add-assoc}
 use native.Mathlib.Omega.{arith}
 use borrow.Author.Needs.{needs}
-use borrow.Author.Tests.{eq-eqb, ne-eqb, eqb-false, leb-true}
+use borrow.Author.Tests.{lt-ltb, le-ltb, ne-eqb, eqb-false}
 use lib.ListN.{length, getD, take, drop, length-append, length-drop, length-replicate}
 use lib.Seq.{drop-cons, drop-drop, getD-drop}
 use lib.Dec.{eqb}
@@ -21,29 +21,34 @@ use Rattle.utils.proofs.Reading.{got}
 use Rattle.sdes_chunk.proofs.Readings.{isPriv, ItemIn, item-in, item-rest, chunk-in}
 use Rattle.sdes.specs.Sdes.{sdesView}
 use Rattle.sdes.proofs.Packets.{sdes-body, content-chunks}
-use Rattle.sdes_items.specs.declared.rows.Row.{Row}
 use Rattle.sdes_items.specs.declared.rows.Place.{Place}
 use Rattle.sdes_items.specs.Rows.{itemRow, itemRows, chunkRows, sdesRows}
-use Rattle.sdes_items.specs.Places.{rowOf, placeAfter, ssrcAt, itemRowAt, rowAt, Stands, RowsAt, rowsFrom}
+use Rattle.sdes_items.specs.Places.{chunkPlace, placeAfter, rowAt, Stands, RowsAt, rowsFrom}
 
 -- ---- one place
 
-module _ (s : List ℕ) (p : Place) where
-  pub after-zero : getD s (p .at) 0 ≡ 0 → record { start = p .at + fill (p .at); at = p .at + fill (p .at) + 4 } ≡ placeAfter s p
-  after-zero z = rw z
+pub chunk-none : (s : List ℕ) (start : ℕ) → length s ≤ start + 4 → record { ssrc = 0; at = start + 4 } ≡ chunkPlace s start
+chunk-none s start h = rw (le-ltb (start + 4) (length s) h)
 
-  pub after-item : (n : ℕ) → (getD s (p .at) 0 ≡ 0 → ⊥) → n ≡ getD s (p .at + 1) 0 → record { start = p .start; at = p .at + 2 + n } ≡ placeAfter s p
+pub chunk-some : (s : List ℕ) (start ssrc : ℕ) → start + 4 < length s → ssrc ≡ val (take 4 (drop start s)) → record { ssrc = ssrc; at = start + 4 } ≡ chunkPlace s start
+chunk-some s start ssrc h e = rw (lt-ltb (start + 4) (length s) h, e)
+
+module _ (s : List ℕ) (p : Place) where
+  pub after-zero : (q : Place) → getD s (p .at) 0 ≡ 0 → q ≡ chunkPlace s (p .at + fill (p .at)) → q ≡ placeAfter s p
+  after-zero q z e = rw z e
+
+  pub after-item : (n : ℕ) → (getD s (p .at) 0 ≡ 0 → ⊥) → n ≡ getD s (p .at + 1) 0 → record { ssrc = p .ssrc; at = p .at + 2 + n } ≡ placeAfter s p
   after-item n z e = rw (ne-eqb _ _ z, e)
 
-  pub row-end : (ssrc t : ℕ) → ssrc ≡ ssrcAt s (p .start) → t ≡ getD s (p .at) 0 → t ≡ 0 → ssrc ∷ 0 ∷ p .at ∷ 0 ∷ 0 ∷ [] ≡ rowAt s p
-  row-end ssrc t e f z = rw (← f, z, e)
+  pub row-end : (t : ℕ) → t ≡ getD s (p .at) 0 → t ≡ 0 → p .ssrc ∷ 0 ∷ p .at ∷ 0 ∷ 0 ∷ [] ≡ rowAt s p
+  row-end t f z = rw (← f, z)
 
-  module _ (ssrc t n : ℕ) (e : ssrc ≡ ssrcAt s (p .start)) (f : t ≡ getD s (p .at) 0) (g : n ≡ getD s (p .at + 1) 0) (z : t ≡ 0 → ⊥) where
-    pub row-plain : (t ≡ 8 → ⊥) → ssrc ∷ t ∷ (p .at + 2) ∷ 0 ∷ n ∷ [] ≡ rowAt s p
-    row-plain h = rw (← f, ne-eqb _ _ z, ne-eqb _ _ h, e, g)
+  module _ (t n : ℕ) (f : t ≡ getD s (p .at) 0) (g : n ≡ getD s (p .at + 1) 0) (z : t ≡ 0 → ⊥) where
+    pub row-plain : (t ≡ 8 → ⊥) → p .ssrc ∷ t ∷ (p .at + 2) ∷ 0 ∷ n ∷ [] ≡ rowAt s p
+    row-plain h = rw (← f, ne-eqb _ _ z, ne-eqb _ _ h, g)
 
-    pub row-priv : (k : ℕ) → t ≡ 8 → k ≡ getD s (p .at + 2) 0 → ssrc ∷ t ∷ (p .at + 3 + k) ∷ k ∷ (n - 1 - k) ∷ [] ≡ rowAt s p
-    row-priv k h q = rw (← f, h, e, g, q)
+    pub row-priv : (k : ℕ) → t ≡ 8 → k ≡ getD s (p .at + 2) 0 → p .ssrc ∷ t ∷ (p .at + 3 + k) ∷ k ∷ (n - 1 - k) ∷ [] ≡ rowAt s p
+    row-priv k h q = rw (← f, h, g, q)
 
 -- the bytes that are read of an item are there, and its prefix fits
 module _ (s : List ℕ) (at : ℕ) (h : Stands s at) where
@@ -70,9 +75,9 @@ module _ (s : List ℕ) (at : ℕ) (h : Stands s at) where
 pub length-row : (s : List ℕ) (p : Place) → length (rowAt s p) ≡ 5
 length-row s p = go (eqb (getD s (p .at) 0) 0) (eqb (getD s (p .at) 0) 8)
   where
-    go : (a b : Bool) → length (pick a (ssrcAt s (p .start) ∷ 0 ∷ p .at ∷ 0 ∷ 0 ∷ []) (pick b
-        (ssrcAt s (p .start) ∷ 8 ∷ (p .at + 3 + getD s (p .at + 2) 0) ∷ getD s (p .at + 2) 0 ∷ (getD s (p .at + 1) 0 - 1 - getD s (p .at + 2) 0) ∷ [])
-        (ssrcAt s (p .start) ∷ getD s (p .at) 0 ∷ (p .at + 2) ∷ 0 ∷ getD s (p .at + 1) 0 ∷ []))) ≡ 5
+    go : (a b : Bool) → length (pick a (p .ssrc ∷ 0 ∷ p .at ∷ 0 ∷ 0 ∷ []) (pick b
+        (p .ssrc ∷ 8 ∷ (p .at + 3 + getD s (p .at + 2) 0) ∷ getD s (p .at + 2) 0 ∷ (getD s (p .at + 1) 0 - 1 - getD s (p .at + 2) 0) ∷ [])
+        (p .ssrc ∷ getD s (p .at) 0 ∷ (p .at + 2) ∷ 0 ∷ getD s (p .at + 1) 0 ∷ []))) ≡ 5
     go true b = refl
     go false true = refl
     go false false = refl
@@ -82,29 +87,26 @@ unfolding rowsFrom
 length-rows zero s p = refl
 length-rows (suc n) s p = rw (length-append (rowAt s p), length-row s p, length-rows n s (placeAfter s p)) (omega arith)
 
--- the next place is further on, and stands behind its chunk's SSRC
-abbrev afterBy : Bool → List ℕ → Place → Place
-afterBy b s p = pick b (record { start = p .at + fill (p .at); at = p .at + fill (p .at) + 4 }) (record { start = p .start; at = p .at + 2 + getD s (p .at + 1) 0 })
-
-pub after-more : (s : List ℕ) (p : Place) → p .at < placeAfter s p .at
+-- the next place is two bytes further on at least
+after-more : (s : List ℕ) (p : Place) → p .at + 2 ≤ placeAfter s p .at
 after-more s p = go (eqb (getD s (p .at) 0) 0)
   where
-    go : (b : Bool) → p .at < afterBy b s p .at
+    go : (b : Bool) → p .at + 2 ≤ pick b (chunkPlace s (p .at + fill (p .at))) (record { ssrc = p .ssrc; at = p .at + 2 + getD s (p .at + 1) 0 }) .at
     go true = omega arith
     go false = omega arith
 
-pub after-apart : (s : List ℕ) (p : Place) → p .start + 4 ≤ p .at → placeAfter s p .start + 4 ≤ placeAfter s p .at
-after-apart s p h = go (eqb (getD s (p .at) 0) 0)
-  where
-    go : (b : Bool) → afterBy b s p .start + 4 ≤ afterBy b s p .at
-    go true = omega arith
-    go false = omega arith
+pub after-less : (s : List ℕ) (p q : Place) → p .at < length s → q ≡ placeAfter s p → length s - q .at < length s - p .at
+after-less s p q l e = let a = after-more s p in rw e (omega arith)
 
--- as many rows as there are bytes at most, and one number of rows
-pub rows-most : (n : ℕ) (s : List ℕ) (p : Place) → RowsAt n s p → n ≤ length s - p .at
+pub rows-most : (n : ℕ) (s : List ℕ) (p : Place) → RowsAt n s p → 2 * n ≤ length s - p .at + 1
 rows-most zero s p h = omega arith
-rows-most (suc n) s p h = let a = rows-most n s (placeAfter s p) (h .1) in let b = after-more s p in let c = h .0 .within in omega arith
+rows-most (suc n) s p h = go n (h .1) (rows-most n s (placeAfter s p) (h .1))
+  where
+    go : (n : ℕ) → RowsAt n s (placeAfter s p) → 2 * n ≤ length s - placeAfter s p .at + 1 → 2 * suc n ≤ length s - p .at + 1
+    go zero r m = let c = h .0 .within in omega arith
+    go (suc n) r m = let b = after-more s p in let c = r .0 .within in omega arith
 
+-- there is one number of rows
 pub rows-one : (n m : ℕ) (s : List ℕ) (p : Place) → RowsAt n s p → RowsAt m s p → n ≡ m
 rows-one zero zero s p h k = refl
 rows-one zero (suc m) s p h k = absurd (let c = k .0 .within in omega arith)
@@ -139,17 +141,17 @@ byte-at s at k bs e = rw e (sym (getD-drop at s k 0))
 first-at : (s : List ℕ) (at : ℕ) (bs : List ℕ) → bs ≡ drop at s → getD s at 0 ≡ getD bs 0 0
 first-at s at bs e = ap (λ (k : ℕ). getD s k 0) (sym (add-zero at)) ∙ byte-at s at 0 bs e
 
-zero-here : (s : List ℕ) (p : Place) (r : List ℕ) → 0 ∷ r ≡ drop (p .at) s → Here s p (ssrcAt s (p .start) ∷ 0 ∷ p .at ∷ 0 ∷ 0 ∷ []) (record { start = p .at + fill (p .at); at = p .at + fill (p .at) + 4 })
+zero-here : (s : List ℕ) (p : Place) (r : List ℕ) → 0 ∷ r ≡ drop (p .at) s → Here s p (p .ssrc ∷ 0 ∷ p .at ∷ 0 ∷ 0 ∷ []) (chunkPlace s (p .at + fill (p .at)))
 zero-here s p r e =
     let z : getD s (p .at) 0 ≡ 0 = first-at s (p .at) (0 ∷ r) e in
     record {
       stands = record { within = omega (arith, ap length e, length-drop (p .at) s); whole = λ h. absurd (h z); prefix = λ h. absurd (omega arith) };
-      is = sym (row-end s p _ _ refl refl z);
-      next = sym (after-zero s p z);
+      is = sym (row-end s p _ refl z);
+      next = sym (after-zero s p _ z refl);
     }
 
 item-here : (s : List ℕ) (p : Place) (i : Item) (r : List ℕ) → itemBytes i ++ r ≡ drop (p .at) s → isPriv i ≡ eqb (itemType i) 8 → (itemType i ≡ 0 → ⊥)
-    → Here s p (itemRow (ssrcAt s (p .start)) (p .at) i) (record { start = p .start; at = p .at + length (itemBytes i) })
+    → Here s p (itemRow (p .ssrc) (p .at) i) (record { ssrc = p .ssrc; at = p .at + length (itemBytes i) })
 item-here s p (item t v) r e k z =
     let f : getD s (p .at) 0 ≡ t = first-at s (p .at) _ e in
     let g : getD s (p .at + 1) 0 ≡ length v = byte-at s (p .at) 1 _ e in
@@ -158,8 +160,8 @@ item-here s p (item t v) r e k z =
     let m : p .at + length (itemBytes (item t v)) ≡ p .at + 2 + length v = omega arith in
     record {
       stands = record { within = omega (arith, ap length e, length-drop (p .at) s); whole = λ h. rw g (omega (arith, ap length e, length-append v r, length-drop (p .at) s)); prefix = λ h. absurd (w (sym f ∙ h)) };
-      is = sym (row-plain s p _ t (length v) refl (sym f) (sym g) z w);
-      next = sym (after-item s p (length v) y (sym g)) ∙ ap (λ (n : ℕ). record { start = p .start; at = n }) (sym m);
+      is = sym (row-plain s p t (length v) (sym f) (sym g) z w);
+      next = sym (after-item s p (length v) y (sym g)) ∙ ap (λ (n : ℕ). record { ssrc = p .ssrc; at = n }) (sym m);
     }
 item-here s p (priv q v) r e k z =
     let f : getD s (p .at) 0 ≡ 8 = first-at s (p .at) _ e in
@@ -171,8 +173,8 @@ item-here s p (priv q v) r e k z =
     let m : p .at + length (itemBytes (priv q v)) ≡ p .at + 2 + suc (length (q ++ v)) = omega arith in
     record {
       stands = record { within = omega (arith, ap length e, length-drop (p .at) s); whole = λ b. rw g (omega (arith, ap length e, length-append (q ++ v) r, length-drop (p .at) s)); prefix = λ b. rw (g, h) (omega arith) };
-      is = sym (row-priv s p _ 8 (suc (length (q ++ v))) refl (sym f) (sym g) z (length q) refl (sym h)) ∙ rw d;
-      next = sym (after-item s p (suc (length (q ++ v))) y (sym g)) ∙ ap (λ (n : ℕ). record { start = p .start; at = n }) (sym m);
+      is = sym (row-priv s p 8 (suc (length (q ++ v))) (sym f) (sym g) z (length q) refl (sym h)) ∙ rw d;
+      next = sym (after-item s p (suc (length (q ++ v))) y (sym g)) ∙ ap (λ (n : ℕ). record { ssrc = p .ssrc; at = n }) (sym m);
     }
 
 -- ---- the items of a chunk, then what follows them
@@ -181,21 +183,18 @@ item-here s p (priv q v) r e k z =
 abbrev behind : ℕ → List Item → ℕ
 behind at is = at + length (itemsBytes is) + fill (at + length (itemsBytes is))
 
-abbrev chunkPlace : ℕ → Place
-chunkPlace at = record { start = at; at = at + 4 }
-
 items-read : (t rel : ℕ) (s : List ℕ) (p : Place) {x : List Item × List ℕ} (xs : List ℕ) → readItems t rel (drop (p .at) s) ≡ ok x
-    → Reads s (chunkPlace (behind (p .at) (x .0))) xs → Reads s p (itemRows (ssrcAt s (p .start)) (p .at) (x .0) ++ xs)
+    → Reads s (chunkPlace s (behind (p .at) (x .0))) xs → Reads s p (itemRows (p .ssrc) (p .at) (x .0) ++ xs)
 unfolding readItems itemRows itemsBytes
 items-read zero rel s p xs e g = absurd (refused≢ok e)
 items-read (suc t) rel s p {x} xs e g = go (λ rel p x e g. items-read t rel s p xs e g) (drop (p .at) s) refl e
   where
-    go : ((rel : ℕ) (p : Place) (x : List Item × List ℕ) → readItems t rel (drop (p .at) s) ≡ ok x → Reads s (chunkPlace (behind (p .at) (x .0))) xs → Reads s p (itemRows (ssrcAt s (p .start)) (p .at) (x .0) ++ xs))
-        → (bs : List ℕ) → bs ≡ drop (p .at) s → readItems (suc t) rel bs ≡ ok x → Reads s p (itemRows (ssrcAt s (p .start)) (p .at) (x .0) ++ xs)
+    go : ((rel : ℕ) (p : Place) (x : List Item × List ℕ) → readItems t rel (drop (p .at) s) ≡ ok x → Reads s (chunkPlace s (behind (p .at) (x .0))) xs → Reads s p (itemRows (p .ssrc) (p .at) (x .0) ++ xs))
+        → (bs : List ℕ) → bs ≡ drop (p .at) s → readItems (suc t) rel bs ≡ ok x → Reads s p (itemRows (p .ssrc) (p .at) (x .0) ++ xs)
     go again [] b e = absurd (refused≢ok e)
     go again (zero ∷ bs) b e = bind-elim _ _ e (λ r q e₁.
         let n : x .0 ≡ [] = sym (ap (λ (y : List Item × List ℕ). y .0) (ok-injective e₁)) in
-        let m : Reads s (chunkPlace (p .at + fill (p .at))) xs = rw (n, add-zero) at g in
+        let m : Reads s (chunkPlace s (p .at + fill (p .at))) xs = rw (n, add-zero) at g in
         rw n (reads-more s p _ _ xs (zero-here s p bs b) m))
     go again (suc b ∷ bs) d e = bind-elim _ _ e (λ y q e₁. bind-elim _ _ e₁ (λ z q₁ e₂.
         let n : x .0 ≡ y .0 ∷ z .0 = sym (ap (λ (y : List Item × List ℕ). y .0) (ok-injective e₂)) in
@@ -203,11 +202,17 @@ items-read (suc t) rel s p {x} xs e g = go (λ rel p x e g. items-read t rel s p
         let k : itemType (y .0) ≡ suc b = ap (λ (l : List ℕ). getD l 0 0) (w .bytes) in
         let r : y .1 ≡ drop (p .at + length (itemBytes (y .0))) s = item-rest (suc b ∷ bs) q ∙ ap (drop (length (itemBytes (y .0)))) d ∙ drop-drop (length (itemBytes (y .0))) (p .at) s in
         let l : behind (p .at) (x .0) ≡ behind (p .at + length (itemBytes (y .0))) (z .0) = rw (n, length-append (itemBytes (y .0)) (itemsBytes (z .0)), ← add-assoc (p .at) (length (itemBytes (y .0))) (length (itemsBytes (z .0)))) in
-        let m = again _ (record { start = p .start; at = p .at + length (itemBytes (y .0)) }) z (rw r at q₁) (subst (λ (n : ℕ). Reads s (chunkPlace n) xs) l g) in
-        rw (n, append-assoc (itemRow (ssrcAt s (p .start)) (p .at) (y .0)))
+        let m = again _ (record { ssrc = p .ssrc; at = p .at + length (itemBytes (y .0)) }) z (rw r at q₁) (subst (λ (n : ℕ). Reads s (chunkPlace s n) xs) l g) in
+        rw (n, append-assoc (itemRow (p .ssrc) (p .at) (y .0)))
         (reads-more s p _ _ _ (item-here s p (y .0) (y .1) (w .bytes ∙ d) (w .kind) (λ h. absurd (omega arith))) m)))
 
 -- ---- the chunks
+
+items-some : (t rel : ℕ) (bs : List ℕ) {x : List Item × List ℕ} → readItems t rel bs ≡ ok x → 0 < length bs
+unfolding readItems
+items-some zero rel bs e = absurd (refused≢ok e)
+items-some (suc t) rel [] e = absurd (refused≢ok e)
+items-some (suc t) rel (b ∷ bs) e = omega arith
 
 abbrev ChunkRead : List ℕ → Chunk × List ℕ → Type 0
 ChunkRead s x = (y : List Item × List ℕ) × (readItems (length s) 4 (drop 4 s) ≡ ok y) × (y .0 ≡ x .0 .items) × (val (take 4 s) ≡ x .0 .ssrc)
@@ -223,12 +228,12 @@ chunk-behind at c h =
     let n : length (chunkBytes c) ≡ 4 + length (itemsBytes (c .items)) + fill (4 + length (itemsBytes (c .items))) = simp (length-append, length-be, length-replicate) (omega arith) in
     omega arith
 
-chunks-read : (n body at : ℕ) (s : List ℕ) {cs : List Chunk} → at % 4 ≡ 0 → readChunks n body (drop at s) ≡ ok cs → Reads s (chunkPlace at) (chunkRows at cs)
+chunks-read : (n body at : ℕ) (s : List ℕ) {cs : List Chunk} → at % 4 ≡ 0 → readChunks n body (drop at s) ≡ ok cs → Reads s (chunkPlace s at) (chunkRows at cs)
 unfolding readChunks chunkRows
 chunks-read zero body at s {cs} h e = go (drop at s) refl e
   where
-    go : (bs : List ℕ) → bs ≡ drop at s → readChunks 0 body bs ≡ ok cs → Reads s (chunkPlace at) (chunkRows at cs)
-    go [] b e = rw (← ok-injective e) (reads-none s (chunkPlace at) (omega (arith, ap length b, length-drop at s)))
+    go : (bs : List ℕ) → bs ≡ drop at s → readChunks 0 body bs ≡ ok cs → Reads s (chunkPlace s at) (chunkRows at cs)
+    go [] b e = rw (← ok-injective e) (reads-none s (chunkPlace s at) (omega (arith, ap length b, length-drop at s)))
     go (x ∷ bs) b e = absurd (refused≢ok e)
 chunks-read (suc n) body at s {cs} h e =
     bind-elim (readChunk (drop at s)) _ e (λ x q e₁. bind-elim _ _ e₁ (λ ds q₁ e₂.
@@ -236,21 +241,23 @@ chunks-read (suc n) body at s {cs} h e =
     let z = chunk-behind at (x .0) h in
     let r : x .1 ≡ drop (at + length (chunkBytes (x .0))) s = chunk-in (drop at s) q .rest ∙ drop-drop (length (chunkBytes (x .0))) at s in
     let m = chunks-read n body (at + length (chunkBytes (x .0))) s (rw (← z) (omega arith)) (rw r at q₁) in
-    let g : Reads s (chunkPlace (behind (at + 4) (w .0 .0))) (chunkRows (at + length (chunkBytes (x .0))) ds) = rw (w .2, z) m in
-    let f = items-read (length (drop at s)) 4 s (chunkPlace at) {x = w .0} _ (rw (← drop-drop 4 at s) (w .1)) g in
-    let t : itemRows (ssrcAt s at) (at + 4) (w .0 .0) ≡ itemRows (x .0 .ssrc) (at + 4) (x .0 .items) = ap (λ (k : ℕ). itemRows k (at + 4) (w .0 .0)) (w .3) ∙ ap (itemRows (x .0 .ssrc) (at + 4)) (w .2) in
-    rw (← ok-injective e₂) (subst (λ (l : List ℕ). Reads s (chunkPlace at) (l ++ chunkRows (at + length (chunkBytes (x .0))) ds)) t f)))
+    let g : Reads s (chunkPlace s (behind (at + 4) (w .0 .0))) (chunkRows (at + length (chunkBytes (x .0))) ds) = rw (w .2, z) m in
+    let i : readItems (length (drop at s)) 4 (drop (at + 4) s) ≡ ok (w .0) = rw (← drop-drop 4 at s) (w .1) in
+    let f = items-read (length (drop at s)) 4 s (chunkPlace s at) {x = w .0} _ i g in
+    let u : chunkPlace s at .ssrc ≡ x .0 .ssrc = sym (ap (λ (p : Place). p .ssrc) (chunk-some s at _ (omega (arith, items-some _ 4 _ i, length-drop (at + 4) s)) refl)) ∙ w .3 in
+    let t : itemRows (chunkPlace s at .ssrc) (at + 4) (w .0 .0) ≡ itemRows (x .0 .ssrc) (at + 4) (x .0 .items) = ap (λ (k : ℕ). itemRows k (at + 4) (w .0 .0)) u ∙ ap (itemRows (x .0 .ssrc) (at + 4)) (w .2) in
+    rw (← ok-injective e₂) (subst (λ (l : List ℕ). Reads s (chunkPlace s at) (l ++ chunkRows (at + length (chunkBytes (x .0))) ds)) t f)))
 
 -- ---- the packet
 
 module _ (s : List ℕ) (p : Packet) (e : readAs SDES s ≡ ok p) (b : ℕ) (v : sdesView p .body ≡ b) where
-  pub packet-read : Reads (take b s) (record { start = 4; at = 8 }) (sdesRows p)
+  pub packet-read : Reads (take b s) (chunkPlace (take b s) 4) (sdesRows p)
   packet-read =
       let g = got SDES s p e in
       let n : g .body ≡ b = sym (sdes-body s p g) ∙ v in
       let w = mapOk-inv sdes (readChunks (lowIn s) (length (take (g .body) s)) (drop 4 (take (g .body) s))) (sym (content-chunks s (g .body) (g .enough) (g .within)) ∙ g .content) in
       let f = chunks-read (lowIn s) (length (take (g .body) s)) 4 (take (g .body) s) refl (w .1) in
-      subst (λ (m : ℕ). Reads (take m s) (chunkPlace 4) (sdesRows p)) n (subst (λ (c : Content). Reads (take (g .body) s) (chunkPlace 4) (chunkRows 4 (chunksOf c))) (w .2) f)
+      subst (λ (m : ℕ). Reads (take m s) (chunkPlace (take m s) 4) (sdesRows p)) n (subst (λ (c : Content). Reads (take (g .body) s) (chunkPlace (take (g .body) s) 4) (chunkRows 4 (chunksOf c))) (w .2) f)
 
   bytes-known : (s : List ℕ) → ((i : ℕ) → getD s i 0 < 256) → Bytes s
   bytes-known [] h = tt

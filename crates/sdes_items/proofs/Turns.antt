@@ -1,5 +1,5 @@
 -- The turns that count and lay the rows, and the cases of the whole call.
-use Prim.Native.Nat.{ℕ, zero, suc, _+_, _-_, _*_, _^_, _<_, _≤_}
+use Prim.Native.Nat.{ℕ, zero, suc, _+_, _-_, _*_, _/_, _^_, _<_, _≤_}
 use mathlib.Core.Path.{_≡_, refl, sym, ap, _∙_, subst}
 use mathlib.Core.List.{List, [], _∷_, _++_}
 use native.Mathlib.Nat.{zero-add}
@@ -28,52 +28,59 @@ use Rattle.sdes.proofs.Packets.{padding-start}
 use Rattle.sdes_items.specs.declared.rows.Row.{Row}
 use Rattle.sdes_items.specs.declared.rows.Place.{Place}
 use Rattle.sdes_items.specs.Rows.{sdesRows}
-use Rattle.sdes_items.specs.Places.{rowOf, placeAfter, rowAt, Stands, RowsAt, rowsFrom}
-use Rattle.sdes_items.proofs.Places.{after-zero, after-item, row-end, row-plain, row-priv, stands-item, stands-type, stands-prefix, stands-one, stands-value, length-row, length-rows, after-more, after-apart, rows-most, rows-one, Reads, packet-read, packet-most}
-
-abbrev first : Place
-first = record { start = 4; at = 8 }
+use Rattle.sdes_items.specs.Places.{rowOf, chunkPlace, placeAfter, rowAt, Stands, RowsAt, rowsFrom, Needed, RowsLaid}
+use Rattle.sdes_items.proofs.Places.{chunk-none, chunk-some, after-zero, after-item, after-less, row-end, row-plain, row-priv, stands-item, stands-type, stands-prefix, stands-one, stands-value, length-row, length-rows, rows-most, rows-one, Reads, packet-read, packet-most}
 
 -- ---- the count
 
 pub record Counting (s : List ℕ) (i : ℕ) (p : Place) : Type 0 where
   pub left : ℕ
-  pub whole : RowsAt (i + left) s first
+  pub whole : RowsAt (i + left) s (chunkPlace s 4)
   pub rest : RowsAt left s p
 
-pub count-start : (s : List ℕ) → ((n : ℕ) × RowsAt n s first) → Counting s 0 first
-count-start s h = record { left = h .0; whole = rw zero-add (h .1); rest = h .1 }
+pub count-start : (s : List ℕ) (p : Place) → ((n : ℕ) × RowsAt n s (chunkPlace s 4)) → p ≡ chunkPlace s 4 → Counting s 0 p
+count-start s p h e = record { left = h .0; whole = rw zero-add (h .1); rest = rw e (h .1) }
+
+stands : (s : List ℕ) (p : Place) (n : ℕ) → p .at < length s → RowsAt n s p → Stands s (p .at)
+stands s p zero l h = absurd (omega arith)
+stands s p (suc n) l h = h .0
 
 module _ (s : List ℕ) (i : ℕ) (p : Place) (g : Counting s i p) where
-  most : i + g .left ≤ length s - 8
-  most = rows-most (i + g .left) s first (g .whole)
+  most : 2 * (i + g .left) ≤ length s - 8 + 1
+  most = rows-most (i + g .left) s (chunkPlace s 4) (g .whole)
 
-  pub count-done : length s ≤ 262144 → length s ≤ p .at → (i ≤ 262144) × RowsAt i s first
+  pub count-done : length s ≤ 262144 → length s ≤ p .at → (i ≤ 262144) × RowsAt i s (chunkPlace s 4)
   count-done m l =
       let n : 0 ≡ g .left = rows-one 0 (g .left) s p l (g .rest) in
       let k = most in
-      (omega arith, subst (λ (k : ℕ). RowsAt k s first) {x = i + g .left} {y = i} (omega arith) (g .whole))
+      (omega arith, subst (λ (k : ℕ). RowsAt k s (chunkPlace s 4)) {x = i + g .left} {y = i} (omega arith) (g .whole))
 
   module _ (l : p .at < length s) where
-    more : (n : ℕ) → RowsAt n s p → Stands s (p .at)
-    more zero h = absurd (omega arith)
-    more (suc n) h = h .0
-
     pub count-fits : length s ≤ 262144 → i + 1 < 2 ^ 64
     count-fits m = let k = most in omega arith
 
     pub count-stands : Stands s (p .at)
-    count-stands = more (g .left) (g .rest)
-
-    pub count-less : (q : Place) → q ≡ placeAfter s p → length s - q .at < length s - p .at
-    count-less q e = let a = after-more s p in rw e (omega arith)
+    count-stands = stands s p (g .left) l (g .rest)
 
     pub count-again : (q : Place) → q ≡ placeAfter s p → Counting s (i + 1) q
     count-again q e = go (g .left) (g .whole) (g .rest)
       where
-        go : (n : ℕ) → RowsAt (i + n) s first → RowsAt n s p → Counting s (i + 1) q
+        go : (n : ℕ) → RowsAt (i + n) s (chunkPlace s 4) → RowsAt n s p → Counting s (i + 1) q
         go zero w r = absurd (omega arith)
-        go (suc n) w r = record { left = n; whole = subst (λ (k : ℕ). RowsAt k s first) {x = i + suc n} {y = i + 1 + n} (omega arith) w; rest = rw e (r .1) }
+        go (suc n) w r = record { left = n; whole = subst (λ (k : ℕ). RowsAt k s (chunkPlace s 4)) {x = i + suc n} {y = i + 1 + n} (omega arith) w; rest = rw e (r .1) }
+
+-- ---- the room
+
+pub room-sure : (s : List ℕ) (room : ℕ) → ((n : ℕ) × RowsAt n s (chunkPlace s 4)) → length s / 2 * 5 ≤ room → Needed s room 0
+room-sure s room h l =
+    let k = rows-most (h .0) s (chunkPlace s 4) (h .1) in
+    record { n = h .0; rows = h .1; enough = λ m. room-most (h .0) k; short = λ m. absurd (omega arith) }
+  where
+    room-most : (n : ℕ) → 2 * n ≤ length s - 8 + 1 → n * 5 ≤ room
+    room-most n k = omega arith
+
+pub room-counted : (s : List ℕ) (room n : ℕ) → (n ≤ 262144) × RowsAt n s (chunkPlace s 4) → Needed s room (n * 5)
+room-counted s room n h = record { n = n; rows = h .1; enough = λ m. m; short = λ m. refl }
 
 -- ---- the rows laid
 
@@ -83,50 +90,62 @@ row-laid r i l h = store-puts i (r .ssrc) (r .«type_» ∷ r .value ∷ r .pref
 pub row-stored : (r : Row) (s : List ℕ) (p : Place) (i : ℕ) (l l₁ : List ℕ) → rowOf r ≡ rowAt s p → l₁ ≡ store i (rowOf r) l → l₁ ≡ store i (rowAt s p) l
 row-stored r s p i l l₁ e q = q ∙ ap (λ (xs : List ℕ). store i xs l) e
 
-pub record Laying (s : List ℕ) (n : ℕ) (l : List ℕ) (p : Place) (i left : ℕ) (l₁ : List ℕ) : Type 0 where
+-- the rows that are left, stored where the turns stand, make the whole
+pub record Laying (s l : List ℕ) (p : Place) (i : ℕ) (l₁ : List ℕ) : Type 0 where
+  pub n : ℕ
+  pub left : ℕ
+  pub whole : RowsAt n s (chunkPlace s 4)
+  pub room : n * 5 ≤ length l
   pub rest : RowsAt left s p
-  pub apart : p .start + 4 ≤ p .at
   pub place : i + left * 5 ≡ n * 5
   pub long : length l₁ ≡ length l
-  pub same : store i (rowsFrom left s p) l₁ ≡ store 0 (rowsFrom n s first) l
+  pub same : store i (rowsFrom left s p) l₁ ≡ store 0 (rowsFrom n s (chunkPlace s 4)) l
 
-module _ (s : List ℕ) (n : ℕ) (l : List ℕ) where
-  pub lay-start : RowsAt n s first → Laying s n l first 0 n l
-  lay-start h = record { rest = h; apart = omega arith; place = omega arith; long = refl; same = refl }
+module _ (s l : List ℕ) where
+  pub lay-start : (p : Place) → ((n : ℕ) × RowsAt n s (chunkPlace s 4) × (n * 5 ≤ length l)) → p ≡ chunkPlace s 4 → Laying s l p 0 l
+  lay-start p h e = record { n = h .0; left = h .0; whole = h .1; room = h .2; rest = rw e (h .1); place = omega arith; long = refl; same = rw e }
 
-  module _ (p : Place) (i left : ℕ) (l₁ : List ℕ) (g : Laying s n l p i left l₁) where
-    pub lay-done : left ≤ 0 → l₁ ≡ store 0 (rowsFrom n s first) l
+  module _ (p : Place) (i : ℕ) (l₁ : List ℕ) (g : Laying s l p i l₁) where
+    pub lay-done : length s ≤ p .at → RowsLaid s l i l₁
     unfolding rowsFrom
-    lay-done h = let z : left ≡ 0 = omega arith in sym (store-nil i l₁) ∙ (rw z at (g .same))
+    lay-done h =
+        let z : 0 ≡ g .left = rows-one 0 (g .left) s p h (g .rest) in
+        record { n = g .n; rows = g .whole; size = omega (arith, g .place); laid = sym (store-nil i l₁) ∙ (rw (← z) at (g .same)) }
 
-    module _ (h : 0 < left) where
+    module _ (h : p .at < length s) where
       pub lay-stands : Stands s (p .at)
-      lay-stands = go left h (g .rest)
-        where
-          go : (k : ℕ) → 0 < k → RowsAt k s p → Stands s (p .at)
-          go zero h r = absurd (omega arith)
-          go (suc k) h r = r .0
+      lay-stands = stands s p (g .left) h (g .rest)
 
-      pub lay-room : n * 5 ≤ length l → i + 5 ≤ length l₁
-      lay-room m = omega (arith, g .place, g .long)
+      some : (k : ℕ) → RowsAt k s p → 1 ≤ k
+      some zero r = absurd (omega arith)
+      some (suc k) r = omega arith
 
-      pub lay-again : (q : Place) (l₂ : List ℕ) → n * 5 ≤ length l → (q ≡ placeAfter s p) × (l₂ ≡ store i (rowAt s p) l₁) → Laying s n l q (i + 5) (left - 1) l₂
+      pub lay-room : i + 5 ≤ length l₁
+      lay-room = omega (arith, g .place, g .long, g .room, some (g .left) (g .rest))
+
+      pub lay-fits : length s ≤ 262144 → i + 5 < 2 ^ 64
+      lay-fits m = omega (arith, g .place, some (g .left) (g .rest), rows-most (g .n) s (chunkPlace s 4) (g .whole))
+
+      pub lay-again : (q : Place) (l₂ : List ℕ) → (q ≡ placeAfter s p) × (l₂ ≡ store i (rowAt s p) l₁) → Laying s l q (i + 5) l₂
       unfolding rowsFrom
-      lay-again q l₂ m e = go left (g .rest) (g .place) (g .same)
+      lay-again q l₂ e = go (g .left) (g .rest) (g .place) (g .same)
         where
-          go : (k : ℕ) → RowsAt k s p → i + k * 5 ≡ n * 5 → store i (rowsFrom k s p) l₁ ≡ store 0 (rowsFrom n s first) l → Laying s n l q (i + 5) (k - 1) l₂
+          go : (k : ℕ) → RowsAt k s p → i + k * 5 ≡ g .n * 5 → store i (rowsFrom k s p) l₁ ≡ store 0 (rowsFrom (g .n) s (chunkPlace s 4)) l → Laying s l q (i + 5) l₂
           go zero r a b = absurd (omega arith)
           go (suc k) r a b =
-              let d : suc k - 1 ≡ k = omega arith in
               let f = length-row s p in
               let t = length-rows k s (placeAfter s p) in
               let y = g .long in
+              let m = g .room in
               record {
-                rest = rw (d, e .0) (r .1);
-                apart = rw (e .0) (after-apart s p (g .apart));
-                place = rw d (omega arith);
+                n = g .n;
+                left = k;
+                whole = g .whole;
+                room = g .room;
+                rest = rw (e .0) (r .1);
+                place = omega arith;
                 long = ap length (e .1) ∙ length-store i (rowAt s p) l₁ (omega arith) ∙ g .long;
-                same = rw (d, e .0, e .1) (store-store i (i + 5) (rowAt s p) (rowsFrom k s (placeAfter s p)) l₁ (omega arith) (omega arith) ∙ b);
+                same = rw (e .0, e .1) (store-store i (i + 5) (rowAt s p) (rowsFrom k s (placeAfter s p)) l₁ (omega arith) (omega arith) ∙ b);
               }
 
 -- ---- the call
@@ -151,7 +170,7 @@ module _ (s : List ℕ) (o : ParsedSdes) (h : parsedSdesOf o ≡ mapOk sdesView 
     ends : sdesView (found .0) .body ≡ p .body
     ends = ap (λ (p : Sdes). p .body) (found .2)
 
-    reads : Reads (take (p .body) s) first (sdesRows (found .0))
+    reads : Reads (take (p .body) s) (chunkPlace (take (p .body) s) 4) (sdesRows (found .0))
     reads = packet-read s (found .0) (found .1) (p .body) ends
 
     pub items-body : p .body ≡ length (take (p .body) s)
@@ -160,24 +179,28 @@ module _ (s : List ℕ) (o : ParsedSdes) (h : parsedSdesOf o ≡ mapOk sdesView 
     pub items-most : ((i : ℕ) → getD s i 0 < 256) → length (take (p .body) s) ≤ 262144
     items-most k = rw (← items-body) (packet-most s (found .0) (found .1) (p .body) ends k)
 
-    pub items-rows : (n : ℕ) × RowsAt n (take (p .body) s) first
+    pub items-rows : (n : ℕ) × RowsAt n (take (p .body) s) (chunkPlace (take (p .body) s) 4)
     items-rows = (reads .n, reads .rows)
 
-    module _ (l : List ℕ) (n : ℕ) (c : RowsAt n (take (p .body) s) first) where
-      same : rowsFrom n (take (p .body) s) first ≡ sdesRows (found .0)
-      same = ap (λ (k : ℕ). rowsFrom k (take (p .body) s) first) (rows-one n (reads .n) (take (p .body) s) first c (reads .rows)) ∙ reads .same
+    module _ (l : List ℕ) where
+      same : (n : ℕ) → RowsAt n (take (p .body) s) (chunkPlace (take (p .body) s) 4) → rowsFrom n (take (p .body) s) (chunkPlace (take (p .body) s) 4) ≡ sdesRows (found .0)
+      same n c = ap (λ (k : ℕ). rowsFrom k (take (p .body) s) (chunkPlace (take (p .body) s) 4)) (rows-one n (reads .n) (take (p .body) s) (chunkPlace (take (p .body) s) 4) c (reads .rows)) ∙ reads .same
 
-      size : length (sdesRows (found .0)) ≡ n * 5
-      size = ap length (sym same) ∙ length-rows n (take (p .body) s) first
+      size : (n : ℕ) → RowsAt n (take (p .body) s) (chunkPlace (take (p .body) s) 4) → length (sdesRows (found .0)) ≡ n * 5
+      size n c = ap length (sym (same n c)) ∙ length-rows n (take (p .body) s) (chunkPlace (take (p .body) s) 4)
 
       laid : layList (mapOk sdesRows (readAs SDES s)) l ≡ layIf (leb (length (sdesRows (found .0))) (length l)) (sdesRows (found .0)) l
       unfolding layList mapOk
       laid = ap (λ (a : Answer Packet). layList (mapOk sdesRows a) l) (found .1)
 
-      pub items-short : length l < n * 5 → (refused (refusal 10 (n * 5) 0), l) ≡ layList (mapOk sdesRows (readAs SDES s)) l
-      items-short m = sym (laid ∙ not-room (sdesRows (found .0)) l (n * 5) size m)
+      pub items-short : (r : ℕ) → Needed (take (p .body) s) (length l) r → length l < r → (refused (refusal 10 r 0), l) ≡ layList (mapOk sdesRows (readAs SDES s)) l
+      items-short r c m = sym (laid ∙ not-room (sdesRows (found .0)) l r (size (c .n) (c .rows) ∙ sym (c .short m)) m)
 
-      pub items-laid : (l₁ : List ℕ) → n * 5 ≤ length l → l₁ ≡ store 0 (rowsFrom n (take (p .body) s) first) l → (ok (n * 5), l₁) ≡ layList (mapOk sdesRows (readAs SDES s)) l
-      items-laid l₁ m q = sym (laid ∙ in-room (sdesRows (found .0)) l (n * 5) size m ∙ ap (λ (xs : List ℕ). (ok (n * 5), store 0 xs l)) (sym same) ∙ ap (λ (k : List ℕ). (ok (n * 5), k)) (sym q))
+      pub items-laid : (k : ℕ) → Needed (take (p .body) s) (length l) k → k ≤ length l → (r : ℕ) (l₁ : List ℕ) → RowsLaid (take (p .body) s) l r l₁ → (ok r, l₁) ≡ layList (mapOk sdesRows (readAs SDES s)) l
+      items-laid k c m r l₁ w =
+          let z : length (sdesRows (found .0)) ≡ c .n * 5 = size (c .n) (c .rows) in
+          let y : length (sdesRows (found .0)) ≡ r = size (w .n) (w .rows) ∙ sym (w .size) in
+          let q = c .enough m in
+          sym (laid ∙ in-room (sdesRows (found .0)) l r y (omega arith) ∙ ap (λ (xs : List ℕ). (ok r, store 0 xs l)) (sym (same (w .n) (w .rows))) ∙ ap (λ (k : List ℕ). (ok r, k)) (sym (w .laid)))
 
-pub ruleset rows = (needs, after-zero, after-item, row-end, row-plain, row-priv, stands-item, stands-type, stands-prefix, stands-one, stands-value, count-start, count-done, count-fits, count-stands, count-less, count-again, row-laid, row-stored, lay-start, lay-done, lay-stands, lay-room, lay-again, items-refused, padding-start, items-body, items-short, items-laid)
+pub ruleset rows = (needs, chunk-none, chunk-some, after-zero, after-item, after-less, row-end, row-plain, row-priv, stands-item, stands-type, stands-prefix, stands-one, stands-value, count-start, count-done, count-fits, count-stands, count-again, room-sure, room-counted, row-laid, row-stored, lay-start, lay-done, lay-stands, lay-room, lay-fits, lay-again, items-refused, padding-start, items-body, items-short, items-laid)

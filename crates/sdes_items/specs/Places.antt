@@ -1,11 +1,11 @@
 -- The same rows by the bytes of an accepted body: what stands at a place, and the place of the next row.
-use Prim.Native.Nat.{ℕ, zero, suc, _+_, _-_, _<_, _≤_}
+use Prim.Native.Nat.{ℕ, zero, suc, _+_, _-_, _*_, _<_, _≤_}
 use mathlib.Core.Path.{_≡_}
 use mathlib.Core.List.{List, [], _∷_, _++_}
 use lib.ListN.{length, getD, take, drop}
-use lib.Dec.{eqb}
+use lib.Dec.{ltb, eqb}
 use Rattle.rfc3550.specs.Answer.{pick}
-use Rattle.rfc3550.specs.Bytes.{val}
+use Rattle.rfc3550.specs.Bytes.{val, store}
 use Rattle.rfc3550.specs.Packet.{fill}
 use Rattle.sdes_items.specs.declared.rows.Row.{Row}
 use Rattle.sdes_items.specs.declared.rows.Place.{Place}
@@ -13,21 +13,22 @@ use Rattle.sdes_items.specs.declared.rows.Place.{Place}
 abbrev pub rowOf : Row → List ℕ
 rowOf r = r .ssrc ∷ r .«type_» ∷ r .value ∷ r .prefix ∷ r .length ∷ []
 
--- behind the zero and its fill, the next chunk and its SSRC; behind an item, what follows it
-abbrev pub placeAfter : List ℕ → Place → Place
-placeAfter s p = pick (eqb (getD s (p .at) 0) 0) (record { start = p .at + fill (p .at); at = p .at + fill (p .at) + 4 }) (record { start = p .start; at = p .at + 2 + getD s (p .at + 1) 0 })
+-- the first place of the chunk that starts here; behind the last chunk there is no SSRC
+abbrev pub chunkPlace : List ℕ → ℕ → Place
+chunkPlace s start = record { ssrc = pick (ltb (start + 4) (length s)) (val (take 4 (drop start s))) 0; at = start + 4 }
 
-abbrev pub ssrcAt : List ℕ → ℕ → ℕ
-ssrcAt s start = val (take 4 (drop start s))
+-- behind the zero and its fill, the next chunk; behind an item, what follows it
+abbrev pub placeAfter : List ℕ → Place → Place
+placeAfter s p = pick (eqb (getD s (p .at) 0) 0) (chunkPlace s (p .at + fill (p .at))) (record { ssrc = p .ssrc; at = p .at + 2 + getD s (p .at + 1) 0 })
 
 abbrev pub itemRowAt : List ℕ → Place → List ℕ
 itemRowAt s p =
     pick (eqb (getD s (p .at) 0) 8)
-    (ssrcAt s (p .start) ∷ 8 ∷ (p .at + 3 + getD s (p .at + 2) 0) ∷ getD s (p .at + 2) 0 ∷ (getD s (p .at + 1) 0 - 1 - getD s (p .at + 2) 0) ∷ [])
-    (ssrcAt s (p .start) ∷ getD s (p .at) 0 ∷ (p .at + 2) ∷ 0 ∷ getD s (p .at + 1) 0 ∷ [])
+    (p .ssrc ∷ 8 ∷ (p .at + 3 + getD s (p .at + 2) 0) ∷ getD s (p .at + 2) 0 ∷ (getD s (p .at + 1) 0 - 1 - getD s (p .at + 2) 0) ∷ [])
+    (p .ssrc ∷ getD s (p .at) 0 ∷ (p .at + 2) ∷ 0 ∷ getD s (p .at + 1) 0 ∷ [])
 
 abbrev pub rowAt : List ℕ → Place → List ℕ
-rowAt s p = pick (eqb (getD s (p .at) 0) 0) (ssrcAt s (p .start) ∷ 0 ∷ p .at ∷ 0 ∷ 0 ∷ []) (itemRowAt s p)
+rowAt s p = pick (eqb (getD s (p .at) 0) 0) (p .ssrc ∷ 0 ∷ p .at ∷ 0 ∷ 0 ∷ []) (itemRowAt s p)
 
 -- a zero, or an item that is whole, with a prefix that fits
 pub record Stands (s : List ℕ) (at : ℕ) : Type 0 where
@@ -43,3 +44,16 @@ RowsAt (suc n) s p = Stands s (p .at) × RowsAt n s (placeAfter s p)
 unfoldable pub rowsFrom : ℕ → List ℕ → Place → List ℕ
 rowsFrom zero s p = []
 rowsFrom (suc n) s p = rowAt s p ++ rowsFrom n s (placeAfter s p)
+
+-- how long a list has to be, where this room is too short; at most the room, where it is enough
+pub record Needed (s : List ℕ) (room r : ℕ) : Type 0 where
+  pub n : ℕ
+  pub rows : RowsAt n s (chunkPlace s 4)
+  pub enough : r ≤ room → n * 5 ≤ room
+  pub short : room < r → r ≡ n * 5
+
+pub record RowsLaid (s l : List ℕ) (r : ℕ) (l₁ : List ℕ) : Type 0 where
+  pub n : ℕ
+  pub rows : RowsAt n s (chunkPlace s 4)
+  pub size : r ≡ n * 5
+  pub laid : l₁ ≡ store 0 (rowsFrom n s (chunkPlace s 4)) l

@@ -11,7 +11,7 @@ ghost use Rattle.rfc3550.specs.Bytes.{store};
 ghost use Rattle.rfc3550.specs.Read.{SDES, readAs};
 ghost use Rattle.utils.specs.List.{listedOf, layList};
 ghost use Rattle.sdes_items.specs.Rows.{sdesRows};
-ghost use Rattle.sdes_items.specs.Places.{Stands, RowsAt, placeAfter, rowAt, rowsFrom, rowOf};
+ghost use Rattle.sdes_items.specs.Places.{chunkPlace, Stands, RowsAt, placeAfter, rowAt, rowOf, Needed, RowsLaid};
 
 // The numbers of one row.
 struct Row {
@@ -22,9 +22,9 @@ struct Row {
     length: u32,
 }
 
-// A place where an item stands, or the zero that ends a chunk's items, and the start of its chunk.
+// A place where an item stands, or the zero that ends a chunk's items, and the SSRC of the chunk.
 struct Place {
-    start: usize,
+    ssrc: u32,
     at: usize,
 }
 
@@ -34,6 +34,19 @@ fn wide(b: u8) -> u32
     b as u32
 }
 
+// The first place of the chunk that starts here. Behind the last chunk there is no SSRC.
+fn chunk_place(body: &[u8], start: usize) -> Place
+    requires { ⌜ start ≤ 262148 ⌝ }
+    ensures { λ r. ⌜ r ≡ chunkPlace (now (body .entry)) start ⌝ }
+{
+    let at = start + 4;
+    if body.len() <= at {
+        return Place { ssrc: 0, at };
+    }
+    let ssrc = parser::u32_from_be_bytes(body, start);
+    Place { ssrc, at }
+}
+
 // The place of the next row.
 fn after(body: &[u8], place: Place) -> Place
     requires { ⌜ (length (now body) ≤ 262144) × Stands (now body) (place .at) ⌝ }
@@ -41,25 +54,21 @@ fn after(body: &[u8], place: Place) -> Place
 {
     let at = place.at;
     if body[at] == 0 {
-        let start = at + (4 - at % 4);
-        return Place {
-            start,
-            at: start + 4,
-        };
+        return chunk_place(body, at + (4 - at % 4));
     }
     let length = wide(body[at + 1]) as usize;
     Place {
-        start: place.start,
+        ssrc: place.ssrc,
         at: at + 2 + length,
     }
 }
 
 fn read_row(body: &[u8], place: Place) -> Row
-    requires { ⌜ (length (now body) ≤ 262144) × (place .start + 4 ≤ place .at) × Stands (now body) (place .at) ⌝ }
+    requires { ⌜ (length (now body) ≤ 262144) × Stands (now body) (place .at) ⌝ }
     ensures { λ r. ⌜ rowOf r ≡ rowAt (now (body .entry)) place ⌝ }
 {
     let at = place.at;
-    let ssrc = parser::u32_from_be_bytes(body, place.start);
+    let ssrc = place.ssrc;
     let type_ = wide(body[at]);
     let value = at as u32;
     if type_ == 0 {
@@ -104,7 +113,7 @@ fn write_row(rows: &mut [u32], i: usize, row: Row)
 
 // Lays the row of a place at index i, and gives the place of the next row.
 fn lay_row(body: &[u8], place: Place, rows: &mut [u32], i: usize) -> Place
-    requires { ⌜ (length (now body) ≤ 262144) × (place .start + 4 ≤ place .at) × Stands (now body) (place .at) × (i + 5 ≤ length (now rows)) ⌝ }
+    requires { ⌜ (length (now body) ≤ 262144) × Stands (now body) (place .at) × (i + 5 ≤ length (now rows)) ⌝ }
     ensures { λ r. ⌜ (r ≡ placeAfter (now (body .entry)) place) × (now (rows .exit) ≡ store i (rowAt (now (body .entry)) place) (now (rows .entry))) ⌝ }
 {
     let row = read_row(body, place);
@@ -113,12 +122,12 @@ fn lay_row(body: &[u8], place: Place, rows: &mut [u32], i: usize) -> Place
     next
 }
 
-// How many rows there are, from the items of the first chunk on.
+// How many rows there are.
 fn count_rows(body: &[u8]) -> usize
-    requires { ⌜ (length (now body) ≤ 262144) × ((n : ℕ) × RowsAt n (now body) (record { start = 4; at = 8 })) ⌝ }
-    ensures { λ r. ⌜ (r ≤ 262144) × RowsAt r (now (body .entry)) (record { start = 4; at = 8 }) ⌝ }
+    requires { ⌜ (length (now body) ≤ 262144) × ((n : ℕ) × RowsAt n (now body) (chunkPlace (now body) 4)) ⌝ }
+    ensures { λ r. ⌜ (r ≤ 262144) × RowsAt r (now (body .entry)) (chunkPlace (now (body .entry)) 4) ⌝ }
 {
-    let mut place = Place { start: 4, at: 8 };
+    let mut place = chunk_place(body, 4);
     let mut n = 0;
     while place.at < body.len() {
         place = after(body, place);
@@ -127,18 +136,29 @@ fn count_rows(body: &[u8]) -> usize
     n
 }
 
-fn lay_rows(body: &[u8], n: usize, rows: &mut [u32])
-    requires { ⌜ (length (now body) ≤ 262144) × RowsAt n (now body) (record { start = 4; at = 8 }) × (n * 5 ≤ length (now rows)) ⌝ }
-    ensures { λ _. ⌜ now (rows .exit) ≡ store 0 (rowsFrom n (now (body .entry)) (record { start = 4; at = 8 })) (now (rows .entry)) ⌝ }
+// How long a list has to be; 0 where this room is surely enough, which spares the count: a row takes two bytes of the body at least.
+fn needed(body: &[u8], room: usize) -> usize
+    requires { ⌜ (length (now body) ≤ 262144) × ((n : ℕ) × RowsAt n (now body) (chunkPlace (now body) 4)) ⌝ }
+    ensures { λ r. ⌜ Needed (now (body .entry)) room r ⌝ }
 {
-    let mut place = Place { start: 4, at: 8 };
+    if body.len() / 2 * 5 <= room {
+        return 0;
+    }
+    count_rows(body) * 5
+}
+
+// Lays the rows from the list's start on, and says how many numbers they are.
+fn lay_rows(body: &[u8], rows: &mut [u32]) -> usize
+    requires { ⌜ (length (now body) ≤ 262144) × ((n : ℕ) × RowsAt n (now body) (chunkPlace (now body) 4) × (n * 5 ≤ length (now rows))) ⌝ }
+    ensures { λ r. ⌜ RowsLaid (now (body .entry)) (now (rows .entry)) r (now (rows .exit)) ⌝ }
+{
+    let mut place = chunk_place(body, 4);
     let mut i = 0;
-    let mut left = n;
-    while 0 < left {
+    while place.at < body.len() {
         place = lay_row(body, place, rows, i);
         i += 5;
-        left -= 1;
     }
+    i
 }
 
 // Five numbers for each item: the SSRC of its chunk, its type, the place of its value counted from the packet's start, the length of its
@@ -154,11 +174,9 @@ pub fn items(s: &[u8], rows: &mut [u32]) -> Listed
     };
     let end = sdes.body;
     let body = &s[..end];
-    let n = count_rows(body);
-    let size = n * 5;
+    let size = needed(body, rows.len());
     if rows.len() < size {
         return Listed::TooShort(size);
     }
-    lay_rows(body, n, rows);
-    Listed::Len(size)
+    Listed::Len(lay_rows(body, rows))
 }

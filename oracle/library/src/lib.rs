@@ -195,6 +195,7 @@ functions! {
     "rtcp_chunk_walk_step" rtcp_chunk_walk_step(s: &[u8], at: u64, end: u64) -> RtcpChunkStep;
     "rtcp_item_walk_open" rtcp_item_walk_open(s: &[u8]) -> RtcpItemWalk;
     "rtcp_item_walk_step" rtcp_item_walk_step(s: &[u8], at: u64) -> RtcpItemStep;
+    "rtcp_sdes_items" rtcp_sdes_items(s: &[u8], rows: &mut [u32]) -> RtcpWritten;
     "rtcp_compound_parse" rtcp_compound_parse(s: &[u8]) -> RtcpCompound;
     "rtcp_walk_open" rtcp_walk_open(s: &[u8]) -> RtcpWalk;
     "rtcp_walk_step" rtcp_walk_step(s: &[u8], at: u64) -> RtcpStep;

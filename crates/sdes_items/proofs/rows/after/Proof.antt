@@ -3,53 +3,54 @@ use Rattle.sdes_items.proofs.rows.after.Statement.{statement}
 use Rattle.sdes_items.proofs.rows.after.Tie as tie
 use Rattle.sdes_items.proofs.rows.after.Reads as reads
 use Rattle.sdes_items.proofs.rows.after.Lts as lts
+use Rattle.sdes_items.proofs.rows.chunk_place.Reads as chunk-place-reads
 use Rattle.sdes_items.proofs.rows.wide.Reads as wide-reads
 
--- src/rows.rt:43:8
+-- src/rows.rt:56:8
 shared-slice-read-if1 : tie.Need-shared-slice-read-if1
 shared-slice-read-if1 c = search rows
 
--- src/rows.rt:44:27
-sub-start : tie.Need-sub-start
-sub-start c = search rows
+-- src/rows.rt:57:40
+sub-chunk-place : tie.Need-sub-chunk-place
+sub-chunk-place c = search rows
 
--- src/rows.rt:44:21
-add-start : tie.Need-add-start
-add-start c = search rows
+-- src/rows.rt:57:34
+add-chunk-place : tie.Need-add-chunk-place
+add-chunk-place c = search rows
 
--- src/rows.rt:47:17
-add-t9 : tie.Need-add-t9
-add-t9 c = search rows
+-- src/rows.rt:57:9
+chunk-place-requires : tie.Need-chunk-place-requires
+chunk-place-requires c κs = search rows
 
--- src/rows.rt:45:9
+-- src/rows.rt:57:9
 returns : tie.Need-returns
 returns c = search rows
 
--- src/rows.rt:50:28
+-- src/rows.rt:59:28
 add-wide : tie.Need-add-wide
 add-wide c = search rows
 
--- src/rows.rt:50:23
+-- src/rows.rt:59:23
 shared-slice-read-wide : tie.Need-shared-slice-read-wide
 shared-slice-read-wide c = search rows
 
--- src/rows.rt:50:18
+-- src/rows.rt:59:18
 wide-requires : tie.Need-wide-requires
 wide-requires c κs = search rows
 
--- src/rows.rt:50:18
+-- src/rows.rt:59:18
 cast-length : tie.Need-cast-length
 cast-length c = search rows
 
--- src/rows.rt:53:13
+-- src/rows.rt:62:13
 add-t12 : tie.Need-add-t12
 add-t12 c = search rows
 
--- src/rows.rt:53:13
+-- src/rows.rt:62:13
 add-t14 : tie.Need-add-t14
 add-t14 c = search rows
 
--- src/rows.rt:38:1
+-- src/rows.rt:51:1
 returns-2 : tie.Need-returns-2
 returns-2 c = search rows
 
@@ -58,9 +59,9 @@ after-spec =
     tie.close
     (tie.spec
     shared-slice-read-if1
-    sub-start
-    add-start
-    add-t9
+    sub-chunk-place
+    add-chunk-place
+    chunk-place-requires
     returns
     add-wide
     shared-slice-read-wide

@@ -8,60 +8,58 @@ use Rattle.sdes_items.proofs.rows.items.Reads as reads
 use Rattle.sdes_items.proofs.rows.items.Lts as lts
 use Rattle.sdes.proofs.sdes.ParsedSdes.refusal.Reads as refusal-reads
 use Rattle.sdes.proofs.sdes.Sdes.parse.Reads as parse-reads
-use Rattle.sdes_items.proofs.rows.count_rows.Reads as count-rows-reads
 use Rattle.sdes_items.proofs.rows.lay_rows.Reads as lay-rows-reads
+use Rattle.sdes_items.proofs.rows.needed.Reads as needed-reads
 
--- src/rows.rt:151:9
+-- src/rows.rt:171:9
 parse-requires : tie.Need-parse-requires
 parse-requires c κs = search rows
 
--- src/rows.rt:152:26
+-- src/rows.rt:172:26
 enum-known-parsed : tie.Need-enum-known-parsed
 enum-known-parsed c = search rows
 
--- src/rows.rt:153:32
+-- src/rows.rt:173:32
 enum-told : tie.Need-enum-told
 enum-told c = search rows
 
--- src/rows.rt:153:32
+-- src/rows.rt:173:32
 refusal-requires : tie.Need-refusal-requires
 refusal-requires c κs = search rows
 
--- src/rows.rt:153:9
+-- src/rows.rt:173:9
 returns : tie.Need-returns
 returns c = search rows
 
--- src/rows.rt:156:9
+-- src/rows.rt:176:9
 slice-aggregate-body : tie.Need-slice-aggregate-body
 slice-aggregate-body c = search rows
 
--- src/rows.rt:157:9
-count-rows-requires : tie.Need-count-rows-requires
-count-rows-requires c κs =
+-- src/rows.rt:177:9
+needed-requires : tie.Need-needed-requires
+needed-requires c κs =
     let q = c .before .before .before .before in
     let known : (i : ℕ) → getD (q .before .before .before .args .s .now) i 0 < 256 = λ i. omega (arith, q .before .before .shared-slice-known .given i) in
     (items-most _ _ (q .parse .ensures) _ (c .before .before .parsed .given .1) known, items-rows _ _ (q .parse .ensures) _ (c .before .before .parsed .given .1))
 
--- src/rows.rt:158:16
-mul-size : tie.Need-mul-size
-mul-size c = search rows
-
--- src/rows.rt:160:9
+-- src/rows.rt:179:9
 returns-2 : tie.Need-returns-2
 returns-2 c = search rows
 
--- src/rows.rt:162:5
+-- src/rows.rt:181:17
 lay-rows-requires : tie.Need-lay-rows-requires
 lay-rows-requires c κs =
-    let q = c .before .before .before .before .before .before .before in
+    let e = c .before .before in
+    let q = e .before .before .before .before .before in
     let known : (i : ℕ) → getD (q .before .before .before .args .s .now) i 0 < 256 = λ i. omega (arith, q .before .before .shared-slice-known .given i) in
-    (items-most _ _ (q .parse .ensures) _ (c .before .before .before .before .before .parsed .given .1) known, c .before .before .count-rows .ensures .1, c .before .if1 .left)
+    let w = e .needed .ensures in
+    (items-most _ _ (q .parse .ensures) _ (e .before .before .before .parsed .given .1) known, (w .n, w .rows, w .enough (c .before .if1 .left)))
 
--- src/rows.rt:148:1
+-- src/rows.rt:168:1
 same-length : tie.Need-same-length
 same-length c = search rows
 
--- src/rows.rt:148:1
+-- src/rows.rt:168:1
 returns-3 : tie.Need-returns-3
 returns-3 c = search rows
 
@@ -75,8 +73,7 @@ items-spec =
     refusal-requires
     returns
     slice-aggregate-body
-    count-rows-requires
-    mul-size
+    needed-requires
     returns-2
     lay-rows-requires
     same-length

@@ -7,23 +7,23 @@ use Rattle.sdes_items.proofs.rows.after.Reads as after-reads
 use Rattle.sdes_items.proofs.rows.read_row.Reads as read-row-reads
 use Rattle.sdes_items.proofs.rows.write_row.Reads as write-row-reads
 
--- src/rows.rt:110:9
+-- src/rows.rt:119:9
 read-row-requires : tie.Need-read-row-requires
 read-row-requires c κs = search rows
 
--- src/rows.rt:111:9
+-- src/rows.rt:120:9
 after-requires : tie.Need-after-requires
 after-requires c κs = search rows
 
--- src/rows.rt:112:5
+-- src/rows.rt:121:5
 write-row-requires : tie.Need-write-row-requires
 write-row-requires c κs = search rows
 
--- src/rows.rt:106:1
+-- src/rows.rt:115:1
 same-length : tie.Need-same-length
 same-length c = search rows
 
--- src/rows.rt:106:1
+-- src/rows.rt:115:1
 returns : tie.Need-returns
 returns c = search rows
 

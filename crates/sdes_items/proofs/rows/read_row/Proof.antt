@@ -5,79 +5,74 @@ use Rattle.sdes_items.proofs.rows.read_row.Tie as tie
 use Rattle.sdes_items.proofs.rows.read_row.Reads as reads
 use Rattle.sdes_items.proofs.rows.read_row.Lts as lts
 use Rattle.sdes_items.proofs.rows.wide.Reads as wide-reads
-use Rattle.utils.proofs.parser.u32_from_be_bytes.Reads as u32-from-be-bytes-reads
 
--- src/rows.rt:62:9
-u32-from-be-bytes-requires : tie.Need-u32-from-be-bytes-requires
-u32-from-be-bytes-requires c κs = search rows
-
--- src/rows.rt:63:22
+-- src/rows.rt:72:22
 shared-slice-read-wide : tie.Need-shared-slice-read-wide
 shared-slice-read-wide c = search rows
 
--- src/rows.rt:63:9
+-- src/rows.rt:72:9
 wide-requires : tie.Need-wide-requires
 wide-requires c κs = search rows
 
--- src/rows.rt:64:17
+-- src/rows.rt:73:17
 cast-value : tie.Need-cast-value
 cast-value c = search rows
 
--- src/rows.rt:66:9
+-- src/rows.rt:75:9
 returns : tie.Need-returns
 returns c = search rows
 
--- src/rows.rt:74:28
+-- src/rows.rt:83:28
 add-wide : tie.Need-add-wide
 add-wide c = search rows
 
--- src/rows.rt:74:23
+-- src/rows.rt:83:23
 shared-slice-read-wide-2 : tie.Need-shared-slice-read-wide-2
 shared-slice-read-wide-2 c = search rows
 
--- src/rows.rt:74:9
+-- src/rows.rt:83:9
 wide-requires-2 : tie.Need-wide-requires-2
 wide-requires-2 c κs = search rows
 
--- src/rows.rt:79:20
+-- src/rows.rt:88:20
 add-t14 : tie.Need-add-t14
 add-t14 c = search rows
 
--- src/rows.rt:76:9
+-- src/rows.rt:85:9
 returns-2 : tie.Need-returns-2
 returns-2 c = search rows
 
--- src/rows.rt:84:28
+-- src/rows.rt:93:28
 add-wide-2 : tie.Need-add-wide-2
 add-wide-2 c = search rows
 
--- src/rows.rt:84:23
+-- src/rows.rt:93:23
 shared-slice-read-wide-3 : tie.Need-shared-slice-read-wide-3
 shared-slice-read-wide-3 c =
     let a = c .before .before .before .before .before in
-    stands-prefix _ _ (a .before .before .before .before .pre .2) _ (a .wide .ensures .0) _ (c .before .if2 .left) (c .before .before .wide2 .ensures .0)
+    stands-prefix _ _ (a .before .before .before .pre .1) _ (a .wide .ensures .0) _ (c .before .if2 .left) (c .before .before .wide2 .ensures .0)
 
--- src/rows.rt:84:9
+-- src/rows.rt:93:9
 wide-requires-3 : tie.Need-wide-requires-3
 wide-requires-3 c κs = search rows
 
--- src/rows.rt:88:16
+-- src/rows.rt:97:16
 add-t16 : tie.Need-add-t16
 add-t16 c = search rows
 
--- src/rows.rt:88:16
+-- src/rows.rt:97:16
 add-t17 : tie.Need-add-t17
 add-t17 c = search rows
 
--- src/rows.rt:90:17
+-- src/rows.rt:99:17
 sub-t18 : tie.Need-sub-t18
 sub-t18 c = search rows
 
--- src/rows.rt:90:17
+-- src/rows.rt:99:17
 sub-t19 : tie.Need-sub-t19
 sub-t19 c = search rows
 
--- src/rows.rt:57:1
+-- src/rows.rt:66:1
 returns-3 : tie.Need-returns-3
 returns-3 c = search rows
 
@@ -85,7 +80,6 @@ pub read-row-spec : {M : Type 1} → statement M
 read-row-spec =
     tie.close
     (tie.spec
-    u32-from-be-bytes-requires
     shared-slice-read-wide
     wide-requires
     cast-value
