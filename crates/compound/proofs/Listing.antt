@@ -13,14 +13,13 @@ use Rattle.rfc3550.specs.Packet.{Packet as Read, type, layout, layouts, Valid, 
 use Rattle.rfc3550.specs.Read.{typeIn, stated}
 use Rattle.rfc3550.specs.Compound.{readCompound}
 use Rattle.rfc3550.proofs.Answer.{mapOk-inv}
-use Rattle.rfc3550.proofs.Bytes.{length-store}
+use Rattle.rfc3550.proofs.Bytes.{length-store, bytes-each}
 use Rattle.rfc3550.proofs.Packet.{length-layout}
 use Rattle.rfc3550.proofs.Compound.{follow-stated, compound-sound}
 use Rattle.utils.specs.Error.{refusalIn}
 use Rattle.utils.specs.List.{layList}
 use Rattle.utils.specs.declared.error.RtcpParseError.{RtcpParseError}
 use Rattle.utils.proofs.Lists.{lay-refused, lay-short, lay-done}
-use Rattle.utils.proofs.Numbers.{bytes-each}
 use Rattle.utils.proofs.Reading.{mapOk-refused}
 use Rattle.utils.proofs.WriterStores.{store-nil, store-store, puts, store-puts}
 use Rattle.compound.specs.Compound.{compoundView, rowsFrom, packetRows, parsedCompoundOf}

@@ -9,7 +9,7 @@ use Rattle.rfc3550.specs.Bytes.{Bytes, Fits}
 use Rattle.rfc3550.specs.Packet.{Reporter, reporterFields}
 use Rattle.rfc3550.specs.Write.{giveReport}
 use Rattle.rfc3550.specs.Writer.{Writer, fresh, Request, add, close, call}
-use Rattle.utils.proofs.Numbers.{bytes-each}
+use Rattle.rfc3550.proofs.Bytes.{bytes-each}
 use Rattle.compound_write.specs.Writer.{outcomeOf, writerOf, addBlocks}
 use Rattle.report_write.specs.Report.{senderOf, blocksFrom, fractionsIn, flatBlocks}
 use Rattle.report_write.specs.declared.sender.SenderInfo.{SenderInfo}

@@ -17,7 +17,7 @@ use Rattle.rfc3550.specs.Writer.{Request, add, close}
 use Rattle.rfc3550.specs.Book.{Book, empty, firstFault, listed, turn}
 use Rattle.rfc3550.specs.Claim.{Closing, still-open, reads, once}
 use Rattle.rfc3550.proofs.Answer.{true≢false, ok-injective, refused≢ok, bind-elim, mapOk-inv}
-use Rattle.rfc3550.proofs.Bytes.{bytes-take}
+use Rattle.rfc3550.proofs.Bytes.{bytes-take, bytes-each}
 use Rattle.rfc3550.proofs.Walk.{walk-gives}
 use Rattle.report_write.specs.declared.sender.SenderInfo.{SenderInfo}
 use Rattle.compound.specs.Compound.{compoundView, parsedCompoundOf, walkAt, openedOf, stepView, steppedOf}
@@ -35,7 +35,6 @@ use Rattle.leave.specs.Reading.{begunAt, onward, stepAt, ReadsBack, Hand
 use Rattle.leave.specs.declared.Left.{Left}
 use Rattle.leave.specs.declared.ReadBack.{ReadBack}
 use Rattle.leave.specs.declared.LeftAndRead.{LeftAndRead}
-use Rattle.utils.proofs.Numbers.{bytes-each}
 use Rattle.leave.proofs.Leaving.{left-within}
 
 -- ---- the places of the steps

@@ -14,10 +14,10 @@ use Rattle.rfc3550.specs.Bytes.{val, get, store}
 use Rattle.rfc3550.specs.Loss.{lossOf}
 use Rattle.rfc3550.specs.Packet.{Block, blockWidths}
 use Rattle.rfc3550.specs.Read.{blockOf, readBlock, readBlocks}
-use Rattle.rfc3550.proofs.Bytes.{val-take-lt, bytes-drop, length-store}
+use Rattle.rfc3550.proofs.Bytes.{val-take-lt, bytes-drop, length-store, bytes-each}
 use Rattle.utils.specs.List.{layList}
 use Rattle.utils.proofs.Lists.{lay-short, lay-done}
-use Rattle.utils.proofs.Numbers.{bytes-each, val-byte, val-join}
+use Rattle.utils.proofs.Numbers.{val-byte, val-join}
 use Rattle.utils.proofs.Parts.{length-readBlocks}
 use Rattle.utils.proofs.WriterStores.{store-nil, store-store, puts, store-puts}
 use Rattle.report.specs.Block.{blockView, blockNumbers, blocksNumbers}

@@ -51,6 +51,10 @@ bytes-getD [] i h = omega arith
 bytes-getD (b ∷ bs) zero h = h .0
 bytes-getD (b ∷ bs) (suc i) h = bytes-getD bs i (h .1)
 
+pub bytes-each : (bs : List ℕ) → ((i : ℕ) → getD bs i 0 < 256) → Bytes bs
+bytes-each [] h = tt
+bytes-each (b ∷ bs) h = (h 0, bytes-each bs (λ i. h (suc i)))
+
 pub bytes-append : (a b : List ℕ) → Bytes a → Bytes b → Bytes (a ++ b)
 bytes-append [] b h k = k
 bytes-append (x ∷ xs) b h k = (h .0, bytes-append xs b (h .1) k)

@@ -1,4 +1,4 @@
--- Bytes, and numbers of several bytes, over their widths.
+-- Numbers of several bytes, over their widths.
 use mathlib.Core.Path.{_≡_, refl, _∙_}
 use mathlib.Core.List.{List, [], _∷_, _++_}
 use Prim.Native.Nat.{ℕ, zero, suc, _+_, _*_, _^_, _<_, _≤_}
@@ -7,12 +7,7 @@ use native.Mathlib.Omega.{arith}
 use lib.ListN.{length, take, drop, getD, length-append, length-drop}
 use lib.Pow.{pow-add}
 use lib.Seq.{take-add, drop-drop, length-take-le}
-use Rattle.rfc3550.specs.Bytes.{Bytes, val}
-
--- what the type of a lent slice says of it
-pub bytes-each : (l : List ℕ) → ((i : ℕ) → getD l i 0 < 256) → Bytes l
-bytes-each [] h = tt
-bytes-each (b ∷ bs) h = (h 0, bytes-each bs (λ i. h (suc i)))
+use Rattle.rfc3550.specs.Bytes.{val}
 
 pub val-append : (a b : List ℕ) → val (a ++ b) ≡ val a * 256 ^ length b + val b
 unfolding val

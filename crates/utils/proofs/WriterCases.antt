@@ -8,15 +8,15 @@ use native.Mathlib.Nat.{div-one, le-antisymm}
 use native.Mathlib.Numerals.{add-one}
 use native.Mathlib.Omega.{arith}
 use borrow.Author.Tests.{eq-eqb, ne-eqb}
-use lib.ListN.{length, take, set, getD, replicate, length-append, length-set, length-replicate, replicate-append-replicate}
-use lib.Seq.{take-suc, take-length, length-take-le}
+use lib.ListN.{length, take, drop, set, getD, replicate, length-append, length-drop, length-set, length-replicate, replicate-append-replicate}
+use lib.Seq.{take-suc, take-add, take-length, length-take-le}
 use lib.Dec.{leb}
-use Rattle.rfc3550.specs.Bytes.{be, store}
+use Rattle.rfc3550.specs.Bytes.{be, val, store}
 use Rattle.rfc3550.specs.Packet.{paddingBit}
 use Rattle.rfc3550.specs.Write.{paddingOk, paddingBytes}
-use Rattle.rfc3550.proofs.Bytes.{length-be, length-store}
+use Rattle.rfc3550.proofs.Bytes.{length-be, length-store, be-take, bytes-drop, bytes-each}
 use Rattle.utils.specs.Writer.{firstByte, header}
-use Rattle.utils.proofs.WriterStores.{store-nil, store-store, store-snoc, store-puts, store-number, puts, digits}
+use Rattle.utils.proofs.WriterStores.{store-nil, store-store, store-over, store-snoc, store-puts, store-number, puts, digits}
 
 -- ---- padding
 
@@ -65,6 +65,11 @@ module _ (at v : ℕ) (l : List ℕ) where
   pub u64-laid : v < 2 ^ 64 → at + 8 ≤ length l → puts at 1 (v / 281474976710656 % 256 ∷ v / 1099511627776 % 256 ∷ v / 4294967296 % 256 ∷ v / 16777216 % 256 ∷ v / 65536 % 256 ∷ v / 256 % 256 ∷ v % 256 ∷ []) (set l at (v / 72057594037927936 % 256)) ≡ store at (be 8 v) l
   u64-laid f h = rw div-one at (store-number 7 at v l f h)
 
+-- the w bytes from index k on, read as a number and laid down as that number
+pub number-copied : (w at k v : ℕ) (src l l₁ : List ℕ) → ((i : ℕ) → getD src i 0 < 256) → k + w ≤ length src → v ≡ val (take w (drop k src)) → l₁ ≡ store (at + k) (be w v) l → l₁ ≡ store (at + k) (take w (drop k src)) l
+number-copied w at k v src l l₁ y h e f =
+    f ∙ rw (e, be-take w (drop k src) (rw length-drop (omega arith)) (bytes-drop k src (bytes-each src y)))
+
 -- ---- loops
 
 -- after k turns the first k bytes of src are stored
@@ -79,16 +84,53 @@ module _ (at : ℕ) (l : List ℕ) where
   laid-more : (b k : ℕ) (bs l₁ : List ℕ) → length bs ≡ k → at + k < length l → Laid at bs l l₁ → Laid at (bs ++ (b ∷ [])) l (set l₁ (at + k) b)
   laid-more b k bs l₁ e h w = record { is = rw (w .is) (store-snoc at k b bs l e h); long = simp length-set (w .long) }
 
-  pub bytes-more : (k : ℕ) (src l₁ : List ℕ) → k < length src → at + length src ≤ length l → Laid at (take k src) l l₁ → Laid at (take (k + 1) src) l (set l₁ (at + k) (getD src k 0))
-  bytes-more k src l₁ h f w = rw (add-one, take-suc src k 0 h) (laid-more (getD src k 0) k (take k src) l₁ (length-take-le k src (omega arith)) (omega arith) w)
-
   pub zeros-more : (k n : ℕ) (l₁ : List ℕ) → k < n → at + n ≤ length l → Laid at (replicate k 0) l l₁ → Laid at (replicate (k + 1) 0) l (set l₁ (at + k) 0)
   zeros-more k n l₁ h f w = rw (← replicate-append-replicate {A = ℕ} k 1 0) (laid-more 0 k (replicate k 0) l₁ (length-replicate _ _) (omega arith) w)
 
-  pub bytes-done : (k : ℕ) (src l₁ : List ℕ) → k ≤ length src → length src ≤ k → Laid at (take k src) l l₁ → l₁ ≡ store at src l
-  bytes-done k src l₁ h f w = let e : k ≡ length src = omega arith in rw (e, take-length) at (w .is)
+  -- w bytes of src from index j on, of which the first k - j are stored already
+  copied : (w j k : ℕ) (src l₁ l₂ : List ℕ) → j ≤ k → k ≤ j + w → j + w ≤ length src → at + length src ≤ length l → l₂ ≡ store (at + j) (take w (drop j src)) l₁ → Laid at (take k src) l l₁ → Laid at (take (j + w) src) l l₂
+  copied w j k src l₁ l₂ f g h s e v =
+      let d : length (drop j src) ≡ length src - j = length-drop j src in
+      let a : length (take j src) ≡ j = length-take-le j src (omega arith) in
+      let b : length (take (k - j) (drop j src)) ≡ k - j = length-take-le (k - j) (drop j src) (omega arith) in
+      let x : length (take w (drop j src)) ≡ w = length-take-le w (drop j src) (omega arith) in
+      let m : length (store at (take j src) l) ≡ length l = length-store at (take j src) l (omega arith) in
+      let t : take k src ≡ take j src ++ take (k - j) (drop j src) =
+      let z : k ≡ j + (k - j) = omega arith in
+      ap (λ (n : ℕ). take n src) z ∙ take-add j (k - j) src in
+      let o : l₁ ≡ store (at + j) (take (k - j) (drop j src)) (store at (take j src) l) =
+      v .is ∙ rw t (sym (store-store at (at + j) (take j src) (take (k - j) (drop j src)) l (omega arith) (omega arith))) in
+      let is : l₂ ≡ store at (take (j + w) src) l =
+      e ∙ rw (o, store-over (at + j) (take (k - j) (drop j src)) (take w (drop j src)) (store at (take j src) l) (omega arith) (omega arith), take-add j w src)
+      (store-store at (at + j) (take j src) (take w (drop j src)) l (omega arith) (omega arith)) in
+      record { is = is; long = ap length is ∙ length-store at (take (j + w) src) l (omega (arith, length-take-le (j + w) src h)) }
+
+  pub group-more : (w k : ℕ) (src l₁ l₂ : List ℕ) → w < length src - k → at + length src ≤ length l → l₂ ≡ store (at + k) (take w (drop k src)) l₁ → Laid at (take k src) l l₁ → Laid at (take (k + w) src) l l₂
+  group-more w k src l₁ l₂ h s e v = copied w k k src l₁ l₂ (omega arith) (omega arith) (omega arith) s e v
+
+  -- the last w bytes of src, once all before them are stored
+  pub group-last : (w k : ℕ) (src l₁ l₂ : List ℕ) → w ≤ length src → k ≤ length src → length src - k ≤ w → at + length src ≤ length l → l₂ ≡ store (at + (length src - w)) (take w (drop (length src - w) src)) l₁ → Laid at (take k src) l l₁ → l₂ ≡ store at src l
+  group-last w k src l₁ l₂ h f g s e v =
+      let z : length src - w + w ≡ length src = omega arith in
+      rw (z, take-length) at (copied w (length src - w) k src l₁ l₂ (omega arith) (omega arith) (omega arith) s e v .is)
+
+  -- the first and the last w bytes
+  pub group-twice : (w : ℕ) (src l₁ l₂ : List ℕ) → l₂ ≡ store (at + (length src - w)) (take w (drop (length src - w) src)) l₁ → l₁ ≡ store (at + 0) (take w (drop 0 src)) l → w ≤ length src → length src ≤ w + w → at + length src ≤ length l → l₂ ≡ store at src l
+  group-twice w src l₁ l₂ e d h f s = group-last w (0 + w) src l₁ l₂ h (omega arith) (omega arith) s e (copied w 0 0 src l l₁ (omega arith) (omega arith) (omega arith) s d laid-none)
+
+  pub byte-alone : (src : List ℕ) → 0 < length src → length src < 2 → at + length src ≤ length l → set l at (getD src 0 0) ≡ store at src l
+  byte-alone (b ∷ []) e f h = store-puts at b [] l h
+  byte-alone [] e f h = absurd (omega arith)
+  byte-alone (b ∷ x ∷ src) e f h = absurd (omega arith)
+
+  pub bytes-none : (src : List ℕ) → length src ≤ 0 → l ≡ store at src l
+  bytes-none [] h = sym (store-nil at l)
+  bytes-none (b ∷ src) h = absurd (omega arith)
+
+  pub fill-laid : (k n : ℕ) → n ≡ suc k → at + n ≤ length l → puts at 1 (replicate k 0) (set l at 0) ≡ store at (replicate n 0) l
+  fill-laid k n e h = rw e (store-puts at 0 (replicate k 0) l (rw length-replicate (omega arith)))
 
   pub zeros-done : (k n : ℕ) (l₁ : List ℕ) → k ≤ n → n ≤ k → Laid at (replicate k 0) l l₁ → l₁ ≡ store at (replicate n 0) l
   zeros-done k n l₁ h f w = let e : k ≡ n = omega arith in rw e at (w .is)
 
-pub ruleset writer = (needs, padding-odd, padding-even, first-plain, first-padded, padding-none, padding-laid, header-laid, u16-laid, u32-laid, u64-laid, laid-none, bytes-more, zeros-more, bytes-done, zeros-done)
+pub ruleset writer = (needs, padding-odd, padding-even, first-plain, first-padded, padding-none, padding-laid, header-laid, u16-laid, u32-laid, u64-laid, laid-none, zeros-more, zeros-done, group-more, group-last, byte-alone, bytes-none)

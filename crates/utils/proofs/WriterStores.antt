@@ -28,6 +28,18 @@ store-store at k a b l e h =
     rw (← append-assoc, ← f, drop-append-add, drop-drop, g) in
     rw (t, d) (simp (append-assoc, length-append, ← add-assoc, e))
 
+-- a second store at the same place, at least as long as the first
+pub store-over : (at : ℕ) (a b l : List ℕ) → length a ≤ length b → at + length b ≤ length l → store at b (store at a l) ≡ store at b l
+unfolding store
+store-over at a b l s h =
+    let t : take at (store at a l) ≡ take at l = take-at (take at l) (a ++ drop (at + length a) l) at (length-take-le at l (omega arith)) in
+    let f : length (take at l ++ a) ≡ at + length a = simp (length-append, length-take-le at l (omega arith)) in
+    let d : drop (at + length b) (store at a l) ≡ drop (at + length b) l =
+    let g : at + length b ≡ length (take at l ++ a) + (length b - length a) = omega (arith, f) in
+    let k : at + length a + (length b - length a) ≡ at + length b = omega arith in
+    rw (← append-assoc, g, drop-append-add, drop-drop, f, k) in
+    rw (t, d)
+
 -- lists laid end to end, and stored one after the other, the first k bytes after at
 abbrev pub concat : List (List ℕ) → List ℕ
 concat [] = []

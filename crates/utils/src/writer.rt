@@ -1,9 +1,10 @@
 // Numbers, zeros, runs of bytes, headers and padding laid into a buffer (utils.rs, `writer`). Those named `.._unchecked` are
 // called where the bytes are known to fit.
 use crate::error::RtcpWriteError;
+use crate::parser;
 ghost use mathlib.Core.Path.{_≡_};
 ghost use Prim.Native.Nat.{_+_, _%_, _≤_, _<_};
-ghost use lib.ListN.{length, replicate};
+ghost use lib.ListN.{length, take, drop, replicate};
 ghost use Rattle.rfc3550.specs.Bytes.{be, store};
 ghost use Rattle.rfc3550.specs.Write.{paddingOk, paddingBytes};
 ghost use Rattle.utils.specs.Writer.{firstByte, header};
@@ -57,16 +58,96 @@ pub fn write_zeros_unchecked(buf: &mut [u8], at: usize, n: usize)
     }
 }
 
-pub fn write_bytes_unchecked(buf: &mut [u8], at: usize, src: &[u8])
-    requires { ⌜ at + length (now src) ≤ length (now buf) ⌝ }
+// One to four zeros. Without a loop: a loop over so few is compiled to a call.
+pub fn write_fill_unchecked(buf: &mut [u8], at: usize, n: usize)
+    requires { ⌜ (0 < n) × (n ≤ 4) × (at + n ≤ length (now buf)) ⌝ }
+    ensures { λ _. ⌜ now (buf .exit) ≡ store at (replicate n 0) (now (buf .entry)) ⌝ }
+{
+    buf[at] = 0;
+    if n == 1 {
+        return;
+    }
+    buf[at + 1] = 0;
+    if n == 2 {
+        return;
+    }
+    buf[at + 2] = 0;
+    if n == 3 {
+        return;
+    }
+    buf[at + 3] = 0;
+}
+
+// The eight bytes of src from index k on, each laid as far behind index at as it stands in src. As one number: it is compiled to one
+// load and one store.
+fn copy_eight(buf: &mut [u8], at: usize, src: &[u8], k: usize)
+    requires { ⌜ (k + 8 ≤ length (now src)) × (at + length (now src) ≤ length (now buf)) ⌝ }
+    ensures { λ _. ⌜ now (buf .exit) ≡ store (at + k) (take 8 (drop k (now (src .entry)))) (now (buf .entry)) ⌝ }
+{
+    let v = parser::u64_from_be_bytes(src, k);
+    write_u64_unchecked(buf, at + k, v);
+}
+
+fn copy_four(buf: &mut [u8], at: usize, src: &[u8], k: usize)
+    requires { ⌜ (k + 4 ≤ length (now src)) × (at + length (now src) ≤ length (now buf)) ⌝ }
+    ensures { λ _. ⌜ now (buf .exit) ≡ store (at + k) (take 4 (drop k (now (src .entry)))) (now (buf .entry)) ⌝ }
+{
+    let v = parser::u32_from_be_bytes(src, k);
+    write_u32_unchecked(buf, at + k, v);
+}
+
+fn copy_two(buf: &mut [u8], at: usize, src: &[u8], k: usize)
+    requires { ⌜ (k + 2 ≤ length (now src)) × (at + length (now src) ≤ length (now buf)) ⌝ }
+    ensures { λ _. ⌜ now (buf .exit) ≡ store (at + k) (take 2 (drop k (now (src .entry)))) (now (buf .entry)) ⌝ }
+{
+    let v = parser::u16_from_be_bytes(src, k);
+    write_u16_unchecked(buf, at + k, v);
+}
+
+// Less than eight bytes: the first and the last four, or two, which may share some.
+fn write_few(buf: &mut [u8], at: usize, src: &[u8])
+    requires { ⌜ (length (now src) < 8) × (at + length (now src) ≤ length (now buf)) ⌝ }
+    ensures { λ _. ⌜ now (buf .exit) ≡ store at (now (src .entry)) (now (buf .entry)) ⌝ }
+{
+    let n = src.len();
+    if 4 <= n {
+        copy_four(buf, at, src, 0);
+        copy_four(buf, at, src, n - 4);
+        return;
+    }
+    if 2 <= n {
+        copy_two(buf, at, src, 0);
+        copy_two(buf, at, src, n - 2);
+        return;
+    }
+    if 0 < n {
+        buf[at] = src[0];
+    }
+}
+
+// Eight bytes or more: by eights, and the last eight, which may share some with those before.
+fn write_many(buf: &mut [u8], at: usize, src: &[u8])
+    requires { ⌜ (8 ≤ length (now src)) × (at + length (now src) ≤ length (now buf)) ⌝ }
     ensures { λ _. ⌜ now (buf .exit) ≡ store at (now (src .entry)) (now (buf .entry)) ⌝ }
 {
     let n = src.len();
     let mut k: usize = 0;
-    while k < n {
-        buf[at + k] = src[k];
-        k += 1;
+    while 8 < n - k {
+        copy_eight(buf, at, src, k);
+        k += 8;
     }
+    copy_eight(buf, at, src, n - 8);
+}
+
+pub fn write_bytes_unchecked(buf: &mut [u8], at: usize, src: &[u8])
+    requires { ⌜ at + length (now src) ≤ length (now buf) ⌝ }
+    ensures { λ _. ⌜ now (buf .exit) ≡ store at (now (src .entry)) (now (buf .entry)) ⌝ }
+{
+    if src.len() < 8 {
+        write_few(buf, at, src);
+        return;
+    }
+    write_many(buf, at, src);
 }
 
 // Version 2, P and the low 5 bits.
