@@ -8,7 +8,7 @@ use native.Mathlib.Numerals.{add-one}
 use native.Mathlib.Omega.{arith}
 use borrow.Author.Tests.{le-leb, lt-leb, leb-true, eq-eqb, ne-eqb, eqb-true, eqb-false, lt-ltb, le-ltb, ltb-true, ltb-false, not-true, not-false}
 use lib.ListN.{length, take, drop, getD, replicate, length-append, length-take, length-drop, length-replicate, drop-of-length-le}
-use lib.Seq.{drop-cons, drop-drop, getD-drop, length-take-le}
+use lib.Seq.{drop-cons, drop-drop, getD-drop, take-add, length-take-le}
 use lib.Dec.{leb, ltb, eqb}
 use Rattle.rfc3550.specs.Answer.{Refusal, Answer, ok, refused, refusal, need, _>>_, _>>=_, pick}
 use Rattle.rfc3550.specs.Bytes.{be, sum, store}
@@ -24,12 +24,12 @@ use Rattle.utils.specs.declared.writer.Written.the-variants.{Size, Refused}
 use Rattle.utils.proofs.WriterCases.{writer}
 use Rattle.utils.proofs.WriterStores.{store-nil, store-store, store-part}
 use Rattle.utils.proofs.WriterPackets.{refused-written, short-written, done-written, parts-laid}
-use Rattle.chunk_write.specs.Sizes.{lent, itemLength, sizeOf, sizesOf, ItemFits}
+use Rattle.chunk_write.specs.Sizes.{lent, itemLength, sizeOf, sizesOf, headBytes, textStart, TextFits, TextLaid}
 use Rattle.chunk_write.specs.Lists.{leftOf, Listed, PartFits, lentAt, PartLaid, laidItems, ItemsFit, ItemsLaid, laidChunk, closed, ChunkFits, ChunkLaid}
 use Rattle.chunk_write.specs.declared.chunk.Rest.{Rest}
 use Rattle.chunk_write.specs.declared.chunk.Rest.the-variants.{Left, Over}
 use Rattle.chunk_write.specs.declared.chunk.Laid.{Laid}
-use Rattle.chunk_write.proofs.Items.{size-known, item-is, length-item}
+use Rattle.chunk_write.proofs.Items.{SizeKnown, size-known, item-is, length-item}
 
 -- ---- 24: what is left of a number
 
@@ -188,29 +188,76 @@ sizes-are n (t ∷ ts) (p ∷ ps) (v ∷ vs) bs ep ev h =
 
 -- ---- one item among others
 
-module _ (t p v from : ℕ) (bs : List ℕ) (at : ℕ) (l : List ℕ) (f : PartFits t p v from (length bs) at (length l)) where
-  length-prefix : length (take (from + p - from) (drop from bs)) ≡ p
-  length-prefix = rw (add-sub-cancel-left from p) (length-take-le p (drop from bs) (rw length-drop (omega (arith, f .bytes))))
+-- what is known of an item's text
+record TextKnown (t p v from : ℕ) (bs : List ℕ) (space : ℕ) (text : List ℕ) : Type 0 where
+  pub fits : TextFits t p (length text) space
+  pub size : length (headBytes t p (length text)) + length text ≡ itemLength t p v
+  pub bytes : headBytes t p (length text) ++ text ≡ itemBytes (itemGiven (lentAt t p v from bs))
 
-  length-value : length (take (from + p + v - (from + p)) (drop (from + p) bs)) ≡ v
-  length-value = rw (add-sub-cancel-left (from + p) v) (length-take-le v (drop (from + p) bs) (rw length-drop (omega (arith, f .bytes))))
+text-known : (t p v from : ℕ) (bs : List ℕ) (space s : ℕ) → from + p + v ≤ length bs → sizeOf t p v ≡ ok (itemLength t p v) → itemLength t p v ≤ space → s ≡ textStart t from (from + p)
+    → TextKnown t p v from bs space (take (from + p + v - s) (drop s bs))
+text-known t p v from bs space s h f g e = go (eqb t 8) refl e
+  where
+    k : SizeKnown t p v (itemLength t p v)
+    k = size-known t p v (itemLength t p v) f
 
+    lp : length (take p (drop from bs)) ≡ p
+    lp = length-take-le p (drop from bs) (rw length-drop (omega arith))
+
+    lv : length (take v (drop (from + p) bs)) ≡ v
+    lv = length-take-le v (drop (from + p) bs) (rw length-drop (omega arith))
+
+    whole : take (from + p + v - from) (drop from bs) ≡ take p (drop from bs) ++ take v (drop (from + p) bs)
+    whole = let z : from + p + v - from ≡ p + v = omega arith in rw (z, take-add p v (drop from bs), drop-drop p from bs)
+
+    go : (x : Bool) → eqb t 8 ≡ x → s ≡ pick x from (from + p) → TextKnown t p v from bs space (take (from + p + v - s) (drop s bs))
+    go true q i =
+        let te = eqb-true _ _ q in
+        let m = k .priv te in
+        let r : 3 + p + v ≤ space = rw q at g in
+        let n : length (take p (drop from bs) ++ take v (drop (from + p) bs)) ≡ p + v = rw (length-append, lp, lv) in
+        let o : 1 + length (take p (drop from bs) ++ take v (drop (from + p) bs)) ≡ suc (length (take p (drop from bs) ++ take v (drop (from + p) bs))) = omega arith in
+        rw (i, whole)
+        (record {
+          fits = record { priv = λ y. (omega arith, omega arith, omega arith); most = omega arith; room = omega arith };
+          size = rw q (omega arith);
+          bytes = rw (q, te, o) (ap (λ (y : ℕ). 8 ∷ suc (length (take p (drop from bs) ++ take v (drop (from + p) bs))) ∷ y ∷ (take p (drop from bs) ++ take v (drop (from + p) bs))) (sym lp));
+        })
+    go false q i =
+        let m = k .plain (eqb-false _ _ q) in
+        let r : 2 + v ≤ space = rw q at g in
+        let j : s ≡ from + p = i in
+        let n = lv in
+        rw (j, add-sub-cancel-left (from + p) v)
+        (record {
+          fits = record { priv = λ y. absurd (eqb-false _ _ q y); most = omega arith; room = omega arith };
+          size = rw q (omega arith);
+          bytes = rw q;
+        })
+
+pub start-priv : (t from middle : ℕ) → t ≡ 8 → from ≡ textStart t from middle
+start-priv t from middle e = rw (eq-eqb t 8 e)
+
+pub start-plain : (t from middle : ℕ) → (t ≡ 8 → ⊥) → middle ≡ textStart t from middle
+start-plain t from middle e = rw (ne-eqb t 8 e)
+
+module _ (t p v from : ℕ) (bs : List ℕ) (at : ℕ) (l : List ℕ) (f : PartFits t p v from (length bs) at (length l)) (s : ℕ) (e : s ≡ textStart t from (from + p)) where
   length-part : length (take (length l - at) (drop at l)) ≡ length l - at
   length-part = length-take-le (length l - at) (drop at l) (rw length-drop (omega arith))
 
-  pub part-fits : ItemFits t (length (take (from + p - from) (drop from bs))) (length (take (from + p + v - (from + p)) (drop (from + p) bs))) (length (take (length l - at) (drop at l)))
-  part-fits = rw (length-prefix, length-value, length-part) (record { passed = f .passed; room = omega (arith, f .room) })
+  known : TextKnown t p v from bs (length (take (length l - at) (drop at l))) (take (from + p + v - s) (drop s bs))
+  known = text-known t p v from bs _ s (f .bytes) (f .passed) (omega (arith, length-part, f .room)) e
 
-  pub part-laid : (r : ℕ) (last : List ℕ) → r ≡ itemLength t (length (take (from + p - from) (drop from bs))) (length (take (from + p + v - (from + p)) (drop (from + p) bs)))
-      → last ≡ store 0 (itemBytes (itemGiven (lent t (take (from + p - from) (drop from bs)) (take (from + p + v - (from + p)) (drop (from + p) bs))))) (take (length l - at) (drop at l))
-      → PartLaid t p v from bs at l r (take at l ++ (last ++ drop (length l - at) (drop at l)))
-  part-laid r last e b =
-      let z : r ≡ itemLength t p v = e ∙ rw (length-prefix, length-value) in
-      let lp : length (take p (drop from bs)) ≡ p = length-take-le p (drop from bs) (rw length-drop (omega (arith, f .bytes))) in
-      let lv : length (take v (drop (from + p) bs)) ≡ v = length-take-le v (drop (from + p) bs) (rw length-drop (omega (arith, f .bytes))) in
-      let n : length (itemBytes (itemGiven (lentAt t p v from bs))) ≡ itemLength t p v = length-item t (take p (drop from bs)) (take v (drop (from + p) bs)) ∙ rw (lp, lv) in
-      let b' : last ≡ store 0 (itemBytes (itemGiven (lentAt t p v from bs))) (take (length l - at) (drop at l)) = rw (add-sub-cancel-left from p, add-sub-cancel-left (from + p) v) at b in
-      record { size = z; bytes = rw b' (store-part at (itemBytes (itemGiven (lentAt t p v from bs))) l (omega (arith, n, f .room))); ends = omega (arith, f .room); taken = f .bytes }
+  pub part-fits : TextFits t p (length (take (from + p + v - s) (drop s bs))) (length (take (length l - at) (drop at l)))
+  part-fits = known .fits
+
+  pub part-laid : (r : ℕ) (last : List ℕ) → TextLaid t p (take (from + p + v - s) (drop s bs)) (take (length l - at) (drop at l)) r last → PartLaid t p v from bs at l r (take at l ++ (last ++ drop (length l - at) (drop at l)))
+  part-laid r last y =
+      let k = known in
+      let z : r ≡ itemLength t p v = y .size ∙ k .size in
+      let n : length (itemBytes (itemGiven (lentAt t p v from bs))) ≡ itemLength t p v = sym (ap length (k .bytes)) ∙ length-append (headBytes t p (length (take (from + p + v - s) (drop s bs)))) (take (from + p + v - s) (drop s bs)) ∙ k .size in
+      let b : last ≡ store 0 (itemBytes (itemGiven (lentAt t p v from bs))) (take (length l - at) (drop at l)) = rw (k .bytes) at (y .bytes) in
+      record { size = z; bytes = rw b (store-part at (itemBytes (itemGiven (lentAt t p v from bs))) l (omega (arith, n, f .room))); ends = omega (arith, f .room); taken = f .bytes }
 
 -- ---- items one after the other
 
@@ -404,4 +451,4 @@ module _ (ssrc : ℕ) (ts ps vs bs : List ℕ) where
     unfolding writeChunk
     chunk-done l l₁ n r q f y = done-written w _ _ l h n l₁ q f (y .bytes)
 
-pub ruleset chunks = (writer, not-true, not-false, left-start, left-short, left-again, left-done, prefixes-other, values-other, prefixes-over, values-over, lists-left, sizing-start, sizing-refused, sizing-again, sizing-fits, sizing-done, part-fits, part-laid, laying-start, laying-fits, laying-again, laying-done, chunk-items, chunk-laid, chunk-disagree, chunk-refused, chunk-over, chunk-size, chunk-fits, chunk-not-written, chunk-short, chunk-done)
+pub ruleset chunks = (writer, not-true, not-false, left-start, left-short, left-again, left-done, prefixes-other, values-other, prefixes-over, values-over, lists-left, sizing-start, sizing-refused, sizing-again, sizing-fits, sizing-done, start-priv, start-plain, part-fits, part-laid, laying-start, laying-fits, laying-again, laying-done, chunk-items, chunk-laid, chunk-disagree, chunk-refused, chunk-over, chunk-size, chunk-fits, chunk-not-written, chunk-short, chunk-done)

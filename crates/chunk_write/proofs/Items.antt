@@ -6,21 +6,22 @@ use mathlib.Core.Logic.{_⊎_, inl, inr}
 use mathlib.Core.List.{List, [], _∷_, _++_}
 use native.Mathlib.Omega.{arith}
 use borrow.Author.Tests.{le-leb, lt-leb, leb-true, eq-eqb, ne-eqb, eqb-true, eqb-false, not-true, not-false}
-use lib.ListN.{length, set, length-append, length-set}
+use lib.ListN.{length, take, drop, set, length-append, length-set}
 use lib.Dec.{leb, eqb}
 use Rattle.rfc3550.specs.Answer.{Answer, ok, refused, refusal, need, _>>_, pick}
 use Rattle.rfc3550.specs.Bytes.{store}
 use Rattle.rfc3550.specs.Packet.{item, priv, itemBytes}
 use Rattle.rfc3550.specs.Write.{LentItem, itemGiven, itemTests, itemSize, writeItem}
 use Rattle.rfc3550.proofs.Answer.{need-inv, need-ok, then-inv, then-assoc, ok-injective}
+use Rattle.rfc3550.proofs.Bytes.{length-store}
 use Rattle.utils.specs.Writer.{writtenOf}
 use Rattle.utils.specs.declared.error.RtcpWriteError.{RtcpWriteError}
 use Rattle.utils.specs.declared.writer.Written.{Written}
 use Rattle.utils.specs.declared.writer.Written.the-variants.{Size, Refused}
 use Rattle.utils.proofs.WriterCases.{writer}
-use Rattle.utils.proofs.WriterStores.{store-puts, store-store}
+use Rattle.utils.proofs.WriterStores.{store-puts, store-store, store-part}
 use Rattle.utils.proofs.WriterPackets.{refused-written, short-written, done-written}
-use Rattle.chunk_write.specs.Sizes.{lent, itemLength, sizeOf, ItemFits}
+use Rattle.chunk_write.specs.Sizes.{lent, itemLength, sizeOf, ItemFits, headBytes, TextFits, HeadLaid, TextLaid}
 
 -- ---- the size
 
@@ -150,4 +151,22 @@ module _ (t : ℕ) (p v : List ℕ) where
     unfolding writeItem
     item-done l l₁ n q f e = done-written w _ _ l h n l₁ q f e
 
-pub ruleset items = (writer, type-zero, prefix-over, priv-over, priv-size, plain-over, plain-size, item-size, plain-laid, priv-laid, priv-fits, plain-fits, priv-done, plain-done, item-fits, item-refused, item-short, item-done)
+-- ---- an item by its text
+
+module _ (t p n : ℕ) (l : List ℕ) (f : TextFits t p n (length l)) where
+  pub head-priv : t ≡ 8 → HeadLaid t p n l 3 (set (set (set l 0 t) 1 (1 + n)) 2 p)
+  head-priv e = let h = f .priv e in record { size = rw (eq-eqb t 8 e); bytes = rw (eq-eqb t 8 e) (store-puts 0 t ((1 + n) ∷ p ∷ []) l (omega arith)); ends = omega arith }
+
+  pub head-plain : (t ≡ 8 → ⊥) → HeadLaid t p n l 2 (set (set l 0 t) 1 n)
+  head-plain e = record { size = rw (ne-eqb t 8 e); bytes = rw (ne-eqb t 8 e) (store-puts 0 t (n ∷ []) l (omega (arith, f .room))); ends = f .room }
+
+pub text-laid : (t p : ℕ) (text l : List ℕ) (r : ℕ) (l₁ last : List ℕ) → HeadLaid t p (length text) l r l₁ → last ≡ store 0 text (take (length l₁ - r) (drop r l₁))
+    → TextLaid t p text l (r + length text) (take r l₁ ++ (last ++ drop (length l₁ - r) (drop r l₁)))
+text-laid t p text l r l₁ last y e =
+    let z = y .ends in
+    let s = y .size in
+    let n : length l₁ ≡ length l = ap length (y .bytes) ∙ length-store 0 (headBytes t p (length text)) l (omega arith) in
+    let b : take r l₁ ++ (last ++ drop (length l₁ - r) (drop r l₁)) ≡ store r text l₁ = rw e (store-part r text l₁ (omega arith)) in
+    record { size = rw s; bytes = b ∙ rw (y .bytes) (store-store 0 r (headBytes t p (length text)) text l (omega arith) (omega arith)) }
+
+pub ruleset items = (writer, type-zero, prefix-over, priv-over, priv-size, plain-over, plain-size, item-size, plain-laid, priv-laid, head-priv, head-plain, text-laid, priv-fits, plain-fits, priv-done, plain-done, item-fits, item-refused, item-short, item-done)

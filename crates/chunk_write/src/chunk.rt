@@ -5,12 +5,12 @@ use utils::error::RtcpWriteError;
 use utils::writer;
 use utils::writer::Written;
 ghost use mathlib.Core.Path.{_≡_};
-ghost use Prim.Native.Nat.{_+_, _*_, _<_, _^_};
+ghost use Prim.Native.Nat.{_+_, _*_, _<_, _≤_, _^_};
 ghost use lib.ListN.{length, getD};
 ghost use Rattle.rfc3550.specs.Bytes.{sum};
 ghost use Rattle.rfc3550.specs.Write.{itemsAgree, chunkSize, writeChunk};
 ghost use Rattle.utils.specs.Writer.{writtenOf};
-ghost use Rattle.chunk_write.specs.Sizes.{sizesOf};
+ghost use Rattle.chunk_write.specs.Sizes.{sizesOf, textStart};
 ghost use Rattle.chunk_write.specs.Lists.{leftOf, Listed, PartFits, PartLaid, ItemsFit, ItemsLaid, ChunkFits, ChunkLaid};
 
 // What is left of a number once a list's numbers are taken off it.
@@ -96,6 +96,17 @@ pub struct Laid {
     pub used: usize,
 }
 
+// Where the text of an item starts whose prefix starts at index from, and whose value starts at index middle.
+fn text_start(item_type: u8, from: usize, middle: usize) -> usize
+    requires { ⌜ from ≤ middle ⌝ }
+    ensures { λ r. ⌜ (r ≡ textStart «item_type» from middle) × (r ≤ middle) ⌝ }
+{
+    if item_type == 8 {
+        return from;
+    }
+    middle
+}
+
 // Lays the item whose bytes start at index from, at index at, and returns its size.
 fn write_item_at(
     buf: &mut [u8],
@@ -111,12 +122,8 @@ fn write_item_at(
 {
     let middle = from + prefix_len;
     let end = middle + value_len;
-    item::write_into_unchecked(
-        &mut buf[at..],
-        item_type,
-        &bytes[from..middle],
-        &bytes[middle..end],
-    )
+    let start = text_start(item_type, from, middle);
+    item::write_text_unchecked(&mut buf[at..], item_type, prefix_len, &bytes[start..end])
 }
 
 // Lays items that passed their checks at the start of buf.
@@ -163,7 +170,7 @@ pub fn write_into_unchecked(
     let items = write_items_unchecked(&mut buf[4..], types, prefixes, values, bytes);
     let at = 4 + items.size;
     let n = 4 - at % 4;
-    writer::write_zeros_unchecked(buf, at, n);
+    writer::write_fill_unchecked(buf, at, n);
     Laid {
         size: at + n,
         used: items.used,

@@ -10,7 +10,7 @@ ghost use Rattle.rfc3550.specs.Bytes.{store};
 ghost use Rattle.rfc3550.specs.Packet.{priv, item, itemBytes};
 ghost use Rattle.rfc3550.specs.Write.{itemGiven, itemSize, writeItem};
 ghost use Rattle.utils.specs.Writer.{writtenOf};
-ghost use Rattle.chunk_write.specs.Sizes.{lent, sizeOf, itemLength, ItemFits};
+ghost use Rattle.chunk_write.specs.Sizes.{lent, sizeOf, itemLength, ItemFits, TextFits, HeadLaid, TextLaid};
 
 // The size of an item of a type and two lengths, or why it is refused.
 pub fn check_item(item_type: u8, prefix_len: u64, value_len: u64) -> Written
@@ -77,6 +77,31 @@ pub fn write_into_unchecked(buf: &mut [u8], item_type: u8, prefix: &[u8], value:
     }
     write_plain(buf, item_type, value);
     2 + value.len()
+}
+
+// The bytes before an item's text: PRIV has its prefix length there too.
+fn write_head(buf: &mut [u8], item_type: u8, prefix_len: usize, text_len: usize) -> usize
+    requires { ⌜ TextFits «item_type» «prefix_len» «text_len» (length (now buf)) ⌝ }
+    ensures { λ r. ⌜ HeadLaid «item_type» «prefix_len» «text_len» (now (buf .entry)) r (now (buf .exit)) ⌝ }
+{
+    buf[0] = item_type;
+    if item_type == 8 {
+        buf[1] = (1 + text_len) as u8;
+        buf[2] = prefix_len as u8;
+        return 3;
+    }
+    buf[1] = text_len as u8;
+    2
+}
+
+// Lays an item by its text at the start of buf, and returns its size. The text of PRIV is its prefix and its value, in one run.
+pub fn write_text_unchecked(buf: &mut [u8], item_type: u8, prefix_len: usize, text: &[u8]) -> usize
+    requires { ⌜ TextFits «item_type» «prefix_len» (length (now text)) (length (now buf)) ⌝ }
+    ensures { λ r. ⌜ TextLaid «item_type» «prefix_len» (now (text .entry)) (now (buf .entry)) r (now (buf .exit)) ⌝ }
+{
+    let at = write_head(buf, item_type, prefix_len, text.len());
+    writer::write_bytes_unchecked(&mut buf[at..], 0, text);
+    at + text.len()
 }
 
 // The size of a lone item, or why it is refused.

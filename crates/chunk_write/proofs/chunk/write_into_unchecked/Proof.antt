@@ -6,7 +6,7 @@ use Rattle.chunk_write.proofs.chunk.write_into_unchecked.Reads as reads
 use Rattle.chunk_write.proofs.chunk.write_into_unchecked.Lts as lts
 use Rattle.chunk_write.proofs.chunk.write_items_unchecked.Reads as write-items-unchecked-reads
 use Rattle.utils.proofs.writer.write_u32_unchecked.Reads as write-u32-unchecked-reads
-use Rattle.utils.proofs.writer.write_zeros_unchecked.Reads as write-zeros-unchecked-reads
+use Rattle.utils.proofs.writer.write_fill_unchecked.Reads as write-fill-unchecked-reads
 
 -- src/chunk.rt:128:5
 write-u32-unchecked-requires : tie.Need-write-u32-unchecked-requires
@@ -37,8 +37,8 @@ sub-n : tie.Need-sub-n
 sub-n c = search chunks
 
 -- src/chunk.rt:132:5
-write-zeros-unchecked-requires : tie.Need-write-zeros-unchecked-requires
-write-zeros-unchecked-requires c κs = search chunks
+write-fill-unchecked-requires : tie.Need-write-fill-unchecked-requires
+write-fill-unchecked-requires c κs = search chunks
 
 -- src/chunk.rt:133:18
 add-t14 : tie.Need-add-t14
@@ -63,7 +63,7 @@ write-into-unchecked-spec =
     write-items-unchecked-requires
     add-at
     sub-n
-    write-zeros-unchecked-requires
+    write-fill-unchecked-requires
     add-t14
     same-length
     returns)
