@@ -8,7 +8,7 @@ use native.Mathlib.Numerals.{add-one}
 use native.Mathlib.Omega.{arith}
 use borrow.Author.Tests.{le-leb, lt-leb, leb-true, eq-eqb, ne-eqb, eqb-true, eqb-false, lt-ltb, le-ltb, ltb-true, ltb-false, not-true, not-false}
 use lib.ListN.{length, take, drop, getD, replicate, length-append, length-take, length-drop, length-replicate, drop-of-length-le}
-use lib.Seq.{drop-cons, drop-drop, getD-drop, take-add, length-take-le}
+use lib.Seq.{drop-cons, drop-drop, getD-drop, getD-take, take-add, take-all, length-take-le}
 use lib.Dec.{leb, ltb, eqb}
 use Rattle.rfc3550.specs.Answer.{Refusal, Answer, ok, refused, refusal, need, _>>_, _>>=_, pick}
 use Rattle.rfc3550.specs.Bytes.{be, sum, store}
@@ -25,7 +25,7 @@ use Rattle.utils.proofs.WriterCases.{writer}
 use Rattle.utils.proofs.WriterStores.{store-nil, store-store, store-part}
 use Rattle.utils.proofs.WriterPackets.{refused-written, short-written, done-written, parts-laid}
 use Rattle.chunk_write.specs.Sizes.{lent, itemLength, sizeOf, sizesOf, headBytes, textStart, TextFits, TextLaid}
-use Rattle.chunk_write.specs.Lists.{leftOf, Listed, PartFits, lentAt, PartLaid, laidItems, ItemsFit, ItemsLaid, laidChunk, closed, ChunkFits, ChunkLaid}
+use Rattle.chunk_write.specs.Lists.{leftOf, Listed, part, Within, PartFits, lentAt, PartLaid, laidItems, ItemsFit, ItemsLaid, laidChunk, closed, ChunkFits, ChunkLaid}
 use Rattle.chunk_write.specs.declared.chunk.Rest.{Rest}
 use Rattle.chunk_write.specs.declared.chunk.Rest.the-variants.{Left, Over}
 use Rattle.chunk_write.specs.declared.chunk.Laid.{Laid}
@@ -352,6 +352,79 @@ module _ (ts ps vs bs l : List ℕ) (f : ItemsFit ts ps vs bs (length l)) where
         let r : store at [] l₁ ≡ store 0 (laidItems ts ps vs bs) l = rw z at (w .rest) in
         record { size = omega arith; used = omega arith; bytes = sym (store-nil at l₁) ∙ r }
 
+-- ---- a part of the lists, by its indices in the whole
+
+length-range : {A : Type 0} (i j : ℕ) (xs : List A) → j ≤ length xs → length (take (j - i) (drop i xs)) ≡ j - i
+length-range i j xs h = length-take-le (j - i) (drop i xs) (rw length-drop (omega arith))
+
+range-item : (i₀ i j : ℕ) (xs : List ℕ) → i₀ ≤ i → i < j → getD (part i₀ j xs) (i - i₀) 0 ≡ getD xs i 0
+range-item i₀ i j xs h f =
+    let z : i₀ + (i - i₀) ≡ i = omega arith in
+    getD-take (j - i₀) (drop i₀ xs) (i - i₀) 0 (omega arith) ∙ getD-drop i₀ xs (i - i₀) 0 ∙ ap (λ (k : ℕ). getD xs k 0) z
+
+pub whole : (n : ℕ) (xs : List ℕ) → length xs ≡ n → part 0 n xs ≡ xs
+whole n xs e = take-all (n - 0) xs (omega arith)
+
+pub record LayingPart (ts ps vs bs l : List ℕ) (i₀ j from₀ i at from : ℕ) (l₁ : List ℕ) : Type 0 where
+  pub past : i₀ ≤ i
+  pub most : i ≤ j
+  pub after : from₀ ≤ from
+  pub is : Laying (part i₀ j ts) (part i₀ j ps) (part i₀ j vs) (drop from₀ bs) l (i - i₀) at (from - from₀) l₁
+
+module _ (ts ps vs bs l : List ℕ) (i₀ j from₀ : ℕ) (b : Within ts ps vs bs i₀ j from₀) (f : ItemsFit (part i₀ j ts) (part i₀ j ps) (part i₀ j vs) (drop from₀ bs) (length l)) where
+  pub range-start : LayingPart ts ps vs bs l i₀ j from₀ i₀ 0 from₀ l
+  range-start =
+      let z : i₀ - i₀ ≡ 0 = omega arith in
+      let y : from₀ - from₀ ≡ 0 = omega arith in
+      record { past = omega arith; most = b .order; after = omega arith; is = rw (z, y) (laying-start (part i₀ j ts) (part i₀ j ps) (part i₀ j vs) (drop from₀ bs) l f) }
+
+  module _ (i at from : ℕ) (l₁ : List ℕ) (w : LayingPart ts ps vs bs l i₀ j from₀ i at from l₁) where
+    module _ (h : i < j) (p v : ℕ) (ep : p ≡ getD ps i 0) (ev : v ≡ getD vs i 0) where
+      among : i - i₀ < length (part i₀ j ts)
+      among = rw (length-range i₀ j ts (b .within)) (let k = w .past in omega arith)
+
+      first-prefix : p ≡ getD (part i₀ j ps) (i - i₀) 0
+      first-prefix = ep ∙ sym (range-item i₀ i j ps (w .past) h)
+
+      first-value : v ≡ getD (part i₀ j vs) (i - i₀) 0
+      first-value = ev ∙ sym (range-item i₀ i j vs (w .past) h)
+
+      bytes-after : drop (from - from₀) (drop from₀ bs) ≡ drop from bs
+      bytes-after = let k = w .after in let z : from₀ + (from - from₀) ≡ from = omega arith in drop-drop (from - from₀) from₀ bs ∙ rw z
+
+      value-after : drop (from - from₀ + p) (drop from₀ bs) ≡ drop (from + p) bs
+      value-after = let k = w .after in let z : from₀ + (from - from₀ + p) ≡ from + p = omega arith in drop-drop (from - from₀ + p) from₀ bs ∙ rw z
+
+      pub range-fits : PartFits (getD ts i 0) p v from (length bs) at (length l₁)
+      range-fits =
+          let y = laying-fits (part i₀ j ts) (part i₀ j ps) (part i₀ j vs) (drop from₀ bs) l f (i - i₀) at (from - from₀) l₁ (w .is) among p v first-prefix first-value in
+          let x : PartFits (getD ts i 0) p v (from - from₀) (length (drop from₀ bs)) at (length l₁) = rw (range-item i₀ i j ts (w .past) h) at y in
+          let k = w .after in
+          let n = length-drop from₀ bs in
+          let o = b .bytes in
+          record { bytes = omega (arith, x .bytes); passed = x .passed; room = x .room }
+
+      pub range-again : (r : ℕ) (l₂ : List ℕ) → PartLaid (getD ts i 0) p v from bs at l₁ r l₂ → LayingPart ts ps vs bs l i₀ j from₀ (i + 1) (at + r) (from + p + v) l₂
+      range-again r l₂ y =
+          let k = w .after in
+          let g = w .past in
+          let n = length-drop from₀ bs in
+          let t = range-item i₀ i j ts (w .past) h in
+          let e : lentAt (getD (part i₀ j ts) (i - i₀) 0) p v (from - from₀) (drop from₀ bs) ≡ lentAt (getD ts i 0) p v from bs = rw (t, bytes-after, value-after) in
+          let x : PartLaid (getD (part i₀ j ts) (i - i₀) 0) p v (from - from₀) (drop from₀ bs) at l₁ r l₂ =
+          record { size = rw t (y .size); bytes = y .bytes ∙ ap (λ (z : LentItem). store at (itemBytes (itemGiven z)) l₁) (sym e); ends = y .ends; taken = omega (arith, y .taken) } in
+          let a : i - i₀ + 1 ≡ i + 1 - i₀ = omega arith in
+          let c : from - from₀ + p + v ≡ from + p + v - from₀ = omega arith in
+          record {
+            past = omega arith;
+            most = omega arith;
+            after = omega arith;
+            is = rw (a, c) at (laying-again (part i₀ j ts) (part i₀ j ps) (part i₀ j vs) (drop from₀ bs) l f (i - i₀) at (from - from₀) l₁ (w .is) among p v first-prefix first-value r l₂ x);
+          }
+
+    pub range-done : j ≤ i → ItemsLaid (part i₀ j ts) (part i₀ j ps) (part i₀ j vs) (drop from₀ bs) l (record { size = at; used = from - from₀ }) l₁
+    range-done h = laying-done (part i₀ j ts) (part i₀ j ps) (part i₀ j vs) (drop from₀ bs) l f (i - i₀) at (from - from₀) l₁ (w .is) (rw (length-range i₀ j ts (b .within)) (omega arith))
+
 -- ---- a chunk
 
 pub length-chunk : (ssrc : ℕ) (ts ps vs bs : List ℕ) → length (laidChunk ssrc ts ps vs bs) ≡ closed (4 + length (laidItems ts ps vs bs))
@@ -379,6 +452,24 @@ module _ (ts ps vs bs l : List ℕ) (f : ChunkFits ts ps vs bs (length l)) where
       let k : length (laidItems ts ps vs bs ++ replicate (4 - (4 + r .size) % 4) 0) ≡ r .size + (4 - (4 + r .size) % 4) = length-append (laidItems ts ps vs bs) (replicate (4 - (4 + r .size) % 4) 0) ∙ omega arith in
       let p₂ = parts-laid 0 4 (be 4 ssrc) (laidItems ts ps vs bs ++ replicate (4 - (4 + r .size) % 4) 0) l l₁ l₃ e₁ p₁ (omega arith) (omega arith) in
       record { size = omega (arith, length-chunk ssrc ts ps vs bs); used = y .used; bytes = p₂ ∙ rw s }
+
+-- ---- the whole lists are a part
+
+module _ (ts ps vs bs : List ℕ) (d : Listed ts ps vs) where
+  pub whole-within : Within ts ps vs bs 0 (length ts) 0
+  whole-within = record { order = omega arith; within = omega arith; lists = d; bytes = omega arith }
+
+  pub whole-items : (n : ℕ) → ItemsFit ts ps vs bs n → ItemsFit (part 0 (length ts) ts) (part 0 (length ts) ps) (part 0 (length ts) vs) bs n
+  whole-items n f = rw (whole (length ts) ts refl, whole (length ts) ps (d .prefixes), whole (length ts) vs (d .values)) f
+
+  pub whole-laid : (l : List ℕ) (r : Laid) (l₁ : List ℕ) → ItemsLaid (part 0 (length ts) ts) (part 0 (length ts) ps) (part 0 (length ts) vs) bs l r l₁ → ItemsLaid ts ps vs bs l r l₁
+  whole-laid l r l₁ y = rw (whole (length ts) ts refl, whole (length ts) ps (d .prefixes), whole (length ts) vs (d .values)) at y
+
+  pub whole-chunk : (n : ℕ) → ChunkFits ts ps vs bs n → ChunkFits (part 0 (length ts) ts) (part 0 (length ts) ps) (part 0 (length ts) vs) bs n
+  whole-chunk n f = rw (whole (length ts) ts refl, whole (length ts) ps (d .prefixes), whole (length ts) vs (d .values)) f
+
+  pub whole-chunk-laid : (ssrc : ℕ) (l : List ℕ) (r : Laid) (l₁ : List ℕ) → ChunkLaid ssrc (part 0 (length ts) ts) (part 0 (length ts) ps) (part 0 (length ts) vs) bs l r l₁ → ChunkLaid ssrc ts ps vs bs l r l₁
+  whole-chunk-laid ssrc l r l₁ y = rw (whole (length ts) ts refl, whole (length ts) ps (d .prefixes), whole (length ts) vs (d .values)) at y
 
 -- ---- the size of a lone chunk
 
@@ -451,4 +542,4 @@ module _ (ssrc : ℕ) (ts ps vs bs : List ℕ) where
     unfolding writeChunk
     chunk-done l l₁ n r q f y = done-written w _ _ l h n l₁ q f (y .bytes)
 
-pub ruleset chunks = (writer, not-true, not-false, left-start, left-short, left-again, left-done, prefixes-other, values-other, prefixes-over, values-over, lists-left, sizing-start, sizing-refused, sizing-again, sizing-fits, sizing-done, start-priv, start-plain, part-fits, part-laid, laying-start, laying-fits, laying-again, laying-done, chunk-items, chunk-laid, chunk-disagree, chunk-refused, chunk-over, chunk-size, chunk-fits, chunk-not-written, chunk-short, chunk-done)
+pub ruleset chunks = (writer, not-true, not-false, left-start, left-short, left-again, left-done, prefixes-other, values-other, prefixes-over, values-over, lists-left, sizing-start, sizing-refused, sizing-again, sizing-fits, sizing-done, start-priv, start-plain, part-fits, part-laid, range-start, range-fits, range-again, range-done, whole-within, whole-items, whole-laid, whole-chunk, whole-chunk-laid, chunk-items, chunk-laid, chunk-disagree, chunk-refused, chunk-over, chunk-size, chunk-fits, chunk-not-written, chunk-short, chunk-done)

@@ -22,6 +22,16 @@ pub record Listed (ts ps vs : List ℕ) : Type 0 where
   pub prefixes : length ps ≡ length ts
   pub values : length vs ≡ length ts
 
+-- the elements from index i up to index j
+abbrev pub part : ℕ → ℕ → List ℕ → List ℕ
+part i j xs = take (j - i) (drop i xs)
+
+pub record Within (ts ps vs bs : List ℕ) (i j from : ℕ) : Type 0 where
+  pub order : i ≤ j
+  pub within : j ≤ length ts
+  pub lists : Listed ts ps vs
+  pub bytes : from ≤ length bs
+
 -- the bytes of the lent items
 abbrev pub laidItems : List ℕ → List ℕ → List ℕ → List ℕ → List ℕ
 laidItems ts ps vs bs = itemsBytes (itemsGiven (lentItems ts ps vs bs))

@@ -6,12 +6,12 @@ use utils::writer;
 use utils::writer::Written;
 ghost use mathlib.Core.Path.{_≡_};
 ghost use Prim.Native.Nat.{_+_, _*_, _<_, _≤_, _^_};
-ghost use lib.ListN.{length, getD};
+ghost use lib.ListN.{length, drop, getD};
 ghost use Rattle.rfc3550.specs.Bytes.{sum};
 ghost use Rattle.rfc3550.specs.Write.{itemsAgree, chunkSize, writeChunk};
 ghost use Rattle.utils.specs.Writer.{writtenOf};
 ghost use Rattle.chunk_write.specs.Sizes.{sizesOf, textStart};
-ghost use Rattle.chunk_write.specs.Lists.{leftOf, Listed, PartFits, PartLaid, ItemsFit, ItemsLaid, ChunkFits, ChunkLaid};
+ghost use Rattle.chunk_write.specs.Lists.{leftOf, Listed, part, Within, PartFits, PartLaid, ItemsFit, ItemsLaid, ChunkFits, ChunkLaid};
 
 // What is left of a number once a list's numbers are taken off it.
 pub enum Rest {
@@ -126,6 +126,37 @@ fn write_item_at(
     item::write_text_unchecked(&mut buf[at..], item_type, prefix_len, &bytes[start..end])
 }
 
+// Lays the items from the first up to the end-th, whose bytes start at index start, at the start of buf. By their indices in the
+// whole lists: so a packet's chunks are laid without a part of each list for each chunk.
+fn write_items_part(
+    buf: &mut [u8],
+    types: &[u8],
+    prefixes: &[u64],
+    values: &[u64],
+    bytes: &[u8],
+    first: usize,
+    end: usize,
+    start: usize,
+) -> Laid
+    requires { ⌜ Within (now types) (now prefixes) (now values) (now bytes) first end start × ItemsFit (part first end (now types)) (part first end (now prefixes)) (part first end (now values)) (drop start (now bytes)) (length (now buf)) ⌝ }
+    ensures { λ r. ⌜ ItemsLaid (part first end (now (types .entry))) (part first end (now (prefixes .entry))) (part first end (now (values .entry))) (drop start (now (bytes .entry))) (now (buf .entry)) r (now (buf .exit)) ⌝ }
+{
+    let mut i = first;
+    let mut at: usize = 0;
+    let mut from = start;
+    while i < end {
+        let p = element_unchecked(prefixes, i);
+        let v = element_unchecked(values, i);
+        at += write_item_at(buf, at, types[i], bytes, from, p, v);
+        from = from + p + v;
+        i += 1;
+    }
+    Laid {
+        size: at,
+        used: from - start,
+    }
+}
+
 // Lays items that passed their checks at the start of buf.
 pub fn write_items_unchecked(
     buf: &mut [u8],
@@ -137,20 +168,41 @@ pub fn write_items_unchecked(
     requires { ⌜ ItemsFit (now types) (now prefixes) (now values) (now bytes) (length (now buf)) ⌝ }
     ensures { λ r. ⌜ ItemsLaid (now (types .entry)) (now (prefixes .entry)) (now (values .entry)) (now (bytes .entry)) (now (buf .entry)) r (now (buf .exit)) ⌝ }
 {
-    let n = types.len();
-    let mut i: usize = 0;
-    let mut at: usize = 0;
-    let mut from: usize = 0;
-    while i < n {
-        let p = element_unchecked(prefixes, i);
-        let v = element_unchecked(values, i);
-        at += write_item_at(buf, at, types[i], bytes, from, p, v);
-        from = from + p + v;
-        i += 1;
-    }
+    write_items_part(buf, types, prefixes, values, bytes, 0, types.len(), 0)
+}
+
+// Lays the chunk of such items at the start of buf.
+pub fn write_part_unchecked(
+    buf: &mut [u8],
+    ssrc: u32,
+    types: &[u8],
+    prefixes: &[u64],
+    values: &[u64],
+    bytes: &[u8],
+    first: usize,
+    end: usize,
+    start: usize,
+) -> Laid
+    requires { ⌜ Within (now types) (now prefixes) (now values) (now bytes) first end start × ChunkFits (part first end (now types)) (part first end (now prefixes)) (part first end (now values)) (drop start (now bytes)) (length (now buf)) ⌝ }
+    ensures { λ r. ⌜ ChunkLaid ssrc (part first end (now (types .entry))) (part first end (now (prefixes .entry))) (part first end (now (values .entry))) (drop start (now (bytes .entry))) (now (buf .entry)) r (now (buf .exit)) ⌝ }
+{
+    writer::write_u32_unchecked(buf, 0, ssrc);
+    let items = write_items_part(
+        &mut buf[4..],
+        types,
+        prefixes,
+        values,
+        bytes,
+        first,
+        end,
+        start,
+    );
+    let at = 4 + items.size;
+    let n = 4 - at % 4;
+    writer::write_fill_unchecked(buf, at, n);
     Laid {
-        size: at,
-        used: from,
+        size: at + n,
+        used: items.used,
     }
 }
 
@@ -166,15 +218,7 @@ pub fn write_into_unchecked(
     requires { ⌜ ChunkFits (now types) (now prefixes) (now values) (now bytes) (length (now buf)) ⌝ }
     ensures { λ r. ⌜ ChunkLaid ssrc (now (types .entry)) (now (prefixes .entry)) (now (values .entry)) (now (bytes .entry)) (now (buf .entry)) r (now (buf .exit)) ⌝ }
 {
-    writer::write_u32_unchecked(buf, 0, ssrc);
-    let items = write_items_unchecked(&mut buf[4..], types, prefixes, values, bytes);
-    let at = 4 + items.size;
-    let n = 4 - at % 4;
-    writer::write_fill_unchecked(buf, at, n);
-    Laid {
-        size: at + n,
-        used: items.used,
-    }
+    write_part_unchecked(buf, ssrc, types, prefixes, values, bytes, 0, types.len(), 0)
 }
 
 // The size of a lone chunk, or why it is refused.

@@ -8,7 +8,7 @@ use native.Mathlib.Numerals.{add-one}
 use native.Mathlib.Omega.{arith}
 use borrow.Author.Tests.{le-leb, lt-leb, leb-true, eq-eqb, ne-eqb, eqb-true, eqb-false, not-true, not-false}
 use lib.ListN.{length, take, drop, getD, length-append, length-take, length-drop, length-replicate, drop-of-length-le, take-append-drop}
-use lib.Seq.{drop-cons, drop-drop, getD-drop, length-take-le, take-all}
+use lib.Seq.{drop-cons, drop-drop, getD-drop, length-take-le}
 use lib.Dec.{leb, eqb}
 use Rattle.rfc3550.specs.Answer.{Refusal, Answer, ok, refused, refusal, need, _>>_, _>>=_, mapOk}
 use Rattle.rfc3550.specs.Bytes.{sum, store}
@@ -24,7 +24,7 @@ use Rattle.utils.specs.declared.writer.Written.the-variants.{Size, Refused}
 use Rattle.utils.proofs.WriterStores.{store-nil, store-store, store-part}
 use Rattle.utils.proofs.WriterPackets.{writes, padding-most, sized, size-ok, size-over, size-refused, header-long, packet-laid}
 use Rattle.chunk_write.specs.Sizes.{sizeOf, sizesOf}
-use Rattle.chunk_write.specs.Lists.{leftOf, Listed, laidItems, laidChunk, closed, ChunkFits, ChunkLaid}
+use Rattle.chunk_write.specs.Lists.{Within, leftOf, Listed, laidItems, laidChunk, closed, ChunkFits, ChunkLaid}
 use Rattle.sdes_write.specs.Packets.{lists, chunkFrom, chunksFrom, PartSized, Counted, ChunkFitsAt, ChunkLaidAt, ChunksFit, laidChunks, SdesFits}
 use Rattle.chunk_write.specs.declared.chunk.Rest.{Rest}
 use Rattle.chunk_write.specs.declared.chunk.Rest.the-variants.{Left, Over}
@@ -254,21 +254,21 @@ module _ (cs ts ps vs : List ℕ) (f : Counted cs ts ps vs) where
 -- ---- one chunk among others
 
 module _ (ts ps vs bs : List ℕ) (i j from at : ℕ) (l : List ℕ) (f : ChunkFitsAt ts ps vs bs i j from at (length l)) where
-  bytes-left : take (length bs - from) (drop from bs) ≡ drop from bs
-  bytes-left = take-all (length bs - from) (drop from bs) (rw length-drop (omega arith))
-
   length-left : length (take (length l - at) (drop at l)) ≡ length l - at
   length-left = length-take-le (length l - at) (drop at l) (rw length-drop (omega arith))
 
-  pub chunk-at-fits : ChunkFits (take (j - i) (drop i ts)) (take (j - i) (drop i ps)) (take (j - i) (drop i vs)) (take (length bs - from) (drop from bs)) (length (take (length l - at) (drop at l)))
-  chunk-at-fits = rw (bytes-left, length-left) (f .fits)
+  pub chunk-at-within : Within ts ps vs bs i j from
+  chunk-at-within = record { order = f .order; within = f .within; lists = f .listed; bytes = f .bytes }
+
+  pub chunk-at-fits : ChunkFits (take (j - i) (drop i ts)) (take (j - i) (drop i ps)) (take (j - i) (drop i vs)) (drop from bs) (length (take (length l - at) (drop at l)))
+  chunk-at-fits = rw length-left (f .fits)
 
   pub chunk-at-laid : (ssrc : ℕ) (r : Laid) (last : List ℕ)
-      → ChunkLaid ssrc (take (j - i) (drop i ts)) (take (j - i) (drop i ps)) (take (j - i) (drop i vs)) (take (length bs - from) (drop from bs)) (take (length l - at) (drop at l)) r last
+      → ChunkLaid ssrc (take (j - i) (drop i ts)) (take (j - i) (drop i ps)) (take (j - i) (drop i vs)) (drop from bs) (take (length l - at) (drop at l)) r last
       → ChunkLaidAt ssrc ts ps vs bs i j from at l r (take at l ++ (last ++ drop (length l - at) (drop at l)))
   chunk-at-laid ssrc r last y =
-      let z : r .size ≡ length (laidChunk ssrc (take (j - i) (drop i ts)) (take (j - i) (drop i ps)) (take (j - i) (drop i vs)) (drop from bs)) = rw bytes-left at (y .size) in
-      let b : last ≡ store 0 (laidChunk ssrc (take (j - i) (drop i ts)) (take (j - i) (drop i ps)) (take (j - i) (drop i vs)) (drop from bs)) (take (length l - at) (drop at l)) = rw bytes-left at (y .bytes) in
+      let z : r .size ≡ length (laidChunk ssrc (take (j - i) (drop i ts)) (take (j - i) (drop i ps)) (take (j - i) (drop i vs)) (drop from bs)) = y .size in
+      let b : last ≡ store 0 (laidChunk ssrc (take (j - i) (drop i ts)) (take (j - i) (drop i ps)) (take (j - i) (drop i vs)) (drop from bs)) (take (length l - at) (drop at l)) = y .bytes in
       let n = length-chunk ssrc (take (j - i) (drop i ts)) (take (j - i) (drop i ps)) (take (j - i) (drop i vs)) (drop from bs) in
       let d : length (drop from bs) ≡ length bs - from = length-drop from bs in
       record {
@@ -488,4 +488,4 @@ module _ (ss cs ts ps vs bs : List ℕ) (k : ℕ) where
         let s = f .size in
         packet-laid (sdes (chunksGiven (lentChunks ss cs (lentItems ts ps vs bs)))) k size (size - k) l l₁ l₂ l₃ s (f .room) (omega arith) (rw (length-chunks ss cs (lentItems ts ps vs bs)) e₁) e₂ e₃
 
-pub ruleset sdess = (writes, not-true, not-false, counts-other, counts-over, counts-left, counts-agree, part-refused, part-size, part-room, counting-start, counting-fits, counting-add, counting-refused, counting-again, counting-done, chunk-at-fits, chunk-at-laid, chunking-start, chunking-fits, chunking-add, chunking-again, chunking-done, sdes-disagree, sdes-many, sdes-padding, sdes-refused, sdes-over, sdes-size, sdes-fits, sdes-chunks, sdes-laid)
+pub ruleset sdess = (writes, not-true, not-false, counts-other, counts-over, counts-left, counts-agree, part-refused, part-size, part-room, counting-start, counting-fits, counting-add, counting-refused, counting-again, counting-done, chunk-at-within, chunk-at-fits, chunk-at-laid, chunking-start, chunking-fits, chunking-add, chunking-again, chunking-done, sdes-disagree, sdes-many, sdes-padding, sdes-refused, sdes-over, sdes-size, sdes-fits, sdes-chunks, sdes-laid)

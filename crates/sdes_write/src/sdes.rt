@@ -139,13 +139,16 @@ fn write_chunk_at(
     requires { ⌜ ChunkFitsAt (now types) (now prefixes) (now values) (now bytes) i j from at (length (now buf)) ⌝ }
     ensures { λ r. ⌜ ChunkLaidAt ssrc (now (types .entry)) (now (prefixes .entry)) (now (values .entry)) (now (bytes .entry)) i j from at (now (buf .entry)) r (now (buf .exit)) ⌝ }
 {
-    chunk::write_into_unchecked(
+    chunk::write_part_unchecked(
         &mut buf[at..],
         ssrc,
-        &types[i..j],
-        &prefixes[i..j],
-        &values[i..j],
-        &bytes[from..],
+        types,
+        prefixes,
+        values,
+        bytes,
+        i,
+        j,
+        from,
     )
 }
 

@@ -4,85 +4,29 @@ use Rattle.sdes_write.proofs.sdes.write_chunk_at.Statement.{statement}
 use Rattle.sdes_write.proofs.sdes.write_chunk_at.Tie as tie
 use Rattle.sdes_write.proofs.sdes.write_chunk_at.Reads as reads
 use Rattle.sdes_write.proofs.sdes.write_chunk_at.Lts as lts
-use Rattle.chunk_write.proofs.chunk.write_into_unchecked.Reads as write-into-unchecked-reads
+use Rattle.chunk_write.proofs.chunk.write_part_unchecked.Reads as write-part-unchecked-reads
 
--- src/sdes.rt:100:33
-sub-write-into-unchecked : tie.Need-sub-write-into-unchecked
-sub-write-into-unchecked c = search needs
+-- src/sdes.rt:143:9
+sub-write-part-unchecked : tie.Need-sub-write-part-unchecked
+sub-write-part-unchecked c = search sdess
 
--- src/sdes.rt:100:33
-part-write-into-unchecked-start : tie.Need-part-write-into-unchecked-start
-part-write-into-unchecked-start c = search needs
+-- src/sdes.rt:143:9
+part-write-part-unchecked-start : tie.Need-part-write-part-unchecked-start
+part-write-part-unchecked-start c = search sdess
 
--- src/sdes.rt:100:33
-part-write-into-unchecked-end : tie.Need-part-write-into-unchecked-end
-part-write-into-unchecked-end c = search needs
+-- src/sdes.rt:143:9
+part-write-part-unchecked-end : tie.Need-part-write-part-unchecked-end
+part-write-part-unchecked-end c = search sdess
 
--- src/sdes.rt:100:55
-sub-write-into-unchecked-2 : tie.Need-sub-write-into-unchecked-2
-sub-write-into-unchecked-2 c = search needs
+-- src/sdes.rt:142:5
+write-part-unchecked-requires : tie.Need-write-part-unchecked-requires
+write-part-unchecked-requires c κs = search sdess
 
--- src/sdes.rt:100:55
-part-write-into-unchecked-start-2 : tie.Need-part-write-into-unchecked-start-2
-part-write-into-unchecked-start-2 c = search needs
-
--- src/sdes.rt:100:55
-part-write-into-unchecked-end-2 : tie.Need-part-write-into-unchecked-end-2
-part-write-into-unchecked-end-2 c = search needs
-
--- src/sdes.rt:100:69
-mul-write-into-unchecked : tie.Need-mul-write-into-unchecked
-mul-write-into-unchecked c = search needs
-
--- src/sdes.rt:100:69
-sub-write-into-unchecked-3 : tie.Need-sub-write-into-unchecked-3
-sub-write-into-unchecked-3 c = search needs
-
--- src/sdes.rt:100:69
-part-write-into-unchecked-start-3 : tie.Need-part-write-into-unchecked-start-3
-part-write-into-unchecked-start-3 c = search needs
-
--- src/sdes.rt:100:69
-part-write-into-unchecked-end-3 : tie.Need-part-write-into-unchecked-end-3
-part-write-into-unchecked-end-3 c = search needs
-
--- src/sdes.rt:100:86
-mul-write-into-unchecked-2 : tie.Need-mul-write-into-unchecked-2
-mul-write-into-unchecked-2 c = search needs
-
--- src/sdes.rt:100:86
-sub-write-into-unchecked-4 : tie.Need-sub-write-into-unchecked-4
-sub-write-into-unchecked-4 c = search needs
-
--- src/sdes.rt:100:86
-part-write-into-unchecked-start-4 : tie.Need-part-write-into-unchecked-start-4
-part-write-into-unchecked-start-4 c = search needs
-
--- src/sdes.rt:100:86
-part-write-into-unchecked-end-4 : tie.Need-part-write-into-unchecked-end-4
-part-write-into-unchecked-end-4 c = search needs
-
--- src/sdes.rt:100:101
-sub-write-into-unchecked-5 : tie.Need-sub-write-into-unchecked-5
-sub-write-into-unchecked-5 c = search needs
-
--- src/sdes.rt:100:101
-part-write-into-unchecked-start-5 : tie.Need-part-write-into-unchecked-start-5
-part-write-into-unchecked-start-5 c = search needs
-
--- src/sdes.rt:100:101
-part-write-into-unchecked-end-5 : tie.Need-part-write-into-unchecked-end-5
-part-write-into-unchecked-end-5 c = search needs
-
--- src/sdes.rt:100:5
-write-into-unchecked-requires : tie.Need-write-into-unchecked-requires
-write-into-unchecked-requires c κs = search sdess
-
--- src/sdes.rt:96:1
+-- src/sdes.rt:127:1
 same-length : tie.Need-same-length
-same-length c = search needs
+same-length c = search sdess
 
--- src/sdes.rt:96:1
+-- src/sdes.rt:127:1
 returns : tie.Need-returns
 returns c = search sdess
 
@@ -90,23 +34,9 @@ pub write-chunk-at-spec : {M : Type 1} → statement M
 write-chunk-at-spec =
     tie.close
     (tie.spec
-    sub-write-into-unchecked
-    part-write-into-unchecked-start
-    part-write-into-unchecked-end
-    sub-write-into-unchecked-2
-    part-write-into-unchecked-start-2
-    part-write-into-unchecked-end-2
-    mul-write-into-unchecked
-    sub-write-into-unchecked-3
-    part-write-into-unchecked-start-3
-    part-write-into-unchecked-end-3
-    mul-write-into-unchecked-2
-    sub-write-into-unchecked-4
-    part-write-into-unchecked-start-4
-    part-write-into-unchecked-end-4
-    sub-write-into-unchecked-5
-    part-write-into-unchecked-start-5
-    part-write-into-unchecked-end-5
-    write-into-unchecked-requires
+    sub-write-part-unchecked
+    part-write-part-unchecked-start
+    part-write-part-unchecked-end
+    write-part-unchecked-requires
     same-length
     returns)
