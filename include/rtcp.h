@@ -98,6 +98,17 @@ struct RtcpBlock rtcp_rr_report_block(const uint8_t *s, size_t len, uint64_t i);
      use(rtcp_sr_report_block(packet, len, 0)); */
 struct RtcpBlock rtcp_sr_report_block(const uint8_t *s, size_t len, uint64_t i);
 
+/* All blocks of a receiver report at once: seven numbers for each, in the order of struct RtcpBlock, as rtcp_rr_write takes them.
+   Refusals: those of rtcp_rr_parse, then 10.
+     uint32_t blocks[31 * 7];
+     struct RtcpWritten w = rtcp_rr_report_blocks(packet, len, blocks, 31 * 7);
+     for (uint64_t i = 0; i < w.size; i += 7) use(blocks[i], blocks[i + 1]); */
+struct RtcpWritten rtcp_rr_report_blocks(const uint8_t *s, size_t len, uint32_t *blocks, size_t blocks_len);
+
+/* All blocks of a sender report at once. Refusals as rtcp_rr_report_blocks.
+     struct RtcpWritten w = rtcp_sr_report_blocks(packet, len, blocks, 31 * 7); */
+struct RtcpWritten rtcp_sr_report_blocks(const uint8_t *s, size_t len, uint32_t *blocks, size_t blocks_len);
+
 /* ---- APP ---- */
 
 /* name is always 8 and name_len 4. */
@@ -328,6 +339,13 @@ struct RtcpStep {
    7(type, 0) where the first is no report, the packet's own steps; at the end 8 where no chunk has a CNAME.
      if (rtcp_compound_parse(datagram, len).number == 0) use(datagram, len); */
 struct RtcpCompound rtcp_compound_parse(const uint8_t *s, size_t len);
+
+/* All packets of a datagram at once: three numbers for each, in order: its packet type, its offset in the datagram and its length.
+   Refusals: those of rtcp_compound_parse, then 10.
+     uint64_t packets[3 * 16];
+     struct RtcpWritten w = rtcp_compound_packets(datagram, len, packets, 3 * 16);
+     for (uint64_t i = 0; i < w.size; i += 3) use(packets[i], datagram + packets[i + 1], packets[i + 2]); */
+struct RtcpWritten rtcp_compound_packets(const uint8_t *s, size_t len, uint64_t *packets, size_t packets_len);
 
 /* Opens a walk over the packets. Refusals: those of rtcp_compound_parse.
      struct RtcpWalk w = rtcp_walk_open(datagram, len);

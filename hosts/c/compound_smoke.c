@@ -106,10 +106,16 @@ static void states(void) {
 static void reads(void) {
     const uint8_t *s = datagram;
     const size_t n = sizeof datagram;
+    static const uint64_t rows[] = {200, 0, 52, 201, 52, 8, 202, 60, 16, 204, 76, 16, 203, 92, 16, 7};
+    uint64_t packets[16] = {0, 0, 0, 0, 0, 0, 0, 0, 0, 0, 0, 0, 0, 0, 0, 7};
     CHECK(RtcpCompound, rtcp_compound_parse(s, n), 0, 0, 0, 5);
     CHECK(RtcpCompound, rtcp_compound_parse(NULL, 0), 2, 4, 0, 0);
     CHECK(RtcpCompound, rtcp_compound_parse(s, 52), 8, 0, 0, 0);
     CHECK(RtcpCompound, rtcp_compound_parse(s + 60, 16), 7, 202, 0, 0);
+    CHECK(RtcpWritten, rtcp_compound_packets(s, n, packets, 14), 10, 15, 0, 0);
+    CHECK(RtcpWritten, rtcp_compound_packets(s, n, packets, 16), 0, 0, 0, 15);
+    compare("the list of packets", packets, rows, sizeof rows);
+    CHECK(RtcpWritten, rtcp_compound_packets(s, 52, packets, 16), 8, 0, 0, 0);
     CHECK(RtcpWalk, rtcp_walk_open(s, n), 0, 0, 0, 0);
     CHECK(RtcpWalk, rtcp_walk_open(s, 52), 8, 0, 0, 0);
     CHECK(RtcpStep, rtcp_walk_step(s, n, 0), 0, 0, 0, 200, 200, 1, 0, 52, 52, 0, 1, 0x200000003, 4, 5, 6, 52, 0, 0, 0, 0, 52);

@@ -42,6 +42,21 @@ static void reports(void) {
     CHECK(RtcpBlock, rtcp_sr_report_block(sr, sizeof sr, 7), 25, 0, 0, 0, 0, 0, 0, 0, 0, 0, 0);
     CHECK(RtcpBlock, rtcp_block_parse(block, sizeof block), 0, 0, 0, 0x01020304, 5, 0x060708, 0x090A0B0C, 0x0D0E0F10, 0x11121314, 0x15161718, 0);
     CHECK(RtcpBlock, rtcp_block_parse(block, 23), 2, 24, 23, 0, 0, 0, 0, 0, 0, 0, 0);
+    CHECK(RtcpWritten, rtcp_rr_report_blocks(rr, sizeof rr, NULL, 0), 0, 0, 0, 0);
+    CHECK(RtcpWritten, rtcp_rr_report_blocks(cname, sizeof cname, NULL, 0), 6, 202, 201, 0);
+    CHECK(RtcpWritten, rtcp_sr_report_blocks(sr, sizeof sr, NULL, 0), 0, 0, 0, 0);
+}
+
+/* The blocks at once, into a list that is one number longer, just long enough, and too short. */
+static void block_lists(void) {
+    static const uint32_t numbers[] = {0x01020304, 5, 0x060708, 0x090A0B0C, 0x0D0E0F10, 0x11121314, 0x15161718, 7};
+    uint8_t one[32] = {0x81, 0xC9, 0x00, 0x07, 0, 0, 0, 1};
+    uint32_t list[8] = {0, 0, 0, 0, 0, 0, 0, 7};
+    memcpy(one + 8, block, sizeof block);
+    CHECK(RtcpWritten, rtcp_rr_report_blocks(one, sizeof one, list, 6), 10, 7, 0, 0);
+    CHECK(RtcpWritten, rtcp_rr_report_blocks(one, sizeof one, list, 8), 0, 0, 0, 7);
+    compare("the list of blocks", list, numbers, sizeof numbers);
+    CHECK(RtcpWritten, rtcp_rr_report_blocks(one, sizeof one, list, 7), 0, 0, 0, 7);
 }
 
 static void descriptions(void) {
@@ -94,6 +109,7 @@ static void others(void) {
 
 int main(void) {
     reports();
+    block_lists();
     descriptions();
     item_lists();
     others();

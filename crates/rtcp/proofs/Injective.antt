@@ -10,6 +10,10 @@ use Rattle.rfc3550.specs.Writer.{Writer}
 use Rattle.utils.specs.Error.{parseRefusal}
 use Rattle.utils.specs.declared.error.RtcpParseError.{RtcpParseError}
 use Rattle.utils.specs.declared.error.RtcpParseError.the-variants as parse
+use Rattle.utils.specs.List.{listedOf}
+use Rattle.utils.specs.declared.list.Listed.{Listed}
+use Rattle.utils.specs.declared.list.Listed.the-variants as listed
+use Rattle.utils.proofs.Injective.{parseRefusal-injective}
 use Rattle.report.specs.declared.report_block.ReportBlock.{ReportBlock}
 use Rattle.report.specs.declared.receiver.ReceiverReport.{ReceiverReport}
 use Rattle.report.specs.declared.sender.SenderReport.{SenderReport}
@@ -30,6 +34,7 @@ use Rattle.rtcp.specs.App.{appResult}
 use Rattle.rtcp.specs.Bye.{byeResult, sourceResult}
 use Rattle.rtcp.specs.Sdes.{sdesResult, itemResult, prefixResult, chunkResult, chunkWalkResult, chunkStepResult, itemWalkResult, itemStepResult}
 use Rattle.rtcp.specs.Compound.{compoundResult, walkResult, stepResult}
+use Rattle.rtcp.specs.WriteResult.{writtenOut}
 use Rattle.rtcp.specs.WriteCompound.{writerIn, writerOut, callResult}
 use Rattle.rtcp.specs.declared.read_report.RtcpBlock.{RtcpBlock}
 use Rattle.rtcp.specs.declared.read_report.RtcpRr.{RtcpRr}
@@ -48,6 +53,7 @@ use Rattle.rtcp.specs.declared.read_sdes.RtcpItemStep.{RtcpItemStep}
 use Rattle.rtcp.specs.declared.read_compound.RtcpCompound.{RtcpCompound}
 use Rattle.rtcp.specs.declared.read_compound.RtcpWalk.{RtcpWalk}
 use Rattle.rtcp.specs.declared.read_compound.RtcpStep.{RtcpStep}
+use Rattle.rtcp.specs.declared.write_result.RtcpWritten.{RtcpWritten}
 use Rattle.rtcp.specs.declared.write_compound.RtcpWriter.{RtcpWriter}
 use Rattle.rtcp.specs.declared.write_compound.RtcpCall.{RtcpCall}
 
@@ -65,6 +71,39 @@ parse-numbered parse.NoCname = omega arith
 parse-numbered parse.NonLastCompoundPacketPadding = omega arith
 parse-numbered parse.NothingLeft = omega arith
 parse-numbered (parse.NotPriv t) = omega arith
+
+-- ---- a call that fills a list: no refusal of reading has the number of a list too short
+
+not-short : (e : RtcpParseError) → numberIn (parseRefusal e) ≡ 10 → ⊥
+not-short (parse.UnsupportedVersion version) h = omega arith
+not-short (parse.Truncated expected actual) h = omega arith
+not-short (parse.TooLarge expected actual) h = omega arith
+not-short parse.InvalidPadding h = omega arith
+not-short (parse.SdesPrivPrefixTooLarge len available) h = omega arith
+not-short (parse.PacketTypeMismatch actual requested) h = omega arith
+not-short (parse.FirstPacketNoReport t) h = omega arith
+not-short parse.NoCname h = omega arith
+not-short parse.NonLastCompoundPacketPadding h = omega arith
+not-short parse.NothingLeft h = omega arith
+not-short (parse.NotPriv t) h = omega arith
+
+abbrev written : RtcpWritten → Refusal
+written r = refusal (r .number) (r .first) (r .second)
+
+written-back : (x : Refusal) → written (writtenOut (refused x)) ≡ x
+written-back (refusal number first second) = refl
+
+pub listedOut-injective : (v w : Listed) → writtenOut (listedOf v) ≡ writtenOut (listedOf w) → v ≡ w
+listedOut-injective (listed.Len m) (listed.Len n) h = ap listed.Len (ap (λ (r : RtcpWritten). r .size) h)
+listedOut-injective (listed.Len m) (listed.TooShort n) h = let q = ap (λ (r : RtcpWritten). r .number) h in absurd (omega arith)
+listedOut-injective (listed.Len m) (listed.Refused e) h = let q = ap (λ (r : RtcpWritten). r .number) h in let p = parse-numbered e in absurd (omega arith)
+listedOut-injective (listed.TooShort m) (listed.Len n) h = let q = ap (λ (r : RtcpWritten). r .number) h in absurd (omega arith)
+listedOut-injective (listed.TooShort m) (listed.TooShort n) h = ap listed.TooShort (ap (λ (r : RtcpWritten). r .first) h)
+listedOut-injective (listed.TooShort m) (listed.Refused e) h = absurd (not-short e (sym (ap (λ (r : RtcpWritten). r .number) h)))
+listedOut-injective (listed.Refused e) (listed.Len n) h = let q = ap (λ (r : RtcpWritten). r .number) h in let p = parse-numbered e in absurd (omega arith)
+listedOut-injective (listed.Refused e) (listed.TooShort n) h = absurd (not-short e (ap (λ (r : RtcpWritten). r .number) h))
+listedOut-injective (listed.Refused e) (listed.Refused f) h =
+    ap listed.Refused (parseRefusal-injective e f (sym (written-back (parseRefusal e)) ∙ ap written h ∙ written-back (parseRefusal f)))
 
 module _ {A : Type 0} where
   abbrev pub Numbered : Answer A → Type 0

@@ -1,5 +1,6 @@
 // Datagrams, and the walk over their packets.
 use super::result::bit;
+use super::write_result::RtcpWritten;
 use app::App;
 use bye::Bye;
 use compound::compound::Compound;
@@ -18,8 +19,10 @@ ghost use Rattle.rfc3550.specs.Answer.{mapOk, refused};
 ghost use Rattle.rfc3550.specs.Compound.{readCompound};
 ghost use Rattle.rfc3550.specs.Walk.{openWalk, step};
 ghost use Rattle.utils.specs.Error.{parseRefusal};
-ghost use Rattle.compound.specs.Compound.{compoundView, walkAt, stepView};
+ghost use Rattle.utils.specs.List.{layList};
+ghost use Rattle.compound.specs.Compound.{compoundView, packetRows, walkAt, stepView};
 ghost use Rattle.rtcp.specs.Compound.{bareNumbers, srNumbers, rrNumbers, sdesNumbers, byeNumbers, appNumbers, unknownNumbers, numbersOf, compoundResult, walkResult, stepResult};
+ghost use Rattle.rtcp.specs.WriteResult.{handedOut};
 
 #[repr(C)]
 pub struct RtcpCompound {
@@ -248,6 +251,14 @@ pub extern "C" fn rtcp_compound_parse(s: &[u8]) -> RtcpCompound
         },
         ParsedCompound::Refused(e) => RtcpCompound::refused(e),
     }
+}
+
+// Three numbers for each packet, in order, into a lent list: its type, its offset in the datagram and its length.
+#[no_mangle]
+pub extern "C" fn rtcp_compound_packets(s: &[u8], packets: &mut [u64]) -> RtcpWritten
+    ensures { λ r. ⌜ (r, now (packets .exit)) ≡ handedOut (layList (mapOk packetRows (readCompound (now (s .entry)))) (now (packets .entry))) ⌝ }
+{
+    RtcpWritten::from_listed(Compound::packets(s, packets))
 }
 
 #[no_mangle]

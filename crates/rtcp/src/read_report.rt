@@ -1,4 +1,5 @@
 // Reports and their blocks.
+use super::write_result::RtcpWritten;
 use report::receiver::ParsedReceiverReport;
 use report::receiver::ReceiverReport;
 use report::report_block::ParsedReportBlock;
@@ -10,9 +11,11 @@ ghost use mathlib.Core.Path.{_≡_};
 ghost use Rattle.rfc3550.specs.Answer.{mapOk, refused};
 ghost use Rattle.rfc3550.specs.Read.{RR, SR, readAs, readBlock, readBlockAt};
 ghost use Rattle.utils.specs.Error.{parseRefusal};
+ghost use Rattle.utils.specs.List.{layList};
 ghost use Rattle.report.specs.Block.{parsedBlockOf, blockView};
-ghost use Rattle.report.specs.Report.{receiverView, senderView};
+ghost use Rattle.report.specs.Report.{receiverView, senderView, reportNumbers};
 ghost use Rattle.rtcp.specs.Report.{blockResult, rrResult, srResult};
+ghost use Rattle.rtcp.specs.WriteResult.{handedOut};
 
 #[repr(C)]
 pub struct RtcpBlock {
@@ -207,4 +210,19 @@ pub extern "C" fn rtcp_sr_report_block(s: &[u8], i: u64) -> RtcpBlock
     ensures { λ r. ⌜ r ≡ blockResult (mapOk blockView (readBlockAt SR (now (s .entry)) i)) ⌝ }
 {
     RtcpBlock::from_parsed(SenderReport::report_block(s, i as usize))
+}
+
+// Seven numbers for each block, in the record's order, into a lent list.
+#[no_mangle]
+pub extern "C" fn rtcp_rr_report_blocks(s: &[u8], blocks: &mut [u32]) -> RtcpWritten
+    ensures { λ r. ⌜ (r, now (blocks .exit)) ≡ handedOut (layList (mapOk reportNumbers (readAs RR (now (s .entry)))) (now (blocks .entry))) ⌝ }
+{
+    RtcpWritten::from_listed(ReceiverReport::report_blocks(s, blocks))
+}
+
+#[no_mangle]
+pub extern "C" fn rtcp_sr_report_blocks(s: &[u8], blocks: &mut [u32]) -> RtcpWritten
+    ensures { λ r. ⌜ (r, now (blocks .exit)) ≡ handedOut (layList (mapOk reportNumbers (readAs SR (now (s .entry)))) (now (blocks .entry))) ⌝ }
+{
+    RtcpWritten::from_listed(SenderReport::report_blocks(s, blocks))
 }

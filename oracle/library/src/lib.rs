@@ -184,6 +184,8 @@ functions! {
     "rtcp_sr_parse" rtcp_sr_parse(s: &[u8]) -> RtcpSr;
     "rtcp_rr_report_block" rtcp_rr_report_block(s: &[u8], i: u64) -> RtcpBlock;
     "rtcp_sr_report_block" rtcp_sr_report_block(s: &[u8], i: u64) -> RtcpBlock;
+    "rtcp_rr_report_blocks" rtcp_rr_report_blocks(s: &[u8], blocks: &mut [u32]) -> RtcpWritten;
+    "rtcp_sr_report_blocks" rtcp_sr_report_blocks(s: &[u8], blocks: &mut [u32]) -> RtcpWritten;
     "rtcp_app_parse" rtcp_app_parse(s: &[u8]) -> RtcpApp;
     "rtcp_bye_parse" rtcp_bye_parse(s: &[u8]) -> RtcpBye;
     "rtcp_bye_source" rtcp_bye_source(s: &[u8], i: u64) -> RtcpSource;
@@ -197,6 +199,7 @@ functions! {
     "rtcp_item_walk_step" rtcp_item_walk_step(s: &[u8], at: u64) -> RtcpItemStep;
     "rtcp_sdes_items" rtcp_sdes_items(s: &[u8], rows: &mut [u32]) -> RtcpWritten;
     "rtcp_compound_parse" rtcp_compound_parse(s: &[u8]) -> RtcpCompound;
+    "rtcp_compound_packets" rtcp_compound_packets(s: &[u8], packets: &mut [u64]) -> RtcpWritten;
     "rtcp_walk_open" rtcp_walk_open(s: &[u8]) -> RtcpWalk;
     "rtcp_walk_step" rtcp_walk_step(s: &[u8], at: u64) -> RtcpStep;
 
