@@ -25,7 +25,7 @@ use Rattle.utils.proofs.WriterCases.{writer}
 use Rattle.utils.proofs.WriterStores.{store-nil, store-store, store-part}
 use Rattle.utils.proofs.WriterPackets.{refused-written, short-written, done-written, parts-laid}
 use Rattle.chunk_write.specs.Sizes.{lent, itemLength, sizeOf, sizesOf, headBytes, textStart, TextFits, TextLaid}
-use Rattle.chunk_write.specs.Lists.{leftOf, Listed, part, Within, PartFits, lentAt, PartLaid, laidItems, ItemsFit, ItemsLaid, laidChunk, closed, ChunkFits, ChunkLaid}
+use Rattle.chunk_write.specs.Lists.{leftOf, paired, Listed, part, Within, PartFits, lentAt, PartLaid, laidItems, ItemsFit, ItemsLaid, laidChunk, closed, ChunkFits, ChunkLaid}
 use Rattle.chunk_write.specs.declared.chunk.Rest.{Rest}
 use Rattle.chunk_write.specs.declared.chunk.Rest.the-variants.{Left, Over}
 use Rattle.chunk_write.specs.declared.chunk.Laid.{Laid}
@@ -46,6 +46,35 @@ module _ (xs : List ℕ) (n : ℕ) where
 
     pub left-done : length xs ≤ i → Left left ≡ leftOf xs n
     left-done h = let z : drop i xs ≡ [] = drop-of-length-le xs {i = i} h in rw z at w
+
+module _ (ps vs : List ℕ) (n : ℕ) where
+  pub pairs-start : leftOf (paired (drop 0 ps) (drop 0 vs)) n ≡ leftOf (paired ps vs) n
+  pairs-start = refl
+
+  module _ (i left : ℕ) (w : leftOf (paired (drop i ps) (drop i vs)) left ≡ leftOf (paired ps vs) n) where
+    pub pairs-done : length ps ≤ i → Left left ≡ leftOf (paired ps vs) n
+    pairs-done h = let z : drop i ps ≡ [] = drop-of-length-le ps {i = i} h in rw z at w
+
+    module _ (h : i < length ps) (e : length vs ≡ length ps) where
+      next-pair : leftOf (getD ps i 0 ∷ getD vs i 0 ∷ paired (drop (i + 1) ps) (drop (i + 1) vs)) left ≡ leftOf (paired ps vs) n
+      next-pair = let g : i < length vs = omega arith in rw add-one (rw (drop-cons ps i 0 h, drop-cons vs i 0 g) at w)
+
+      pub pairs-short : left < getD ps i 0 → Over ≡ leftOf (paired ps vs) n
+      pairs-short f = rw (lt-ltb _ _ f) at next-pair
+
+      module _ (f : getD ps i 0 ≤ left) where
+        pub pairs-short-value : left - getD ps i 0 < getD vs i 0 → Over ≡ leftOf (paired ps vs) n
+        pairs-short-value g = rw (le-ltb _ _ f, lt-ltb _ _ g) at next-pair
+
+        pub pairs-again : getD vs i 0 ≤ left - getD ps i 0 → leftOf (paired (drop (i + 1) ps) (drop (i + 1) vs)) (left - getD ps i 0 - getD vs i 0) ≡ leftOf (paired ps vs) n
+        pairs-again g = rw (le-ltb _ _ f, le-ltb _ _ g) at next-pair
+
+sum-paired : (ps vs : List ℕ) → length vs ≡ length ps → sum (paired ps vs) ≡ sum ps + sum vs
+unfolding sum
+sum-paired [] [] e = refl
+sum-paired [] (v ∷ vs) e = absurd (omega arith)
+sum-paired (p ∷ ps) [] e = absurd (omega arith)
+sum-paired (p ∷ ps) (v ∷ vs) e = let i = sum-paired ps vs (omega arith) in omega arith
 
 never-over : {A : Type 0} (m : ℕ) → Over ≡ Left m → A
 never-over m p = let z : _≡_ {A = ℕ} 0 1 = cc in absurd (omega arith)
@@ -82,28 +111,19 @@ module _ (ts ps vs bs : List ℕ) where
     pub values-other : (length ts ≡ length vs → ⊥) → false ≡ itemsAgree ts ps vs bs
     values-other f = simp (eq-eqb _ _ h, ne-eqb _ _ f)
 
-    module _ (f : length ts ≡ length vs) (r : Rest) (e : r ≡ leftOf ps (length bs)) where
-      pub prefixes-over : r ≡ Over → false ≡ itemsAgree ts ps vs bs
-      prefixes-over q =
-          let a = left-not ps (length bs) (sym e ∙ q) in
+    module _ (f : length ts ≡ length vs) (r : Rest) (e : r ≡ leftOf (paired ps vs) (length bs)) where
+      pub lists-over : r ≡ Over → false ≡ itemsAgree ts ps vs bs
+      lists-over q =
+          let a = left-not (paired ps vs) (length bs) (sym e ∙ q) in
+          let b = sum-paired ps vs (omega arith) in
           simp (eq-eqb _ _ h, eq-eqb _ _ f, ne-eqb (sum ps + sum vs) (length bs) (λ z. omega arith))
 
-      module _ (n : ℕ) (q : r ≡ Left n) (s : Rest) (g : s ≡ leftOf vs n) where
-        pub values-over : s ≡ Over → false ≡ itemsAgree ts ps vs bs
-        values-over p =
-            let a = left-is ps (length bs) n (sym e ∙ q) in
-            let b = left-not vs n (sym g ∙ p) in
-            simp (eq-eqb _ _ h, eq-eqb _ _ f, ne-eqb (sum ps + sum vs) (length bs) (λ z. omega arith))
-
-        pub lists-left : (m : ℕ) → s ≡ Left m → eqb m 0 ≡ itemsAgree ts ps vs bs
-        lists-left m p =
-            let a = left-is ps (length bs) n (sym e ∙ q) in
-            let b = left-is vs n m (sym g ∙ p) in
-            go m a b
-          where
-            go : (m : ℕ) → length bs ≡ sum ps + n → n ≡ sum vs + m → eqb m 0 ≡ itemsAgree ts ps vs bs
-            go zero a b = simp (eq-eqb _ _ h, eq-eqb _ _ f, eq-eqb (sum ps + sum vs) (length bs) (omega arith))
-            go (suc m) a b = simp (ne-eqb (suc m) 0 (λ z. omega arith), eq-eqb _ _ h, eq-eqb _ _ f, ne-eqb (sum ps + sum vs) (length bs) (λ z. omega arith))
+      pub lists-left : (m : ℕ) → r ≡ Left m → eqb m 0 ≡ itemsAgree ts ps vs bs
+      lists-left m q = go m (left-is (paired ps vs) (length bs) m (sym e ∙ q)) (sum-paired ps vs (omega arith))
+        where
+          go : (m : ℕ) → length bs ≡ sum (paired ps vs) + m → sum (paired ps vs) ≡ sum ps + sum vs → eqb m 0 ≡ itemsAgree ts ps vs bs
+          go zero a b = simp (eq-eqb _ _ h, eq-eqb _ _ f, eq-eqb (sum ps + sum vs) (length bs) (omega arith))
+          go (suc m) a b = simp (ne-eqb (suc m) 0 (λ z. omega arith), eq-eqb _ _ h, eq-eqb _ _ f, ne-eqb (sum ps + sum vs) (length bs) (λ z. omega arith))
 
 -- what lists that agree say
 pub record Agreed (ts ps vs bs : List ℕ) : Type 0 where
@@ -542,4 +562,4 @@ module _ (ssrc : ℕ) (ts ps vs bs : List ℕ) where
     unfolding writeChunk
     chunk-done l l₁ n r q f y = done-written w _ _ l h n l₁ q f (y .bytes)
 
-pub ruleset chunks = (writer, not-true, not-false, left-start, left-short, left-again, left-done, prefixes-other, values-other, prefixes-over, values-over, lists-left, sizing-start, sizing-refused, sizing-again, sizing-fits, sizing-done, start-priv, start-plain, part-fits, part-laid, range-start, range-fits, range-again, range-done, whole-within, whole-items, whole-laid, whole-chunk, whole-chunk-laid, chunk-items, chunk-laid, chunk-disagree, chunk-refused, chunk-over, chunk-size, chunk-fits, chunk-not-written, chunk-short, chunk-done)
+pub ruleset chunks = (writer, not-true, not-false, left-start, left-short, left-again, left-done, prefixes-other, values-other, pairs-start, pairs-done, pairs-short, pairs-short-value, pairs-again, lists-over, lists-left, sizing-start, sizing-refused, sizing-again, sizing-fits, sizing-done, start-priv, start-plain, part-fits, part-laid, range-start, range-fits, range-again, range-done, whole-within, whole-items, whole-laid, whole-chunk, whole-chunk-laid, chunk-items, chunk-laid, chunk-disagree, chunk-refused, chunk-over, chunk-size, chunk-fits, chunk-not-written, chunk-short, chunk-done)

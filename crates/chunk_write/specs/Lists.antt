@@ -18,6 +18,12 @@ abbrev pub leftOf : List ℕ → ℕ → Rest
 leftOf [] n = Left n
 leftOf (x ∷ xs) n = pick (ltb n x) Over (leftOf xs (n - x))
 
+-- two lists as one, element by element
+abbrev pub paired : List ℕ → List ℕ → List ℕ
+paired [] vs = []
+paired (p ∷ ps) [] = []
+paired (p ∷ ps) (v ∷ vs) = p ∷ v ∷ paired ps vs
+
 pub record Listed (ts ps vs : List ℕ) : Type 0 where
   pub prefixes : length ps ≡ length ts
   pub values : length vs ≡ length ts

@@ -11,7 +11,7 @@ ghost use Rattle.rfc3550.specs.Bytes.{sum};
 ghost use Rattle.rfc3550.specs.Write.{itemsAgree, chunkSize, writeChunk};
 ghost use Rattle.utils.specs.Writer.{writtenOf};
 ghost use Rattle.chunk_write.specs.Sizes.{sizesOf, textStart};
-ghost use Rattle.chunk_write.specs.Lists.{leftOf, Listed, part, Within, PartFits, PartLaid, ItemsFit, ItemsLaid, ChunkFits, ChunkLaid};
+ghost use Rattle.chunk_write.specs.Lists.{leftOf, paired, Listed, part, Within, PartFits, PartLaid, ItemsFit, ItemsLaid, ChunkFits, ChunkLaid};
 
 // What is left of a number once a list's numbers are taken off it.
 pub enum Rest {
@@ -36,6 +36,30 @@ pub fn take_off(xs: &[u64], from: u64) -> Rest
     Rest::Left(left)
 }
 
+// The same for two lists at once.
+fn take_off_pairs(prefixes: &[u64], values: &[u64], from: u64) -> Rest
+    requires { ⌜ length (now values) ≡ length (now prefixes) ⌝ }
+    ensures { λ r. ⌜ r ≡ leftOf (paired (now (prefixes .entry)) (now (values .entry))) from ⌝ }
+{
+    let n = prefixes.len();
+    let mut i: usize = 0;
+    let mut left = from;
+    while i < n {
+        let p = prefixes[i];
+        if left < p {
+            return Rest::Over;
+        }
+        left -= p;
+        let v = values[i];
+        if left < v {
+            return Rest::Over;
+        }
+        left -= v;
+        i += 1;
+    }
+    Rest::Left(left)
+}
+
 // The lists have one length, and the lengths that they hold sum to the bytes.
 pub fn check_lists(types: &[u8], prefixes: &[u64], values: &[u64], bytes: &[u8]) -> bool
     ensures { λ r. ⌜ r ≡ itemsAgree (now (types .entry)) (now (prefixes .entry)) (now (values .entry)) (now (bytes .entry)) ⌝ }
@@ -46,12 +70,8 @@ pub fn check_lists(types: &[u8], prefixes: &[u64], values: &[u64], bytes: &[u8])
     if types.len() != values.len() {
         return false;
     }
-    let after_prefixes = take_off(prefixes, bytes.len() as u64);
-    let Rest::Left(n) = after_prefixes else {
-        return false;
-    };
-    let after_values = take_off(values, n);
-    let Rest::Left(m) = after_values else {
+    let rest = take_off_pairs(prefixes, values, bytes.len() as u64);
+    let Rest::Left(m) = rest else {
         return false;
     };
     m == 0
