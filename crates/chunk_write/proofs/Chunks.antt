@@ -3,7 +3,7 @@ use Prim.Native.Nat.{ℕ, zero, suc, _+_, _-_, _*_, _/_, _%_, _<_, _≤_, _^_}
 use mathlib.Core.Path.{_≡_, refl, sym, ap, _∙_, subst}
 use mathlib.Core.Bool.{Bool, true, false, _&&_}
 use mathlib.Core.List.{List, [], _∷_, _++_, append-assoc}
-use native.Mathlib.Nat.{add-zero, add-assoc, zero-add, add-sub-cancel-left}
+use native.Mathlib.Nat.{sub-zero, add-zero, add-assoc, zero-add, add-sub-cancel-left}
 use native.Mathlib.Numerals.{add-one}
 use native.Mathlib.Omega.{arith}
 use borrow.Author.Tests.{le-leb, lt-leb, leb-true, eq-eqb, ne-eqb, eqb-true, eqb-false, lt-ltb, le-ltb, ltb-true, ltb-false, not-true, not-false}
@@ -25,7 +25,7 @@ use Rattle.utils.proofs.WriterCases.{writer}
 use Rattle.utils.proofs.WriterStores.{store-nil, store-store, store-part}
 use Rattle.utils.proofs.WriterPackets.{refused-written, short-written, done-written, parts-laid}
 use Rattle.chunk_write.specs.Sizes.{lent, itemLength, sizeOf, sizesOf, headBytes, textStart, TextFits, TextLaid}
-use Rattle.chunk_write.specs.Lists.{leftOf, paired, Listed, part, Within, PartFits, lentAt, PartLaid, laidItems, ItemsFit, ItemsLaid, laidChunk, closed, ChunkFits, ChunkLaid}
+use Rattle.chunk_write.specs.Lists.{leftOf, paired, Listed, part, Within, PartFits, lentAt, PartLaid, laidItems, ItemsFit, ItemsLaid, ItemsLaidAt, laidChunk, closed, ChunkFits, ChunkLaid}
 use Rattle.chunk_write.specs.declared.chunk.Rest.{Rest}
 use Rattle.chunk_write.specs.declared.chunk.Rest.the-variants.{Left, Over}
 use Rattle.chunk_write.specs.declared.chunk.Laid.{Laid}
@@ -288,19 +288,19 @@ left-next : (ts ps vs bs : List ℕ) (i from : ℕ) → i < length ts → left t
 unfolding lentItems
 left-next ts ps vs bs i from h = rw (drop-cons ts i 0 h) (simp (getD-drop, add-zero, drop-drop, add-assoc, add-one))
 
-pub record Laying (ts ps vs bs l : List ℕ) (i at from : ℕ) (l₁ : List ℕ) : Type 0 where
+pub record Laying (o : ℕ) (ts ps vs bs l : List ℕ) (i at from : ℕ) (l₁ : List ℕ) : Type 0 where
   pub within : i ≤ length ts
   pub long : length l₁ ≡ length l
   pub used : from + (sum (drop i ps) + sum (drop i vs)) ≡ sum ps + sum vs
   pub tests : itemsTests (left ts ps vs bs i from) ≡ ok tt
-  pub size : at + length (itemsBytes (itemsGiven (left ts ps vs bs i from))) ≡ length (laidItems ts ps vs bs)
-  pub rest : store at (itemsBytes (itemsGiven (left ts ps vs bs i from))) l₁ ≡ store 0 (laidItems ts ps vs bs) l
+  pub size : at + length (itemsBytes (itemsGiven (left ts ps vs bs i from))) ≡ o + length (laidItems ts ps vs bs)
+  pub rest : store at (itemsBytes (itemsGiven (left ts ps vs bs i from))) l₁ ≡ store o (laidItems ts ps vs bs) l
 
-module _ (ts ps vs bs l : List ℕ) (f : ItemsFit ts ps vs bs (length l)) where
-  pub laying-start : Laying ts ps vs bs l 0 0 0 l
+module _ (o : ℕ) (ts ps vs bs l : List ℕ) (in-l : o ≤ length l) (f : ItemsFit ts ps vs bs (length l - o)) where
+  pub laying-start : Laying o ts ps vs bs l 0 o 0 l
   laying-start = record { within = omega arith; long = refl; used = omega arith; tests = f .tests; size = omega arith; rest = refl }
 
-  module _ (i at from : ℕ) (l₁ : List ℕ) (w : Laying ts ps vs bs l i at from l₁) where
+  module _ (i at from : ℕ) (l₁ : List ℕ) (w : Laying o ts ps vs bs l i at from l₁) where
     module _ (h : i < length ts) (p v : ℕ) (ep : p ≡ getD ps i 0) (ev : v ≡ getD vs i 0) where
       next : left ts ps vs bs i from ≡ lentAt (getD ts i 0) p v from bs ∷ left ts ps vs bs (i + 1) (from + p + v)
       next = rw (ep, ev) (left-next ts ps vs bs i from h)
@@ -318,12 +318,12 @@ module _ (ts ps vs bs l : List ℕ) (f : ItemsFit ts ps vs bs (length l)) where
           length-item (getD ts i 0) (take p (drop from bs)) (take v (drop (from + p) bs))
           ∙ rw (length-take-le p (drop from bs) (rw length-drop (omega arith)), length-take-le v (drop (from + p) bs) (rw length-drop (omega arith)))
 
-      size-split : at + (itemLength (getD ts i 0) p v + length (itemsBytes (itemsGiven (left ts ps vs bs (i + 1) (from + p + v))))) ≡ length (laidItems ts ps vs bs)
+      size-split : at + (itemLength (getD ts i 0) p v + length (itemsBytes (itemsGiven (left ts ps vs bs (i + 1) (from + p + v))))) ≡ o + length (laidItems ts ps vs bs)
       unfolding itemsGiven itemsBytes
       size-split =
           let a = length-append (itemBytes (itemGiven (lentAt (getD ts i 0) p v from bs))) (itemsBytes (itemsGiven (left ts ps vs bs (i + 1) (from + p + v)))) in
           let b = first-length in
-          let z : at + length (itemBytes (itemGiven (lentAt (getD ts i 0) p v from bs)) ++ itemsBytes (itemsGiven (left ts ps vs bs (i + 1) (from + p + v)))) ≡ length (laidItems ts ps vs bs) = rw next at (w .size) in
+          let z : at + length (itemBytes (itemGiven (lentAt (getD ts i 0) p v from bs)) ++ itemsBytes (itemsGiven (left ts ps vs bs (i + 1) (from + p + v)))) ≡ o + length (laidItems ts ps vs bs) = rw next at (w .size) in
           omega arith
 
       first-passed : itemTests (lentAt (getD ts i 0) p v from bs) ≡ ok tt
@@ -341,7 +341,7 @@ module _ (ts ps vs bs l : List ℕ) (f : ItemsFit ts ps vs bs (length l)) where
           let q : sizeOf (getD ts i 0) p v ≡ ok (itemLength (getD ts i 0) p v) = sym (item-is (getD ts i 0) (take p (drop from bs)) (take v (drop (from + p) bs)) ∙ rw (lp, lv)) ∙ s in
           record { bytes = omega arith; passed = q; room = omega (arith, size-split, f .room, w .long) }
 
-      pub laying-again : (r : ℕ) (l₂ : List ℕ) → PartLaid (getD ts i 0) p v from bs at l₁ r l₂ → Laying ts ps vs bs l (i + 1) (at + r) (from + p + v) l₂
+      pub laying-again : (r : ℕ) (l₂ : List ℕ) → PartLaid (getD ts i 0) p v from bs at l₁ r l₂ → Laying o ts ps vs bs l (i + 1) (at + r) (from + p + v) l₂
       unfolding itemsTests itemsGiven itemsBytes
       laying-again r l₂ y =
           let fl = first-length in
@@ -361,15 +361,15 @@ module _ (ts ps vs bs l : List ℕ) (f : ItemsFit ts ps vs bs (length l)) where
             rest = s ∙ (rw next at (w .rest));
           }
 
-    pub laying-done : length ts ≤ i → ItemsLaid ts ps vs bs l (record { size = at; used = from }) l₁
+    pub laying-done : length ts ≤ i → ItemsLaidAt o ts ps vs bs l (record { size = at; used = from }) l₁
     unfolding lentItems itemsGiven itemsBytes sum
     laying-done h =
         let z : drop i ts ≡ [] = drop-of-length-le ts {i = i} h in
         let zp : drop i ps ≡ [] = drop-of-length-le ps {i = i} (omega (arith, f .listed .prefixes)) in
         let zv : drop i vs ≡ [] = drop-of-length-le vs {i = i} (omega (arith, f .listed .values)) in
         let u : from + 0 ≡ sum ps + sum vs = rw (zp, zv) at (w .used) in
-        let s : at + 0 ≡ length (laidItems ts ps vs bs) = rw z at (w .size) in
-        let r : store at [] l₁ ≡ store 0 (laidItems ts ps vs bs) l = rw z at (w .rest) in
+        let s : at + 0 ≡ o + length (laidItems ts ps vs bs) = rw z at (w .size) in
+        let r : store at [] l₁ ≡ store o (laidItems ts ps vs bs) l = rw z at (w .rest) in
         record { size = omega arith; used = omega arith; bytes = sym (store-nil at l₁) ∙ r }
 
 -- ---- a part of the lists, by its indices in the whole
@@ -385,20 +385,20 @@ range-item i₀ i j xs h f =
 pub whole : (n : ℕ) (xs : List ℕ) → length xs ≡ n → part 0 n xs ≡ xs
 whole n xs e = take-all (n - 0) xs (omega arith)
 
-pub record LayingPart (ts ps vs bs l : List ℕ) (i₀ j from₀ i at from : ℕ) (l₁ : List ℕ) : Type 0 where
+pub record LayingPart (o : ℕ) (ts ps vs bs l : List ℕ) (i₀ j from₀ i at from : ℕ) (l₁ : List ℕ) : Type 0 where
   pub past : i₀ ≤ i
   pub most : i ≤ j
   pub after : from₀ ≤ from
-  pub is : Laying (part i₀ j ts) (part i₀ j ps) (part i₀ j vs) (drop from₀ bs) l (i - i₀) at (from - from₀) l₁
+  pub is : Laying o (part i₀ j ts) (part i₀ j ps) (part i₀ j vs) (drop from₀ bs) l (i - i₀) at (from - from₀) l₁
 
-module _ (ts ps vs bs l : List ℕ) (i₀ j from₀ : ℕ) (b : Within ts ps vs bs i₀ j from₀) (f : ItemsFit (part i₀ j ts) (part i₀ j ps) (part i₀ j vs) (drop from₀ bs) (length l)) where
-  pub range-start : LayingPart ts ps vs bs l i₀ j from₀ i₀ 0 from₀ l
+module _ (o : ℕ) (ts ps vs bs l : List ℕ) (i₀ j from₀ : ℕ) (b : Within ts ps vs bs i₀ j from₀) (q : o ≤ length l) (f : ItemsFit (part i₀ j ts) (part i₀ j ps) (part i₀ j vs) (drop from₀ bs) (length l - o)) where
+  pub range-start : LayingPart o ts ps vs bs l i₀ j from₀ i₀ o from₀ l
   range-start =
       let z : i₀ - i₀ ≡ 0 = omega arith in
       let y : from₀ - from₀ ≡ 0 = omega arith in
-      record { past = omega arith; most = b .order; after = omega arith; is = rw (z, y) (laying-start (part i₀ j ts) (part i₀ j ps) (part i₀ j vs) (drop from₀ bs) l f) }
+      record { past = omega arith; most = b .order; after = omega arith; is = rw (z, y) (laying-start o (part i₀ j ts) (part i₀ j ps) (part i₀ j vs) (drop from₀ bs) l q f) }
 
-  module _ (i at from : ℕ) (l₁ : List ℕ) (w : LayingPart ts ps vs bs l i₀ j from₀ i at from l₁) where
+  module _ (i at from : ℕ) (l₁ : List ℕ) (w : LayingPart o ts ps vs bs l i₀ j from₀ i at from l₁) where
     module _ (h : i < j) (p v : ℕ) (ep : p ≡ getD ps i 0) (ev : v ≡ getD vs i 0) where
       among : i - i₀ < length (part i₀ j ts)
       among = rw (length-range i₀ j ts (b .within)) (let k = w .past in omega arith)
@@ -417,14 +417,14 @@ module _ (ts ps vs bs l : List ℕ) (i₀ j from₀ : ℕ) (b : Within ts ps vs 
 
       pub range-fits : PartFits (getD ts i 0) p v from (length bs) at (length l₁)
       range-fits =
-          let y = laying-fits (part i₀ j ts) (part i₀ j ps) (part i₀ j vs) (drop from₀ bs) l f (i - i₀) at (from - from₀) l₁ (w .is) among p v first-prefix first-value in
+          let y = laying-fits o (part i₀ j ts) (part i₀ j ps) (part i₀ j vs) (drop from₀ bs) l q f (i - i₀) at (from - from₀) l₁ (w .is) among p v first-prefix first-value in
           let x : PartFits (getD ts i 0) p v (from - from₀) (length (drop from₀ bs)) at (length l₁) = rw (range-item i₀ i j ts (w .past) h) at y in
           let k = w .after in
           let n = length-drop from₀ bs in
-          let o = b .bytes in
+          let z = b .bytes in
           record { bytes = omega (arith, x .bytes); passed = x .passed; room = x .room }
 
-      pub range-again : (r : ℕ) (l₂ : List ℕ) → PartLaid (getD ts i 0) p v from bs at l₁ r l₂ → LayingPart ts ps vs bs l i₀ j from₀ (i + 1) (at + r) (from + p + v) l₂
+      pub range-again : (r : ℕ) (l₂ : List ℕ) → PartLaid (getD ts i 0) p v from bs at l₁ r l₂ → LayingPart o ts ps vs bs l i₀ j from₀ (i + 1) (at + r) (from + p + v) l₂
       range-again r l₂ y =
           let k = w .after in
           let g = w .past in
@@ -439,11 +439,11 @@ module _ (ts ps vs bs l : List ℕ) (i₀ j from₀ : ℕ) (b : Within ts ps vs 
             past = omega arith;
             most = omega arith;
             after = omega arith;
-            is = rw (a, c) at (laying-again (part i₀ j ts) (part i₀ j ps) (part i₀ j vs) (drop from₀ bs) l f (i - i₀) at (from - from₀) l₁ (w .is) among p v first-prefix first-value r l₂ x);
+            is = rw (a, c) at (laying-again o (part i₀ j ts) (part i₀ j ps) (part i₀ j vs) (drop from₀ bs) l q f (i - i₀) at (from - from₀) l₁ (w .is) among p v first-prefix first-value r l₂ x);
           }
 
-    pub range-done : j ≤ i → ItemsLaid (part i₀ j ts) (part i₀ j ps) (part i₀ j vs) (drop from₀ bs) l (record { size = at; used = from - from₀ }) l₁
-    range-done h = laying-done (part i₀ j ts) (part i₀ j ps) (part i₀ j vs) (drop from₀ bs) l f (i - i₀) at (from - from₀) l₁ (w .is) (rw (length-range i₀ j ts (b .within)) (omega arith))
+    pub range-done : j ≤ i → ItemsLaidAt o (part i₀ j ts) (part i₀ j ps) (part i₀ j vs) (drop from₀ bs) l (record { size = at; used = from - from₀ }) l₁
+    range-done h = laying-done o (part i₀ j ts) (part i₀ j ps) (part i₀ j vs) (drop from₀ bs) l q f (i - i₀) at (from - from₀) l₁ (w .is) (rw (length-range i₀ j ts (b .within)) (omega arith))
 
 -- ---- a chunk
 
@@ -452,25 +452,25 @@ unfolding chunkBytes
 length-chunk ssrc ts ps vs bs = simp (length-append, length-be, length-replicate) (omega arith)
 
 module _ (ts ps vs bs l : List ℕ) (f : ChunkFits ts ps vs bs (length l)) where
-  pub chunk-items : (l₁ : List ℕ) → length l₁ ≡ length l → ItemsFit ts ps vs bs (length (take (length l₁ - 4) (drop 4 l₁)))
-  chunk-items l₁ e =
-      let n : length (take (length l₁ - 4) (drop 4 l₁)) ≡ length l₁ - 4 = length-take-le (length l₁ - 4) (drop 4 l₁) (rw length-drop (omega arith)) in
-      record { listed = f .listed; bytes = f .bytes; tests = f .tests; room = omega (arith, f .room) }
+  pub chunk-items : (n : ℕ) → n ≡ length l → ItemsFit ts ps vs bs (n - 4)
+  chunk-items n e = record { listed = f .listed; bytes = f .bytes; tests = f .tests; room = omega (arith, f .room) }
 
-  pub chunk-laid : (ssrc : ℕ) (l₁ last : List ℕ) (r : Laid) (l₃ : List ℕ) → l₁ ≡ store 0 (be 4 ssrc) l → ItemsLaid ts ps vs bs (take (length l₁ - 4) (drop 4 l₁)) r last
-      → l₃ ≡ store (4 + r .size) (replicate (4 - (4 + r .size) % 4) 0) (take 4 l₁ ++ (last ++ drop (length l₁ - 4) (drop 4 l₁)))
-      → ChunkLaid ssrc ts ps vs bs l (record { size = 4 + r .size + (4 - (4 + r .size) % 4); used = r .used }) l₃
+  pub chunk-start : (n : ℕ) → n ≡ length l → 4 ≤ n
+  chunk-start n e = omega (arith, f .room)
+
+  pub chunk-laid : (ssrc : ℕ) (l₁ l₂ : List ℕ) (r : Laid) (l₃ : List ℕ) → l₁ ≡ store 0 (be 4 ssrc) l → ItemsLaidAt 4 ts ps vs bs l₁ r l₂
+      → l₃ ≡ store (r .size) (replicate (4 - r .size % 4) 0) l₂
+      → ChunkLaid ssrc ts ps vs bs l (record { size = r .size + (4 - r .size % 4); used = r .used }) l₃
   unfolding chunkBytes
-  chunk-laid ssrc l₁ last r l₃ e₁ y e₃ =
+  chunk-laid ssrc l₁ l₂ r l₃ e₁ y e₃ =
       let g = f .room in
       let b = length-be 4 ssrc in
       let n : length l₁ ≡ length l = ap length e₁ ∙ length-store 0 (be 4 ssrc) l (omega arith) in
       let s = y .size in
-      let z : length (replicate {A = ℕ} (4 - (4 + r .size) % 4) 0) ≡ 4 - (4 + r .size) % 4 = length-replicate _ _ in
-      let m : take 4 l₁ ++ (last ++ drop (length l₁ - 4) (drop 4 l₁)) ≡ store 4 (laidItems ts ps vs bs) l₁ = rw (y .bytes) (store-part 4 (laidItems ts ps vs bs) l₁ (omega arith)) in
-      let p₁ = parts-laid 4 (4 + r .size) (laidItems ts ps vs bs) (replicate (4 - (4 + r .size) % 4) 0) l₁ _ l₃ m e₃ (omega arith) (omega arith) in
-      let k : length (laidItems ts ps vs bs ++ replicate (4 - (4 + r .size) % 4) 0) ≡ r .size + (4 - (4 + r .size) % 4) = length-append (laidItems ts ps vs bs) (replicate (4 - (4 + r .size) % 4) 0) ∙ omega arith in
-      let p₂ = parts-laid 0 4 (be 4 ssrc) (laidItems ts ps vs bs ++ replicate (4 - (4 + r .size) % 4) 0) l l₁ l₃ e₁ p₁ (omega arith) (omega arith) in
+      let z : length (replicate {A = ℕ} (4 - r .size % 4) 0) ≡ 4 - r .size % 4 = length-replicate _ _ in
+      let p₁ = parts-laid 4 (r .size) (laidItems ts ps vs bs) (replicate (4 - r .size % 4) 0) l₁ l₂ l₃ (y .bytes) e₃ (omega arith) (omega arith) in
+      let k : length (laidItems ts ps vs bs ++ replicate (4 - r .size % 4) 0) ≡ r .size - 4 + (4 - r .size % 4) = length-append (laidItems ts ps vs bs) (replicate (4 - r .size % 4) 0) ∙ omega arith in
+      let p₂ = parts-laid 0 4 (be 4 ssrc) (laidItems ts ps vs bs ++ replicate (4 - r .size % 4) 0) l l₁ l₃ e₁ p₁ (omega arith) (omega arith) in
       record { size = omega (arith, length-chunk ssrc ts ps vs bs); used = y .used; bytes = p₂ ∙ rw s }
 
 -- ---- the whole lists are a part
@@ -479,11 +479,13 @@ module _ (ts ps vs bs : List ℕ) (d : Listed ts ps vs) where
   pub whole-within : Within ts ps vs bs 0 (length ts) 0
   whole-within = record { order = omega arith; within = omega arith; lists = d; bytes = omega arith }
 
-  pub whole-items : (n : ℕ) → ItemsFit ts ps vs bs n → ItemsFit (part 0 (length ts) ts) (part 0 (length ts) ps) (part 0 (length ts) vs) bs n
-  whole-items n f = rw (whole (length ts) ts refl, whole (length ts) ps (d .prefixes), whole (length ts) vs (d .values)) f
+  pub whole-items : (n : ℕ) → ItemsFit ts ps vs bs n → ItemsFit (part 0 (length ts) ts) (part 0 (length ts) ps) (part 0 (length ts) vs) bs (n - 0)
+  whole-items n f = rw (sub-zero n, whole (length ts) ts refl, whole (length ts) ps (d .prefixes), whole (length ts) vs (d .values)) f
 
-  pub whole-laid : (l : List ℕ) (r : Laid) (l₁ : List ℕ) → ItemsLaid (part 0 (length ts) ts) (part 0 (length ts) ps) (part 0 (length ts) vs) bs l r l₁ → ItemsLaid ts ps vs bs l r l₁
-  whole-laid l r l₁ y = rw (whole (length ts) ts refl, whole (length ts) ps (d .prefixes), whole (length ts) vs (d .values)) at y
+  pub whole-laid : (l : List ℕ) (r : Laid) (l₁ : List ℕ) → ItemsLaidAt 0 (part 0 (length ts) ts) (part 0 (length ts) ps) (part 0 (length ts) vs) bs l r l₁ → ItemsLaid ts ps vs bs l r l₁
+  whole-laid l r l₁ y =
+      let z : ItemsLaidAt 0 ts ps vs bs l r l₁ = rw (whole (length ts) ts refl, whole (length ts) ps (d .prefixes), whole (length ts) vs (d .values)) at y in
+      record { size = omega (arith, z .size); used = z .used; bytes = z .bytes }
 
   pub whole-chunk : (n : ℕ) → ChunkFits ts ps vs bs n → ChunkFits (part 0 (length ts) ts) (part 0 (length ts) ps) (part 0 (length ts) vs) bs n
   whole-chunk n f = rw (whole (length ts) ts refl, whole (length ts) ps (d .prefixes), whole (length ts) vs (d .values)) f
@@ -562,4 +564,4 @@ module _ (ssrc : ℕ) (ts ps vs bs : List ℕ) where
     unfolding writeChunk
     chunk-done l l₁ n r q f y = done-written w _ _ l h n l₁ q f (y .bytes)
 
-pub ruleset chunks = (writer, not-true, not-false, left-start, left-short, left-again, left-done, prefixes-other, values-other, pairs-start, pairs-done, pairs-short, pairs-short-value, pairs-again, lists-over, lists-left, sizing-start, sizing-refused, sizing-again, sizing-fits, sizing-done, start-priv, start-plain, part-fits, part-laid, range-start, range-fits, range-again, range-done, whole-within, whole-items, whole-laid, whole-chunk, whole-chunk-laid, chunk-items, chunk-laid, chunk-disagree, chunk-refused, chunk-over, chunk-size, chunk-fits, chunk-not-written, chunk-short, chunk-done)
+pub ruleset chunks = (writer, not-true, not-false, left-start, left-short, left-again, left-done, prefixes-other, values-other, pairs-start, pairs-done, pairs-short, pairs-short-value, pairs-again, lists-over, lists-left, sizing-start, sizing-refused, sizing-again, sizing-fits, sizing-done, start-priv, start-plain, part-fits, part-laid, range-start, range-fits, range-again, range-done, whole-within, whole-items, whole-laid, whole-chunk, whole-chunk-laid, chunk-items, chunk-start, chunk-laid, chunk-disagree, chunk-refused, chunk-over, chunk-size, chunk-fits, chunk-not-written, chunk-short, chunk-done)

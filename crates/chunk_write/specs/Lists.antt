@@ -68,6 +68,12 @@ pub record ItemsLaid (ts ps vs bs l : List ℕ) (r : Laid) (l₁ : List ℕ) : T
   pub used : r .used ≡ sum ps + sum vs
   pub bytes : l₁ ≡ store 0 (laidItems ts ps vs bs) l
 
+-- the same from index o on, with the index after them as size
+pub record ItemsLaidAt (o : ℕ) (ts ps vs bs l : List ℕ) (r : Laid) (l₁ : List ℕ) : Type 0 where
+  pub size : r .size ≡ o + length (laidItems ts ps vs bs)
+  pub used : r .used ≡ sum ps + sum vs
+  pub bytes : l₁ ≡ store o (laidItems ts ps vs bs) l
+
 -- the bytes of the chunk of them
 abbrev pub laidChunk : ℕ → List ℕ → List ℕ → List ℕ → List ℕ → List ℕ
 laidChunk ssrc ts ps vs bs = chunkBytes (chunkGiven (record { ssrc = ssrc; items = lentItems ts ps vs bs }))

@@ -5,13 +5,13 @@ use utils::error::RtcpWriteError;
 use utils::writer;
 use utils::writer::Written;
 ghost use mathlib.Core.Path.{_≡_};
-ghost use Prim.Native.Nat.{_+_, _*_, _<_, _≤_, _^_};
+ghost use Prim.Native.Nat.{_+_, _-_, _*_, _<_, _≤_, _^_};
 ghost use lib.ListN.{length, drop, getD};
 ghost use Rattle.rfc3550.specs.Bytes.{sum};
 ghost use Rattle.rfc3550.specs.Write.{itemsAgree, chunkSize, writeChunk};
 ghost use Rattle.utils.specs.Writer.{writtenOf};
 ghost use Rattle.chunk_write.specs.Sizes.{sizesOf, textStart};
-ghost use Rattle.chunk_write.specs.Lists.{leftOf, paired, Listed, part, Within, PartFits, PartLaid, ItemsFit, ItemsLaid, ChunkFits, ChunkLaid};
+ghost use Rattle.chunk_write.specs.Lists.{leftOf, paired, Listed, part, Within, PartFits, PartLaid, ItemsFit, ItemsLaid, ItemsLaidAt, ChunkFits, ChunkLaid};
 
 // What is left of a number once a list's numbers are taken off it.
 pub enum Rest {
@@ -146,10 +146,11 @@ fn write_item_at(
     item::write_text_unchecked(&mut buf[at..], item_type, prefix_len, &bytes[start..end])
 }
 
-// Lays the items from the first up to the end-th, whose bytes start at index start, at the start of buf. By their indices in the
-// whole lists: so a packet's chunks are laid without a part of each list for each chunk.
+// Lays the items from the first up to the end-th, whose bytes start at index start, from index to on, and returns the
+// index after them as size. By their indices in the whole lists: so a packet's chunks are laid without a part of each list for each chunk.
 fn write_items_part(
     buf: &mut [u8],
+    to: usize,
     types: &[u8],
     prefixes: &[u64],
     values: &[u64],
@@ -158,11 +159,11 @@ fn write_items_part(
     end: usize,
     start: usize,
 ) -> Laid
-    requires { ⌜ Within (now types) (now prefixes) (now values) (now bytes) first end start × ItemsFit (part first end (now types)) (part first end (now prefixes)) (part first end (now values)) (drop start (now bytes)) (length (now buf)) ⌝ }
-    ensures { λ r. ⌜ ItemsLaid (part first end (now (types .entry))) (part first end (now (prefixes .entry))) (part first end (now (values .entry))) (drop start (now (bytes .entry))) (now (buf .entry)) r (now (buf .exit)) ⌝ }
+    requires { ⌜ Within (now types) (now prefixes) (now values) (now bytes) first end start × (to ≤ length (now buf)) × ItemsFit (part first end (now types)) (part first end (now prefixes)) (part first end (now values)) (drop start (now bytes)) (length (now buf) - to) ⌝ }
+    ensures { λ r. ⌜ ItemsLaidAt to (part first end (now (types .entry))) (part first end (now (prefixes .entry))) (part first end (now (values .entry))) (drop start (now (bytes .entry))) (now (buf .entry)) r (now (buf .exit)) ⌝ }
 {
     let mut i = first;
-    let mut at: usize = 0;
+    let mut at = to;
     let mut from = start;
     while i < end {
         let p = element_unchecked(prefixes, i);
@@ -188,7 +189,7 @@ pub fn write_items_unchecked(
     requires { ⌜ ItemsFit (now types) (now prefixes) (now values) (now bytes) (length (now buf)) ⌝ }
     ensures { λ r. ⌜ ItemsLaid (now (types .entry)) (now (prefixes .entry)) (now (values .entry)) (now (bytes .entry)) (now (buf .entry)) r (now (buf .exit)) ⌝ }
 {
-    write_items_part(buf, types, prefixes, values, bytes, 0, types.len(), 0)
+    write_items_part(buf, 0, types, prefixes, values, bytes, 0, types.len(), 0)
 }
 
 // Lays the chunk of such items at the start of buf.
@@ -207,17 +208,8 @@ pub fn write_part_unchecked(
     ensures { λ r. ⌜ ChunkLaid ssrc (part first end (now (types .entry))) (part first end (now (prefixes .entry))) (part first end (now (values .entry))) (drop start (now (bytes .entry))) (now (buf .entry)) r (now (buf .exit)) ⌝ }
 {
     writer::write_u32_unchecked(buf, 0, ssrc);
-    let items = write_items_part(
-        &mut buf[4..],
-        types,
-        prefixes,
-        values,
-        bytes,
-        first,
-        end,
-        start,
-    );
-    let at = 4 + items.size;
+    let items = write_items_part(buf, 4, types, prefixes, values, bytes, first, end, start);
+    let at = items.size;
     let n = 4 - at % 4;
     writer::write_fill_unchecked(buf, at, n);
     Laid {

@@ -6,15 +6,15 @@ use Rattle.chunk_write.proofs.chunk.write_items_unchecked.Reads as read
 use Rattle.chunk_write.proofs.chunk.write_items_unchecked.Lts as lts
 use Rattle.chunk_write.proofs.chunk.write_items_part.Reads as write-items-part-reads
 
--- src/chunk.rt:171:5
+-- src/chunk.rt:192:5
 write-items-part-requires : tie.Need-write-items-part-requires
 write-items-part-requires c κs = search chunks
 
--- src/chunk.rt:161:1
+-- src/chunk.rt:182:1
 same-length : tie.Need-same-length
 same-length c = search chunks
 
--- src/chunk.rt:161:1
+-- src/chunk.rt:182:1
 returns : tie.Need-returns
 returns c = search chunks
 
