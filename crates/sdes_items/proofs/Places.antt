@@ -72,6 +72,10 @@ module _ (s : List ℕ) (at : ℕ) (h : Stands s at) where
       pub stands-value : (k : ℕ) → k ≡ getD s (at + 2) 0 → k ≤ n - 1
       stands-value k q = let m = fits in omega arith
 
+-- behind an item something stands
+pub stands-next : (s : List ℕ) (p : Place) → Stands s (p .at) → (getD s (p .at) 0 ≡ 0 → ⊥) → placeAfter s p .at < length s
+stands-next s p h z = rw (ne-eqb _ _ z) (h .whole z)
+
 pub length-row : (s : List ℕ) (p : Place) → length (rowAt s p) ≡ 5
 length-row s p = go (eqb (getD s (p .at) 0) 0) (eqb (getD s (p .at) 0) 8)
   where
@@ -88,7 +92,7 @@ length-rows zero s p = refl
 length-rows (suc n) s p = rw (length-append (rowAt s p), length-row s p, length-rows n s (placeAfter s p)) (omega arith)
 
 -- the next place is two bytes further on at least
-after-more : (s : List ℕ) (p : Place) → p .at + 2 ≤ placeAfter s p .at
+pub after-more : (s : List ℕ) (p : Place) → p .at + 2 ≤ placeAfter s p .at
 after-more s p = go (eqb (getD s (p .at) 0) 0)
   where
     go : (b : Bool) → p .at + 2 ≤ pick b (chunkPlace s (p .at + fill (p .at))) (record { ssrc = p .ssrc; at = p .at + 2 + getD s (p .at + 1) 0 }) .at
@@ -150,9 +154,9 @@ zero-here s p r e =
       next = sym (after-zero s p _ z refl);
     }
 
-item-here : (s : List ℕ) (p : Place) (i : Item) (r : List ℕ) → itemBytes i ++ r ≡ drop (p .at) s → isPriv i ≡ eqb (itemType i) 8 → (itemType i ≡ 0 → ⊥)
+item-here : (s : List ℕ) (p : Place) (i : Item) (r : List ℕ) → itemBytes i ++ r ≡ drop (p .at) s → isPriv i ≡ eqb (itemType i) 8 → (itemType i ≡ 0 → ⊥) → 0 < length r
     → Here s p (itemRow (p .ssrc) (p .at) i) (record { ssrc = p .ssrc; at = p .at + length (itemBytes i) })
-item-here s p (item t v) r e k z =
+item-here s p (item t v) r e k z n =
     let f : getD s (p .at) 0 ≡ t = first-at s (p .at) _ e in
     let g : getD s (p .at + 1) 0 ≡ length v = byte-at s (p .at) 1 _ e in
     let y : getD s (p .at) 0 ≡ 0 → ⊥ = λ h. z (sym f ∙ h) in
@@ -163,7 +167,7 @@ item-here s p (item t v) r e k z =
       is = sym (row-plain s p t (length v) (sym f) (sym g) z w);
       next = sym (after-item s p (length v) y (sym g)) ∙ ap (λ (n : ℕ). record { ssrc = p .ssrc; at = n }) (sym m);
     }
-item-here s p (priv q v) r e k z =
+item-here s p (priv q v) r e k z n =
     let f : getD s (p .at) 0 ≡ 8 = first-at s (p .at) _ e in
     let g : getD s (p .at + 1) 0 ≡ suc (length (q ++ v)) = byte-at s (p .at) 1 _ e in
     let h : getD s (p .at + 2) 0 ≡ length q = byte-at s (p .at) 2 _ e in
@@ -178,6 +182,12 @@ item-here s p (priv q v) r e k z =
     }
 
 -- ---- the items of a chunk, then what follows them
+
+items-some : (t rel : ℕ) (bs : List ℕ) {x : List Item × List ℕ} → readItems t rel bs ≡ ok x → 0 < length bs
+unfolding readItems
+items-some zero rel bs e = absurd (refused≢ok e)
+items-some (suc t) rel [] e = absurd (refused≢ok e)
+items-some (suc t) rel (b ∷ bs) e = omega arith
 
 -- the chunk behind items that stand at `at`
 abbrev behind : ℕ → List Item → ℕ
@@ -204,15 +214,9 @@ items-read (suc t) rel s p {x} xs e g = go (λ rel p x e g. items-read t rel s p
         let l : behind (p .at) (x .0) ≡ behind (p .at + length (itemBytes (y .0))) (z .0) = rw (n, length-append (itemBytes (y .0)) (itemsBytes (z .0)), ← add-assoc (p .at) (length (itemBytes (y .0))) (length (itemsBytes (z .0)))) in
         let m = again _ (record { ssrc = p .ssrc; at = p .at + length (itemBytes (y .0)) }) z (rw r at q₁) (subst (λ (n : ℕ). Reads s (chunkPlace s n) xs) l g) in
         rw (n, append-assoc (itemRow (p .ssrc) (p .at) (y .0)))
-        (reads-more s p _ _ _ (item-here s p (y .0) (y .1) (w .bytes ∙ d) (w .kind) (λ h. absurd (omega arith))) m)))
+        (reads-more s p _ _ _ (item-here s p (y .0) (y .1) (w .bytes ∙ d) (w .kind) (λ h. absurd (omega arith)) (items-some t _ (y .1) q₁)) m)))
 
 -- ---- the chunks
-
-items-some : (t rel : ℕ) (bs : List ℕ) {x : List Item × List ℕ} → readItems t rel bs ≡ ok x → 0 < length bs
-unfolding readItems
-items-some zero rel bs e = absurd (refused≢ok e)
-items-some (suc t) rel [] e = absurd (refused≢ok e)
-items-some (suc t) rel (b ∷ bs) e = omega arith
 
 abbrev ChunkRead : List ℕ → Chunk × List ℕ → Type 0
 ChunkRead s x = (y : List Item × List ℕ) × (readItems (length s) 4 (drop 4 s) ≡ ok y) × (y .0 ≡ x .0 .items) × (val (take 4 s) ≡ x .0 .ssrc)

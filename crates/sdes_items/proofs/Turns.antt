@@ -5,7 +5,7 @@ use mathlib.Core.List.{List, [], _∷_, _++_}
 use native.Mathlib.Nat.{zero-add}
 use native.Mathlib.Omega.{arith}
 use borrow.Author.Needs.{needs}
-use borrow.Author.Tests.{le-leb, lt-leb}
+use borrow.Author.Tests.{le-leb, lt-leb, ne-eqb}
 use lib.ListN.{length, getD, set, take}
 use lib.Seq.{length-take-le}
 use lib.Dec.{leb}
@@ -28,8 +28,8 @@ use Rattle.sdes.proofs.Packets.{padding-start}
 use Rattle.sdes_items.specs.declared.rows.Row.{Row}
 use Rattle.sdes_items.specs.declared.rows.Place.{Place}
 use Rattle.sdes_items.specs.Rows.{sdesRows}
-use Rattle.sdes_items.specs.Places.{rowOf, chunkPlace, placeAfter, rowAt, Stands, RowsAt, rowsFrom, Needed, RowsLaid}
-use Rattle.sdes_items.proofs.Places.{chunk-none, chunk-some, after-zero, after-item, after-less, row-end, row-plain, row-priv, stands-item, stands-type, stands-prefix, stands-one, stands-value, length-row, length-rows, rows-most, rows-one, Reads, packet-read, packet-most}
+use Rattle.sdes_items.specs.Places.{rowOf, chunkPlace, placeAfter, rowAt, Stands, RowsAt, rowsFrom, Needed, Room, Laid, ItemsLaid, RowsLaid}
+use Rattle.sdes_items.proofs.Places.{chunk-none, chunk-some, after-zero, after-item, after-less, row-end, row-plain, row-priv, stands-item, stands-type, stands-prefix, stands-one, stands-value, stands-next, length-row, length-rows, after-more, rows-most, rows-one, Reads, packet-read, packet-most}
 
 -- ---- the count
 
@@ -90,63 +90,102 @@ row-laid r i l h = store-puts i (r .ssrc) (r .«type_» ∷ r .value ∷ r .pref
 pub row-stored : (r : Row) (s : List ℕ) (p : Place) (i : ℕ) (l l₁ : List ℕ) → rowOf r ≡ rowAt s p → l₁ ≡ store i (rowOf r) l → l₁ ≡ store i (rowAt s p) l
 row-stored r s p i l l₁ e q = q ∙ ap (λ (xs : List ℕ). store i xs l) e
 
--- the rows that are left, stored where the turns stand, make the whole
-pub record Laying (s l : List ℕ) (p : Place) (i : ℕ) (l₁ : List ℕ) : Type 0 where
-  pub n : ℕ
-  pub left : ℕ
-  pub whole : RowsAt n s (chunkPlace s 4)
-  pub room : n * 5 ≤ length l
-  pub rest : RowsAt left s p
-  pub place : i + left * 5 ≡ n * 5
-  pub long : length l₁ ≡ length l
-  pub same : store i (rowsFrom left s p) l₁ ≡ store 0 (rowsFrom n s (chunkPlace s 4)) l
+module _ (s : List ℕ) (p : Place) (i : ℕ) (l : List ℕ) where
+  pub lay-start : Room s p l i → Laid s p i l p i l
+  lay-start h = record { n = h .n; left = h .n; whole = h .rows; rest = h .rows; fits = h .fits; place = refl; long = refl; same = refl }
 
-module _ (s l : List ℕ) where
-  pub lay-start : (p : Place) → ((n : ℕ) × RowsAt n s (chunkPlace s 4) × (n * 5 ≤ length l)) → p ≡ chunkPlace s 4 → Laying s l p 0 l
-  lay-start p h e = record { n = h .0; left = h .0; whole = h .1; room = h .2; rest = rw e (h .1); place = omega arith; long = refl; same = rw e }
+  module _ (q : Place) (j : ℕ) (l₁ : List ℕ) (g : Laid s p i l q j l₁) where
+    pub lay-left : Room s q l₁ j
+    lay-left = record { n = g .left; rows = g .rest; fits = omega (arith, g .place, g .long, g .fits) }
 
-  module _ (p : Place) (i : ℕ) (l₁ : List ℕ) (g : Laying s l p i l₁) where
-    pub lay-done : length s ≤ p .at → RowsLaid s l i l₁
-    unfolding rowsFrom
-    lay-done h =
-        let z : 0 ≡ g .left = rows-one 0 (g .left) s p h (g .rest) in
-        record { n = g .n; rows = g .whole; size = omega (arith, g .place); laid = sym (store-nil i l₁) ∙ (rw (← z) at (g .same)) }
+    -- and on from there
+    pub lay-more : (r : Place) (k : ℕ) (l₂ : List ℕ) → Laid s q j l₁ r k l₂ → Laid s p i l r k l₂
+    lay-more r k l₂ h =
+        let e : h .n ≡ g .left = rows-one (h .n) (g .left) s q (h .whole) (g .rest) in
+        record {
+          n = g .n;
+          left = h .left;
+          whole = g .whole;
+          rest = h .rest;
+          fits = g .fits;
+          place = omega (arith, h .place, g .place);
+          long = h .long ∙ g .long;
+          same = h .same ∙ ap (λ (n : ℕ). store j (rowsFrom n s q) l₁) e ∙ g .same;
+        }
 
-    module _ (h : p .at < length s) where
-      pub lay-stands : Stands s (p .at)
-      lay-stands = stands s p (g .left) h (g .rest)
+    module _ (h : q .at < length s) where
+      pub lay-stands : Stands s (q .at)
+      lay-stands = stands s q (g .left) h (g .rest)
 
-      some : (k : ℕ) → RowsAt k s p → 1 ≤ k
+      some : (k : ℕ) → RowsAt k s q → 1 ≤ k
       some zero r = absurd (omega arith)
       some (suc k) r = omega arith
 
-      pub lay-room : i + 5 ≤ length l₁
-      lay-room = omega (arith, g .place, g .long, g .room, some (g .left) (g .rest))
+      pub lay-room : j + 5 ≤ length l₁
+      lay-room = omega (arith, g .place, g .long, g .fits, some (g .left) (g .rest))
 
-      pub lay-fits : length s ≤ 262144 → i + 5 < 2 ^ 64
-      lay-fits m = omega (arith, g .place, some (g .left) (g .rest), rows-most (g .n) s (chunkPlace s 4) (g .whole))
-
-      pub lay-again : (q : Place) (l₂ : List ℕ) → (q ≡ placeAfter s p) × (l₂ ≡ store i (rowAt s p) l₁) → Laying s l q (i + 5) l₂
+      pub lay-again : (q₁ : Place) (l₂ : List ℕ) → (q₁ ≡ placeAfter s q) × (l₂ ≡ store j (rowAt s q) l₁) → Laid s p i l q₁ (j + 5) l₂
       unfolding rowsFrom
-      lay-again q l₂ e = go (g .left) (g .rest) (g .place) (g .same)
+      lay-again q₁ l₂ e = go (g .left) (g .rest) (g .place) (g .same)
         where
-          go : (k : ℕ) → RowsAt k s p → i + k * 5 ≡ g .n * 5 → store i (rowsFrom k s p) l₁ ≡ store 0 (rowsFrom (g .n) s (chunkPlace s 4)) l → Laying s l q (i + 5) l₂
+          go : (k : ℕ) → RowsAt k s q → j + k * 5 ≡ i + g .n * 5 → store j (rowsFrom k s q) l₁ ≡ store i (rowsFrom (g .n) s p) l → Laid s p i l q₁ (j + 5) l₂
           go zero r a b = absurd (omega arith)
           go (suc k) r a b =
-              let f = length-row s p in
-              let t = length-rows k s (placeAfter s p) in
+              let f = length-row s q in
+              let t = length-rows k s (placeAfter s q) in
               let y = g .long in
-              let m = g .room in
+              let m = g .fits in
               record {
                 n = g .n;
                 left = k;
                 whole = g .whole;
-                room = g .room;
                 rest = rw (e .0) (r .1);
+                fits = g .fits;
                 place = omega arith;
-                long = ap length (e .1) ∙ length-store i (rowAt s p) l₁ (omega arith) ∙ g .long;
-                same = rw (e .0, e .1) (store-store i (i + 5) (rowAt s p) (rowsFrom k s (placeAfter s p)) l₁ (omega arith) (omega arith) ∙ b);
+                long = ap length (e .1) ∙ length-store j (rowAt s q) l₁ (omega arith) ∙ g .long;
+                same = rw (e .0, e .1) (store-store j (j + 5) (rowAt s q) (rowsFrom k s (placeAfter s q)) l₁ (omega arith) (omega arith) ∙ b);
               }
+
+pub items-start : (s : List ℕ) (p : Place) (i : ℕ) (l : List ℕ) → p .at < length s → Room s p l i → ItemsLaid s p i l p i l
+items-start s p i l h r = record { within = h; on = omega arith; laid = lay-start s p i l r }
+
+module _ (s : List ℕ) (p : Place) (i : ℕ) (l : List ℕ) (q : Place) (j : ℕ) (l₁ : List ℕ) (g : ItemsLaid s p i l q j l₁) where
+  pub items-stands : Stands s (q .at)
+  items-stands = lay-stands s p i l q j l₁ (g .laid) (g .within)
+
+  pub items-room : j + 5 ≤ length l₁
+  items-room = lay-room s p i l q j l₁ (g .laid) (g .within)
+
+  pub items-within : q .at < length s
+  items-within = g .within
+
+  module _ (r : Place) (l₂ : List ℕ) (e : (r ≡ placeAfter s q) × (l₂ ≡ store j (rowAt s q) l₁)) where
+    -- an item is of the same chunk as the one before it
+    pub items-again : (getD s (q .at) 0 ≡ 0 → ⊥) → ItemsLaid s p i l (record { ssrc = q .ssrc; at = r .at }) (j + 5) l₂
+    items-again z =
+        let a = after-more s q in
+        let b = g .on in
+        let f : r ≡ record { ssrc = q .ssrc; at = r .at } = e .0 ∙ rw (e .0, ne-eqb _ _ z) in
+        subst (λ (k : Place). ItemsLaid s p i l k (j + 5) l₂) f
+        (record { within = rw (e .0) (stands-next s q items-stands z); on = rw (e .0) (omega arith); laid = lay-again s p i l q j l₁ (g .laid) (g .within) r l₂ e })
+
+    pub chunk-laid : (p .at < r .at) × Laid s p i l r (j + 5) l₂
+    chunk-laid =
+        let a = after-more s q in
+        let b = g .on in
+        (rw (e .0) (omega arith), lay-again s p i l q j l₁ (g .laid) (g .within) r l₂ e)
+
+pub rows-start : (s : List ℕ) (l : List ℕ) (p : Place) → Room s (chunkPlace s 4) l 0 → p ≡ chunkPlace s 4 → Laid s (chunkPlace s 4) 0 l p 0 l
+rows-start s l p h e = rw e (lay-start s (chunkPlace s 4) 0 l h)
+
+pub rows-done : (s l : List ℕ) (p : Place) (i : ℕ) (l₁ : List ℕ) → Laid s (chunkPlace s 4) 0 l p i l₁ → length s ≤ p .at → RowsLaid s l i l₁
+unfolding rowsFrom
+rows-done s l p i l₁ g h =
+    let z : 0 ≡ g .left = rows-one 0 (g .left) s p h (g .rest) in
+    record { n = g .n; rows = g .whole; size = omega (arith, g .place); laid = sym (store-nil i l₁) ∙ (rw (← z) at (g .same)) }
+
+pub chunk-less : (s : List ℕ) (p q : Place) → p .at < length s → p .at < q .at → length s - q .at < length s - p .at
+chunk-less s p q l e = omega arith
 
 -- ---- the call
 
@@ -203,4 +242,4 @@ module _ (s : List ℕ) (o : ParsedSdes) (h : parsedSdesOf o ≡ mapOk sdesView 
           let q = c .enough m in
           sym (laid ∙ in-room (sdesRows (found .0)) l r y (omega arith) ∙ ap (λ (xs : List ℕ). (ok r, store 0 xs l)) (sym (same (w .n) (w .rows))) ∙ ap (λ (k : List ℕ). (ok r, k)) (sym (w .laid)))
 
-pub ruleset rows = (needs, chunk-none, chunk-some, after-zero, after-item, after-less, row-end, row-plain, row-priv, stands-item, stands-type, stands-prefix, stands-one, stands-value, count-start, count-done, count-fits, count-stands, count-again, room-sure, room-counted, row-laid, row-stored, lay-start, lay-done, lay-stands, lay-room, lay-fits, lay-again, items-refused, padding-start, items-body, items-short, items-laid)
+pub ruleset rows = (needs, chunk-none, chunk-some, after-zero, after-item, after-less, row-end, row-plain, row-priv, stands-item, stands-type, stands-prefix, stands-one, stands-value, count-start, count-done, count-fits, count-stands, count-again, room-sure, room-counted, row-laid, row-stored, lay-left, lay-more, items-start, items-stands, items-room, items-within, items-again, chunk-laid, rows-start, rows-done, chunk-less, items-refused, padding-start, items-body, items-short, items-laid)

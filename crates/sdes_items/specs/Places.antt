@@ -30,10 +30,10 @@ itemRowAt s p =
 abbrev pub rowAt : List ℕ → Place → List ℕ
 rowAt s p = pick (eqb (getD s (p .at) 0) 0) (p .ssrc ∷ 0 ∷ p .at ∷ 0 ∷ 0 ∷ []) (itemRowAt s p)
 
--- a zero, or an item that is whole, with a prefix that fits
+-- a zero, or an item that is whole and not the last byte of all, with a prefix that fits
 pub record Stands (s : List ℕ) (at : ℕ) : Type 0 where
   pub within : at < length s
-  pub whole : (getD s at 0 ≡ 0 → ⊥) → at + 2 + getD s (at + 1) 0 ≤ length s
+  pub whole : (getD s at 0 ≡ 0 → ⊥) → at + 2 + getD s (at + 1) 0 < length s
   pub prefix : getD s at 0 ≡ 8 → getD s (at + 2) 0 < getD s (at + 1) 0
 
 -- n rows from a place on, and no more
@@ -51,6 +51,28 @@ pub record Needed (s : List ℕ) (room r : ℕ) : Type 0 where
   pub rows : RowsAt n s (chunkPlace s 4)
   pub enough : r ≤ room → n * 5 ≤ room
   pub short : room < r → r ≡ n * 5
+
+-- the list has room for the rows from a place on, laid from i on
+pub record Room (s : List ℕ) (p : Place) (l : List ℕ) (i : ℕ) : Type 0 where
+  pub n : ℕ
+  pub rows : RowsAt n s p
+  pub fits : i + n * 5 ≤ length l
+
+-- the rows from p on are to be laid from i on: in l₁ those up to q are, up to j, and the others, stored there, make the whole
+pub record Laid (s : List ℕ) (p : Place) (i : ℕ) (l : List ℕ) (q : Place) (j : ℕ) (l₁ : List ℕ) : Type 0 where
+  pub n : ℕ
+  pub left : ℕ
+  pub whole : RowsAt n s p
+  pub rest : RowsAt left s q
+  pub fits : i + n * 5 ≤ length l
+  pub place : j + left * 5 ≡ i + n * 5
+  pub long : length l₁ ≡ length l
+  pub same : store j (rowsFrom left s q) l₁ ≡ store i (rowsFrom n s p) l
+
+pub record ItemsLaid (s : List ℕ) (p : Place) (i : ℕ) (l : List ℕ) (q : Place) (j : ℕ) (l₁ : List ℕ) : Type 0 where
+  pub within : q .at < length s
+  pub on : p .at ≤ q .at
+  pub laid : Laid s p i l q j l₁
 
 pub record RowsLaid (s l : List ℕ) (r : ℕ) (l₁ : List ℕ) : Type 0 where
   pub n : ℕ

@@ -4,14 +4,14 @@ use sdes::sdes::Sdes;
 use utils::list::Listed;
 use utils::parser;
 ghost use mathlib.Core.Path.{_≡_};
-ghost use Prim.Native.Nat.{ℕ, _+_, _*_, _<_, _≤_};
+ghost use Prim.Native.Nat.{ℕ, _+_, _<_, _≤_};
 ghost use lib.ListN.{length};
 ghost use Rattle.rfc3550.specs.Answer.{mapOk};
 ghost use Rattle.rfc3550.specs.Bytes.{store};
 ghost use Rattle.rfc3550.specs.Read.{SDES, readAs};
 ghost use Rattle.utils.specs.List.{listedOf, layList};
 ghost use Rattle.sdes_items.specs.Rows.{sdesRows};
-ghost use Rattle.sdes_items.specs.Places.{chunkPlace, Stands, RowsAt, placeAfter, rowAt, rowOf, Needed, RowsLaid};
+ghost use Rattle.sdes_items.specs.Places.{chunkPlace, Stands, RowsAt, placeAfter, rowAt, rowOf, Needed, Room, Laid, ItemsLaid, RowsLaid};
 
 // The numbers of one row.
 struct Row {
@@ -147,16 +147,55 @@ fn needed(body: &[u8], room: usize) -> usize
     count_rows(body) * 5
 }
 
+// A place, and the index of its row in the list.
+struct Spot {
+    place: Place,
+    i: usize,
+}
+
+// Lays the rows of a chunk's items, up to the zero that ends them.
+fn lay_items(body: &[u8], first: Place, rows: &mut [u32], from: usize) -> Spot
+    requires { ⌜ (length (now body) ≤ 262144) × (first .at < length (now body)) × Room (now body) first (now rows) from ⌝ }
+    ensures { λ r. ⌜ ItemsLaid (now (body .entry)) first from (now (rows .entry)) (r .place) (r .i) (now (rows .exit)) ⌝ }
+{
+    let ssrc = first.ssrc;
+    let mut at = first.at;
+    let mut i = from;
+    while body[at] != 0 {
+        let next = lay_row(body, Place { ssrc, at }, rows, i);
+        at = next.at;
+        i += 5;
+    }
+    Spot {
+        place: Place { ssrc, at },
+        i,
+    }
+}
+
+// Lays the rows of a chunk.
+fn lay_chunk(body: &[u8], first: Place, rows: &mut [u32], from: usize) -> Spot
+    requires { ⌜ (length (now body) ≤ 262144) × (first .at < length (now body)) × Room (now body) first (now rows) from ⌝ }
+    ensures { λ r. ⌜ (first .at < r .place .at) × Laid (now (body .entry)) first from (now (rows .entry)) (r .place) (r .i) (now (rows .exit)) ⌝ }
+{
+    let end = lay_items(body, first, rows, from);
+    let place = lay_row(body, end.place, rows, end.i);
+    Spot {
+        place,
+        i: end.i + 5,
+    }
+}
+
 // Lays the rows from the list's start on, and says how many numbers they are.
 fn lay_rows(body: &[u8], rows: &mut [u32]) -> usize
-    requires { ⌜ (length (now body) ≤ 262144) × ((n : ℕ) × RowsAt n (now body) (chunkPlace (now body) 4) × (n * 5 ≤ length (now rows))) ⌝ }
+    requires { ⌜ (length (now body) ≤ 262144) × Room (now body) (chunkPlace (now body) 4) (now rows) 0 ⌝ }
     ensures { λ r. ⌜ RowsLaid (now (body .entry)) (now (rows .entry)) r (now (rows .exit)) ⌝ }
 {
     let mut place = chunk_place(body, 4);
     let mut i = 0;
     while place.at < body.len() {
-        place = lay_row(body, place, rows, i);
-        i += 5;
+        let spot = lay_chunk(body, place, rows, i);
+        place = spot.place;
+        i = spot.i;
     }
     i
 }

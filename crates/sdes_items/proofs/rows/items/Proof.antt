@@ -53,7 +53,7 @@ lay-rows-requires c κs =
     let q = e .before .before .before .before .before in
     let known : (i : ℕ) → getD (q .before .before .before .args .s .now) i 0 < 256 = λ i. omega (arith, q .before .before .shared-slice-known .given i) in
     let w = e .needed .ensures in
-    (items-most _ _ (q .parse .ensures) _ (e .before .before .before .parsed .given .1) known, (w .n, w .rows, w .enough (c .before .if1 .left)))
+    (items-most _ _ (q .parse .ensures) _ (e .before .before .before .parsed .given .1) known, record { n = w .n; rows = w .rows; fits = omega (arith, w .enough (c .before .if1 .left)) })
 
 -- src/rows.rt:168:1
 same-length : tie.Need-same-length
