@@ -8,71 +8,53 @@ void setup(const struct Input *input) { (void)input; }
 
 const uint8_t *written(void) { return out; }
 
-static uint64_t block_sum(struct RtcpBlock b) {
-    return (uint64_t)b.ssrc + b.fraction_lost + b.cumulative_lost + b.extended_sequence_number + b.interarrival_jitter +
-           b.last_sender_report_timestamp + b.delay_since_last_sender_report_timestamp;
-}
+/* The lists that the reading calls fill. */
+static uint32_t blocks[7 * 31];
+static uint32_t rows[5 * 128];
+static uint64_t packets[3 * 8];
 
-static uint64_t rr_blocks_sum(const uint8_t *packet, size_t len, uint64_t n) {
+#define ROOM_OF(list) (sizeof list / sizeof list[0])
+
+static uint64_t numbers_sum(uint64_t n) {
     uint64_t sum = 0;
-    for (uint64_t i = 0; i < n; i++) sum += block_sum(rtcp_rr_report_block(packet, len, i));
+    for (uint64_t i = 0; i < n; i++) sum += blocks[i];
     return sum;
 }
 
-static uint64_t sr_blocks_sum(const uint8_t *packet, size_t len, uint64_t n) {
-    uint64_t sum = 0;
-    for (uint64_t i = 0; i < n; i++) sum += block_sum(rtcp_sr_report_block(packet, len, i));
-    return sum;
+static uint64_t rr_sum(const uint8_t *packet, size_t len) {
+    struct RtcpRr rr = rtcp_rr_parse(packet, len);
+    if (rr.number != 0) return 0;
+    return rr.ssrc + numbers_sum(rtcp_rr_report_blocks(packet, len, blocks, ROOM_OF(blocks)).size);
 }
 
-static uint64_t items_sum(const uint8_t *chunk, size_t len) {
-    uint64_t sum = 0;
-    struct RtcpItemWalk w = rtcp_item_walk_open(chunk, len);
-    if (w.number != 0) return 0;
-    for (uint64_t at = w.at;;) {
-        struct RtcpItemStep item = rtcp_item_walk_step(chunk, len, at);
-        if (item.number != 0) return sum;
-        sum += item.type_ + item.value_len + chunk[item.value];
-        at = item.at;
-    }
-}
-
+/* A row of type 0 ends a chunk. */
 static uint64_t sdes_sum(const uint8_t *packet, size_t len) {
     uint64_t sum = 0;
-    struct RtcpChunkWalk w = rtcp_chunk_walk_open(packet, len);
-    if (w.number != 0) return 0;
-    for (uint64_t at = w.at;;) {
-        struct RtcpChunkStep chunk = rtcp_chunk_walk_step(packet, len, at, w.end);
-        if (chunk.number != 0) return sum;
-        sum += chunk.ssrc + items_sum(packet + at, chunk.length);
-        at = chunk.at;
+    struct RtcpWritten list = rtcp_sdes_items(packet, len, rows, ROOM_OF(rows));
+    for (const uint32_t *row = rows; row < rows + list.size; row += 5) {
+        if (row[1] == 0)
+            sum += row[0];
+        else
+            sum += (uint64_t)row[1] + row[4] + packet[row[2]];
     }
-}
-
-static uint64_t packet_sum(const uint8_t *datagram, const struct RtcpStep *p) {
-    const uint8_t *packet = datagram + p->offset;
-    if (p->kind == 201) return p->ssrc + rr_blocks_sum(packet, p->len, p->count);
-    if (p->kind == 202) return sdes_sum(packet, p->len);
-    return 0;
+    return sum;
 }
 
 static uint64_t parse_rrsdes(void) {
     uint64_t sum = 0;
-    struct RtcpWalk w = rtcp_walk_open(rrsdes.bytes, rrsdes.len);
-    if (w.number != 0) return 0;
-    for (uint64_t at = w.at;;) {
-        struct RtcpStep p = rtcp_walk_step(rrsdes.bytes, rrsdes.len, at);
-        if (p.number != 0) return sum;
-        sum += packet_sum(rrsdes.bytes, &p);
-        at = p.at;
+    struct RtcpWritten list = rtcp_compound_packets(rrsdes.bytes, rrsdes.len, packets, ROOM_OF(packets));
+    for (const uint64_t *p = packets; p < packets + list.size; p += 3) {
+        if (p[0] == 201) sum += rr_sum(rrsdes.bytes + p[1], p[2]);
+        if (p[0] == 202) sum += sdes_sum(rrsdes.bytes + p[1], p[2]);
     }
+    return sum;
 }
 
 static uint64_t parse_sr31(void) {
     struct RtcpSr sr = rtcp_sr_parse(sr31.bytes, sr31.len);
     if (sr.number != 0) return 0;
     return sr.ssrc + sr.ntp_timestamp + sr.rtp_timestamp + sr.packet_count + sr.octet_count +
-           sr_blocks_sum(sr31.bytes, sr31.len, sr.n_reports);
+           numbers_sum(rtcp_sr_report_blocks(sr31.bytes, sr31.len, blocks, ROOM_OF(blocks)).size);
 }
 
 static uint64_t parse_sdes31(void) { return sdes_sum(sdes31.bytes, sdes31.len); }

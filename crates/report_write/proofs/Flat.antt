@@ -6,8 +6,10 @@ use mathlib.Core.List.{List, [], _∷_, _++_}
 use native.Mathlib.Nat.{add-zero}
 use native.Mathlib.Numerals.{add-one}
 use native.Mathlib.Omega.{arith}
+use borrow.Author.Count.{below-more}
 use borrow.Author.Tests.{le-leb, lt-leb, leb-true, eqb-true, eq-eqb, ne-eqb}
 use lib.ListN.{length, take, drop, getD, set, length-drop, drop-of-length-le}
+use lib.Bits.{bitOr, or-add-and, and-le-l, and-le-r}
 use lib.Seq.{drop-cons, drop-drop, getD-drop, length-take-le, set-at}
 use lib.Dec.{leb, eqb}
 use Rattle.rfc3550.specs.Answer.{ok, refused, refusal, need, _>>_}
@@ -17,7 +19,7 @@ use Rattle.rfc3550.specs.Packet.{Block, blockWidths, blockFields, blocksBytes}
 use Rattle.rfc3550.specs.Write.{lossTests}
 use Rattle.rfc3550.proofs.Answer.{and-inv, need-inv, ok-injective}
 use Rattle.utils.proofs.WriterStores.{be-cons}
-use Rattle.report_write.specs.Report.{flatBlock, blocksFrom, fractionsIn, bothIn, blocksLent, flatOk, flatBlocks, lossesSize, BlockThere}
+use Rattle.report_write.specs.Report.{flatBlock, blocksFrom, fractionsIn, BothFit, blocksLent, flatOk, flatBlocks, lossesSize, BlockThere}
 use Rattle.report_write.proofs.Blocks.{block-laid, Blocks, blocks-start, block-low, block-next, blocks-laid, loss-over, loss-next, losses-end}
 
 -- ---- the blocks of a flat list
@@ -68,47 +70,78 @@ module _ (xs : List ℕ) where
     unfolding fractionsIn
     fractions-done h = let z : drop i (blocksLent xs) ≡ [] = drop-of-length-le (blocksLent xs) {i = i} (rw (length-lent xs) h) in rw z at w
 
-  pub both-start : bothIn (drop 0 (blocksLent xs)) ≡ bothIn (blocksLent xs)
-  both-start = refl
-
-  module _ (i : ℕ) (w : bothIn (drop i (blocksLent xs)) ≡ bothIn (blocksLent xs)) where
-    pub both-fraction : i < length xs / 7 → 255 < getD xs (i * 7 + 1) 0 → false ≡ bothIn (blocksLent xs)
-    unfolding bothIn
-    both-fraction h f = rw (next-lent xs i h, getD-drop (i * 7) xs 1 0, lt-leb _ _ f) at w
-
-    pub both-loss : i < length xs / 7 → getD xs (i * 7 + 1) 0 ≤ 255 → 16777215 < getD xs (i * 7 + 2) 0 → false ≡ bothIn (blocksLent xs)
-    unfolding bothIn
-    both-loss h f g = rw (next-lent xs i h, getD-drop (i * 7) xs 1 0, getD-drop (i * 7) xs 2 0, le-leb _ _ f, lt-leb _ _ g) at w
-
-    pub both-again : i < length xs / 7 → getD xs (i * 7 + 1) 0 ≤ 255 → getD xs (i * 7 + 2) 0 ≤ 16777215 → bothIn (drop (i + 1) (blocksLent xs)) ≡ bothIn (blocksLent xs)
-    unfolding bothIn
-    both-again h f g = rw (next-lent xs i h, getD-drop (i * 7) xs 1 0, getD-drop (i * 7) xs 2 0, le-leb _ _ f, le-leb _ _ g) at w
-
-    pub both-done : length xs / 7 ≤ i → true ≡ bothIn (blocksLent xs)
-    unfolding bothIn
-    both-done h = let z : drop i (blocksLent xs) ≡ [] = drop-of-length-le (blocksLent xs) {i = i} (rw (length-lent xs) h) in rw z at w
-
   pub odd-list : (length xs % 7 ≡ 0 → ⊥) → false ≡ flatOk xs
   odd-list h = sym (rw (ne-eqb _ _ h))
 
   pub whole-list : (t : Bool) → length xs % 7 ≡ 0 → t ≡ fractionsIn (blocksLent xs) → t ≡ flatOk xs
   whole-list t h e = e ∙ sym (rw (eq-eqb _ _ h))
 
--- where both fit, each does
-pub both-fractions : (bs : List Block) → bothIn bs ≡ true → fractionsIn bs ≡ true
-unfolding bothIn fractionsIn
-both-fractions [] e = refl
-both-fractions (b ∷ bs) e =
-    let a = and-inv (leb (b .fraction) 255) (leb (b .lost) 16777215 && bothIn bs) e in
-    rw (a .0) (both-fractions bs (and-inv (leb (b .lost) 16777215) (bothIn bs) (a .1) .1))
+fractions-of : (n : ℕ) (xs : List ℕ) → ((j : ℕ) → j < n → getD xs (j * 7 + 1) 0 ≤ 255) → fractionsIn (blocksFrom n xs) ≡ true
+unfolding fractionsIn blocksFrom
+fractions-of zero xs h = refl
+fractions-of (suc n) xs h = rw (le-leb _ _ (h 0 (omega arith)), fractions-of n (drop 7 xs) (λ j k. later j k))
+  where
+    later : (j : ℕ) → j < n → getD (drop 7 xs) (j * 7 + 1) 0 ≤ 255
+    later j k =
+        let e : suc j * 7 + 1 ≡ 7 + (j * 7 + 1) = omega arith in
+        rw (getD-drop 7 xs (j * 7 + 1) 0, ← e) (h (suc j) (omega arith))
 
-pub both-losses : (bs : List Block) → bothIn bs ≡ true → lossTests bs ≡ ok tt
-unfolding bothIn lossTests lossIn need _>>_
-both-losses [] e = refl
-both-losses (b ∷ bs) e =
-    let a = and-inv (leb (b .fraction) 255) (leb (b .lost) 16777215 && bothIn bs) e in
-    let c = and-inv (leb (b .lost) 16777215) (bothIn bs) (a .1) in
-    rw (c .0) (both-losses bs (c .1))
+losses-of : (n : ℕ) (xs : List ℕ) → ((j : ℕ) → j < n → getD xs (j * 7 + 2) 0 ≤ 16777215) → lossTests (blocksFrom n xs) ≡ ok tt
+unfolding lossTests lossIn blocksFrom need _>>_
+losses-of zero xs h = refl
+losses-of (suc n) xs h = rw (le-leb _ _ (h 0 (omega arith)), losses-of n (drop 7 xs) (λ j k. later j k))
+  where
+    later : (j : ℕ) → j < n → getD (drop 7 xs) (j * 7 + 2) 0 ≤ 16777215
+    later j k =
+        let e : suc j * 7 + 2 ≡ 7 + (j * 7 + 2) = omega arith in
+        rw (getD-drop 7 xs (j * 7 + 2) 0, ← e) (h (suc j) (omega arith))
+
+-- ---- both at once: no number has a bit that their union has not
+
+-- the fractions and the losses of the first i blocks are at most these
+pub record AtMost (xs : List ℕ) (i f l : ℕ) : Type 0 where
+  pub each : (j : ℕ) → j < i → (getD xs (j * 7 + 1) 0 ≤ f) × (getD xs (j * 7 + 2) 0 ≤ l)
+
+or-most-l : (a b : ℕ) → a ≤ bitOr a b
+or-most-l a b =
+    let e = or-add-and a b in
+    let h = and-le-r a b in
+    omega arith
+
+or-most-r : (a b : ℕ) → b ≤ bitOr a b
+or-most-r a b =
+    let e = or-add-and a b in
+    let h = and-le-l a b in
+    omega arith
+
+module _ (xs : List ℕ) where
+  pub at-most-start : AtMost xs 0 0 0
+  at-most-start = record { each = λ j h. absurd (omega arith) }
+
+  pub at-most-again : (i f l : ℕ) → AtMost xs i f l → AtMost xs (i + 1) (bitOr f (getD xs (i * 7 + 1) 0)) (bitOr l (getD xs (i * 7 + 2) 0))
+  at-most-again i f l w =
+      record {
+        each =
+            below-more (λ (j : ℕ). (getD xs (j * 7 + 1) 0 ≤ bitOr f (getD xs (i * 7 + 1) 0)) × (getD xs (j * 7 + 2) 0 ≤ bitOr l (getD xs (i * 7 + 2) 0))) i
+            (λ j h.
+            let e = w .each j h in
+            let a = or-most-l f (getD xs (i * 7 + 1) 0) in
+            let b = or-most-l l (getD xs (i * 7 + 2) 0) in
+            let c = e .0 in
+            let d = e .1 in
+            (omega arith, omega arith))
+            (or-most-r f (getD xs (i * 7 + 1) 0), or-most-r l (getD xs (i * 7 + 2) 0));
+      }
+
+  pub both-fit : (i f l : ℕ) → AtMost xs i f l → length xs / 7 ≤ i → f ≤ 255 → l ≤ 16777215 → BothFit xs
+  both-fit i f l w h p q =
+      record {
+        fractions = fractions-of (length xs / 7) xs (λ j k. let e = w .each j (omega arith) .0 in omega arith);
+        losses = losses-of (length xs / 7) xs (λ j k. let e = w .each j (omega arith) .1 in omega arith);
+      }
+
+  pub both-done : (i f l : ℕ) (t : Bool) → AtMost xs i f l → length xs / 7 ≤ i → f ≤ 255 → t ≡ leb l 16777215 → t ≡ true → BothFit xs
+  both-done i f l t w h p e q = both-fit i f l w h p (leb-true _ _ (sym e ∙ q))
 
 fraction-at : (n i : ℕ) (xs : List ℕ) → fractionsIn (blocksFrom n xs) ≡ true → i < n → getD xs (i * 7 + 1) 0 ≤ 255
 unfolding fractionsIn blocksFrom
@@ -182,7 +215,7 @@ module _ (at : ℕ) (xs l : List ℕ) where
     pub flat-done : length xs / 7 ≤ i → l₁ ≡ store at (blocksBytes (blocksLent xs)) l
     flat-done h = blocks-laid at (blocksLent xs) l i l₁ w (rw (length-lent xs) h)
 
-pub ruleset flats = (fractions-start, fractions-over, fractions-again, fractions-done, both-start, both-fraction, both-loss, both-again, both-done, odd-list, whole-list, losses-start, losses-over, losses-again, losses-done, loss-laid, flat-laid, flat-start, flat-there, flat-room, flat-again, flat-done)
+pub ruleset flats = (fractions-start, fractions-over, fractions-again, fractions-done, at-most-start, at-most-again, both-done, odd-list, whole-list, losses-start, losses-over, losses-again, losses-done, loss-laid, flat-laid, flat-start, flat-there, flat-room, flat-again, flat-done)
 
 -- ---- a flat list that is accepted loses nothing: its numbers are those of its blocks
 

@@ -20,9 +20,9 @@ use Rattle.utils.specs.declared.writer.Written.the-variants.{Size, Refused}
 use Rattle.utils.proofs.WriterStores.{stores}
 use Rattle.utils.proofs.WriterPackets.{writes, write-refused, write-short, write-done, padding-most, sized, size-ok, size-refused, parts-laid, header-long, packet-laid}
 use Rattle.report_write.specs.declared.sender.SenderInfo.{SenderInfo}
-use Rattle.report_write.specs.Report.{senderOf, blocksLent, fractionsIn, bothIn, flatOk, flatBlocks, sizeBlocks, writeBlocks, countSize, lossesSize, reportSize, flatSize, ReportFits, headLaid}
+use Rattle.report_write.specs.Report.{senderOf, blocksLent, fractionsIn, BothFit, flatOk, flatBlocks, sizeBlocks, writeBlocks, countSize, lossesSize, reportSize, flatSize, ReportFits, headLaid}
 use Rattle.report_write.proofs.Blocks.{length-blocks}
-use Rattle.report_write.proofs.Flat.{length-lent, odd-list, whole-list, both-fractions, both-losses, flats}
+use Rattle.report_write.proofs.Flat.{length-lent, odd-list, whole-list, flats}
 
 -- ---- the size
 
@@ -87,17 +87,17 @@ module _ (xs : List ℕ) where
         unfolding flatSize _>>=_
         flat-count-sized e m v p g = rw (flat-ok (sym (whole-list xs t z e) ∙ q)) (count-sized least (blocksLent xs) k w counted m v p g)
 
-        -- where every fraction and every loss fit, the count and the padding decide
-        pub flat-count : t ≡ bothIn (blocksLent xs) → writtenOf w ≡ flatSize least (flatBlocks xs) k
-        unfolding flatSize reportSize lossesSize _>>=_ _>>_
-        flat-count e =
-            let b : bothIn (blocksLent xs) ≡ true = sym e ∙ q in
-            let o : flatOk xs ≡ true = sym (whole-list xs true z (sym (both-fractions (blocksLent xs) b))) in
-            rw (flat-ok o) (counted ∙ go (countSize least (length (blocksLent xs)) k) (lossTests (blocksLent xs)) (both-losses (blocksLent xs) b))
-          where
-            go : (a : Answer ℕ) (c : Answer (Unit {0})) → c ≡ ok tt → a ≡ (a >>= (λ (n : ℕ). c >> ok n))
-            go (ok n) c h = sym (rw h)
-            go (refused x) c h = refl
+    -- where every fraction and every loss fit, the count and the padding decide
+    pub flat-count : length xs % 7 ≡ 0 → BothFit xs → (w : Written) → writtenOf w ≡ countSize least (length xs / 7) k → writtenOf w ≡ flatSize least (flatBlocks xs) k
+    unfolding flatSize reportSize lossesSize _>>=_ _>>_
+    flat-count z b w f =
+        let o : flatOk xs ≡ true = sym (whole-list xs true z (sym (b .fractions))) in
+        let c : writtenOf w ≡ countSize least (length (blocksLent xs)) k = rw (length-lent xs) f in
+        rw (flat-ok o) (c ∙ go (countSize least (length (blocksLent xs)) k) (lossTests (blocksLent xs)) (b .losses))
+      where
+        go : (a : Answer ℕ) (c : Answer (Unit {0})) → c ≡ ok tt → a ≡ (a >>= (λ (n : ℕ). c >> ok n))
+        go (ok n) c h = sym (rw h)
+        go (refused x) c h = refl
 
 -- ---- over the reporter
 

@@ -29,11 +29,6 @@ unfoldable pub fractionsIn : List Block → Bool
 fractionsIn [] = true
 fractionsIn (b ∷ bs) = leb (b .fraction) 255 && fractionsIn bs
 
--- the fraction and the loss of each fit
-unfoldable pub bothIn : List Block → Bool
-bothIn [] = true
-bothIn (b ∷ bs) = leb (b .fraction) 255 && (leb (b .lost) 16777215 && bothIn bs)
-
 abbrev pub blocksLent : List ℕ → List Block
 blocksLent xs = blocksFrom (length xs / 7) xs
 
@@ -82,6 +77,11 @@ flatSize least bs k = do
   reportSize least b k
 
 -- ---- what is known once they are checked
+
+-- every fraction and every loss of a flat list fits
+pub record BothFit (xs : List ℕ) : Type 0 where
+  pub fractions : fractionsIn (blocksLent xs) ≡ true
+  pub losses : lossTests (blocksLent xs) ≡ ok tt
 
 -- the seven numbers of a block stand at `at`, and its fraction and its loss fit
 pub record BlockThere (xs : List ℕ) (at : ℕ) : Type 0 where

@@ -1,4 +1,4 @@
-use Rattle.report_write.proofs.Reports.{reports}
+use Rattle.report_write.proofs.Reports.{reports, flat-count}
 use borrow.Author.Needs.{needs}
 use Rattle.report_write.proofs.report_block.check_reports.Statement.{statement}
 use Rattle.report_write.proofs.report_block.check_reports.Tie as tie
@@ -9,51 +9,51 @@ use Rattle.report_write.proofs.report_block.check_count.Reads as check-
 use Rattle.report_write.proofs.report_block.check_fractions.Reads as check-fractions-reads
 use Rattle.report_write.proofs.report_block.check_losses.Reads as check-losses-reads
 
--- src/report_block.rt:86:9
+-- src/report_block.rt:87:9
 returns : tie.Need-returns
 returns c = search reports
 
--- src/report_block.rt:88:8
+-- src/report_block.rt:89:8
 check-both-requires : tie.Need-check-both-requires
 check-both-requires c κs = search reports
 
--- src/report_block.rt:89:9
+-- src/report_block.rt:90:9
 check-count-requires : tie.Need-check-count-requires
 check-count-requires c κs = search reports
 
--- src/report_block.rt:89:9
+-- src/report_block.rt:90:9
 returns-2 : tie.Need-returns-2
-returns-2 c = search reports
+returns-2 c = flat-count _ _ _ (c .before .before .before .if1 .left) (c .before .before .check-both .ensures (c .before .if2 .taken)) (c .check-count .result) (c .check-count .ensures)
 
--- src/report_block.rt:91:9
+-- src/report_block.rt:92:9
 check-fractions-requires : tie.Need-check-fractions-requires
 check-fractions-requires c κs = search reports
 
--- src/report_block.rt:92:9
+-- src/report_block.rt:93:9
 returns-3 : tie.Need-returns-3
 returns-3 c = search reports
 
--- src/report_block.rt:94:9
+-- src/report_block.rt:95:9
 check-count-requires-2 : tie.Need-check-count-requires-2
 check-count-requires-2 c κs = search reports
 
--- src/report_block.rt:95:23
+-- src/report_block.rt:96:23
 enum-known-checked : tie.Need-enum-known-checked
 enum-known-checked c = search reports
 
--- src/report_block.rt:96:9
+-- src/report_block.rt:97:9
 enum-told : tie.Need-enum-told
 enum-told c = search reports
 
--- src/report_block.rt:96:9
+-- src/report_block.rt:97:9
 returns-4 : tie.Need-returns-4
 returns-4 c = search reports
 
--- src/report_block.rt:98:5
+-- src/report_block.rt:99:5
 check-losses-requires : tie.Need-check-losses-requires
 check-losses-requires c κs = search reports
 
--- src/report_block.rt:82:1
+-- src/report_block.rt:83:1
 returns-5 : tie.Need-returns-5
 returns-5 c = search reports
 
