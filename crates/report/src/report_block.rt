@@ -66,13 +66,12 @@ pub fn parse_block_unchecked(s: &[u8], at: usize) -> ReportBlock
     }
 }
 
-// The seven numbers of the block at a place, into a list from index to on. Cumulative lost is the low 24 bits of a word, which is read whole: so it
-// takes fewer instructions than byte by byte.
+// The seven numbers of the block at a place, into a list from index to on. Fraction lost and the 24 bits of cumulative lost are one word, which is
+// read whole: so it takes fewer instructions than byte by byte.
 fn list_block_unchecked(s: &[u8], at: usize, list: &mut [u32], to: usize)
     requires { ⌜ (at + 24 ≤ length (now s)) × (to + 7 ≤ length (now list)) ⌝ }
     ensures { λ _. ⌜ now (list .exit) ≡ store to (blockNumbers (blockOf (get blockWidths (drop at (now (s .entry)))))) (now (list .entry)) ⌝ }
 {
-    let fraction = s[at + 4];
     let ssrc = u32_from_be_bytes(s, at);
     let loss = u32_from_be_bytes(s, at + 4);
     let sequence = u32_from_be_bytes(s, at + 8);
@@ -80,7 +79,7 @@ fn list_block_unchecked(s: &[u8], at: usize, list: &mut [u32], to: usize)
     let lsr = u32_from_be_bytes(s, at + 16);
     let dlsr = u32_from_be_bytes(s, at + 20);
     list[to] = ssrc;
-    list[to + 1] = fraction as u32;
+    list[to + 1] = loss / 16777216;
     list[to + 2] = loss % 16777216;
     list[to + 3] = sequence;
     list[to + 4] = jitter;
