@@ -145,8 +145,6 @@ functions! {
     rtcp_sr_parse(s: &[u8]) -> RtcpSr;
     rtcp_rr_report_block(s: &[u8], i: u64) -> RtcpBlock;
     rtcp_sr_report_block(s: &[u8], i: u64) -> RtcpBlock;
-    rtcp_rr_report_blocks(s: &[u8], blocks: &mut [u32]) -> RtcpWritten;
-    rtcp_sr_report_blocks(s: &[u8], blocks: &mut [u32]) -> RtcpWritten;
     rtcp_app_parse(s: &[u8]) -> RtcpApp;
     rtcp_bye_parse(s: &[u8]) -> RtcpBye;
     rtcp_bye_source(s: &[u8], i: u64) -> RtcpSource;
@@ -157,7 +155,6 @@ functions! {
     rtcp_chunk_walk_step(s: &[u8], at: u64, end: u64) -> RtcpChunkStep;
     rtcp_item_walk_step(s: &[u8], at: u64) -> RtcpItemStep;
     rtcp_compound_parse(s: &[u8]) -> RtcpCompound;
-    rtcp_compound_packets(s: &[u8], packets: &mut [u64]) -> RtcpWritten;
     rtcp_walk_step(s: &[u8], at: u64) -> RtcpStep;
 
     rtcp_rr_write(buf: &mut [u8], ssrc: u32, blocks: &[u32], padding: u64) -> RtcpWritten;
