@@ -2,22 +2,21 @@
 use borrow.Author.Needs.{needs}
 use mathlib.Core.Path.{_≡_, refl, sym, ap, _∙_}
 use mathlib.Core.List.{List, [], _∷_, _++_}
-use Prim.Native.Nat.{ℕ, suc, _+_, _-_, _*_, _/_, _%_, _<_, _≤_}
-use native.Mathlib.Nat.{add-zero, add-assoc, sub-zero}
+use Prim.Native.Nat.{ℕ, suc, _+_, _-_, _*_, _<_, _≤_}
+use native.Mathlib.Nat.{add-zero, sub-zero}
 use native.Mathlib.Omega.{arith}
 use borrow.Author.Tests.{le-leb, lt-leb}
-use lib.Arith.{digits-div, digits-mod}
-use lib.ListN.{length, getD, take, drop, set, length-append, length-drop}
+use lib.ListN.{length, getD, take, drop, set, length-append}
 use lib.Seq.{drop-drop}
 use Rattle.rfc3550.specs.Answer.{ok, refused, refusal, refuse, need, _>>_, mapOk}
 use Rattle.rfc3550.specs.Bytes.{val, get, store}
 use Rattle.rfc3550.specs.Loss.{lossOf}
 use Rattle.rfc3550.specs.Packet.{Block, blockWidths}
 use Rattle.rfc3550.specs.Read.{blockOf, readBlock, readBlocks}
-use Rattle.rfc3550.proofs.Bytes.{val-take-lt, bytes-drop, length-store, bytes-each}
+use Rattle.rfc3550.proofs.Bytes.{length-store}
 use Rattle.utils.specs.List.{layList}
 use Rattle.utils.proofs.Lists.{lay-short, lay-done}
-use Rattle.utils.proofs.Numbers.{val-byte, val-join}
+use Rattle.utils.proofs.Numbers.{val-byte}
 use Rattle.utils.proofs.Parts.{length-readBlocks}
 use Rattle.utils.proofs.WriterStores.{store-nil, store-store, puts, store-puts}
 use Rattle.report.specs.Block.{blockView, blockNumbers, blocksNumbers}
@@ -79,27 +78,10 @@ module _ (s : List ℕ) where
 
 -- ---- the seven numbers of a block, one by one into a list
 
--- a word is its first byte and its other 24 bits
-module _ (s : List ℕ) (at w : ℕ) (k : (i : ℕ) → getD s i 0 < 256) (h : at + 4 ≤ length s) (e : w ≡ val (take 4 (drop at s))) where
-  low : val (take 3 (drop (at + 1) s)) < 16777216
-  low = val-take-lt 3 (drop (at + 1) s) (rw length-drop (omega arith)) (bytes-drop (at + 1) s (bytes-each s k))
-
-  parts : val (take 1 (drop at s)) * 16777216 + val (take 3 (drop (at + 1) s)) ≡ val (take 4 (drop at s))
-  parts = val-join 1 3 s at 4 (val (take 1 (drop at s))) (val (take 3 (drop (at + 1) s))) h (omega arith) refl refl
-
-  high-byte : w / 16777216 ≡ getD s at 0
-  high-byte = rw (e, ← parts, digits-div (val (take 1 (drop at s))) low) (sym (val-byte s at (getD s at 0) refl))
-
-  low-bits : w % 16777216 ≡ val (take 3 (drop (at + 1) s))
-  low-bits = rw (e, ← parts, digits-mod (val (take 1 (drop at s))) low)
-
-pub block-listed : (s l : List ℕ) (at to a w d e f g : ℕ) → ((i : ℕ) → getD s i 0 < 256) → at + 24 ≤ length s → to + 7 ≤ length l → a ≡ val (take 4 (drop at s))
-    → w ≡ val (take 4 (drop (at + 4) s)) → d ≡ val (take 4 (drop (at + 8) s)) → e ≡ val (take 4 (drop (at + 12) s)) → f ≡ val (take 4 (drop (at + 16) s))
-    → g ≡ val (take 4 (drop (at + 20) s)) → puts to 1 (w / 16777216 ∷ w % 16777216 ∷ d ∷ e ∷ f ∷ g ∷ []) (set l to a) ≡ store to (blockNumbers (blockOf (get blockWidths (drop at s)))) l
-block-listed s l at to a w d e f g k h m p₁ p₃ p₄ p₅ p₆ p₇ =
-    let x = block-is s at a (w / 16777216) (w % 16777216) d e f g p₁ (high-byte s (at + 4) w k (omega arith) p₃) (low-bits s (at + 4) w k (omega arith) p₃ ∙ rw add-assoc) p₄ p₅ p₆ p₇ in
-    store-puts to a (w / 16777216 ∷ w % 16777216 ∷ d ∷ e ∷ f ∷ g ∷ []) l m
-    ∙ ap (λ (r : ReportBlock). store to (recordNumbers r) l) x
+pub block-listed : (s l : List ℕ) (at to : ℕ) (b : ReportBlock) → to + 7 ≤ length l → b ≡ blockAt s at
+    → puts to 1 (b .«fraction_lost» ∷ b .«cumulative_lost» ∷ b .«extended_sequence_number» ∷ b .«interarrival_jitter» ∷ b .«last_sender_report_timestamp» ∷ b .«delay_since_last_sender_report_timestamp» ∷ []) (set l to (b .ssrc))
+    ≡ store to (blockNumbers (blockOf (get blockWidths (drop at s)))) l
+block-listed s l at to b m e = store-puts to (b .ssrc) _ l m ∙ ap (λ (r : ReportBlock). store to (recordNumbers r) l) e
 
 -- ---- the blocks, one after the other
 

@@ -66,25 +66,19 @@ pub fn parse_block_unchecked(s: &[u8], at: usize) -> ReportBlock
     }
 }
 
-// The seven numbers of the block at a place, into a list from index to on. Fraction lost and the 24 bits of cumulative lost are one word, which is
-// read whole: so it takes fewer instructions than byte by byte.
+// The seven numbers of the block at a place, into a list from index to on.
 fn list_block_unchecked(s: &[u8], at: usize, list: &mut [u32], to: usize)
     requires { ⌜ (at + 24 ≤ length (now s)) × (to + 7 ≤ length (now list)) ⌝ }
     ensures { λ _. ⌜ now (list .exit) ≡ store to (blockNumbers (blockOf (get blockWidths (drop at (now (s .entry)))))) (now (list .entry)) ⌝ }
 {
-    let ssrc = u32_from_be_bytes(s, at);
-    let loss = u32_from_be_bytes(s, at + 4);
-    let sequence = u32_from_be_bytes(s, at + 8);
-    let jitter = u32_from_be_bytes(s, at + 12);
-    let lsr = u32_from_be_bytes(s, at + 16);
-    let dlsr = u32_from_be_bytes(s, at + 20);
-    list[to] = ssrc;
-    list[to + 1] = loss / 16777216;
-    list[to + 2] = loss % 16777216;
-    list[to + 3] = sequence;
-    list[to + 4] = jitter;
-    list[to + 5] = lsr;
-    list[to + 6] = dlsr;
+    let b = parse_block_unchecked(s, at);
+    list[to] = b.ssrc;
+    list[to + 1] = b.fraction_lost as u32;
+    list[to + 2] = b.cumulative_lost;
+    list[to + 3] = b.extended_sequence_number;
+    list[to + 4] = b.interarrival_jitter;
+    list[to + 5] = b.last_sender_report_timestamp;
+    list[to + 6] = b.delay_since_last_sender_report_timestamp;
 }
 
 // The blocks that lie end to end from a place on, into a list from its start.
