@@ -19,6 +19,7 @@ use Rattle.rfc3550.specs.Packet.{Block, blockWidths, blockFields, blocksBytes}
 use Rattle.rfc3550.specs.Write.{lossTests}
 use Rattle.rfc3550.proofs.Answer.{and-inv, need-inv, ok-injective}
 use Rattle.utils.proofs.WriterStores.{be-cons}
+use Rattle.report.specs.Block.{blocksNumbers}
 use Rattle.report_write.specs.Report.{flatBlock, blocksFrom, fractionsIn, BothFit, blocksLent, flatOk, flatBlocks, lossesSize, BlockThere}
 use Rattle.report_write.proofs.Blocks.{block-laid, Blocks, blocks-start, block-low, block-next, blocks-laid, loss-over, loss-next, losses-end}
 
@@ -219,10 +220,6 @@ pub ruleset flats = (fractions-start, fractions-over, fractions-again, fractions
 
 -- ---- a flat list that is accepted loses nothing: its numbers are those of its blocks
 
-abbrev flatten : List Block → List ℕ
-flatten [] = []
-flatten (b ∷ bs) = b .ssrc ∷ b .fraction ∷ b .lost ∷ b .sequence ∷ b .jitter ∷ b .lsr ∷ b .dlsr ∷ flatten bs
-
 module _ (xs : List ℕ) where
   next : (i : ℕ) (t : List ℕ) → i < length xs → drop (suc i) xs ≡ t → drop i xs ≡ getD xs i 0 ∷ t
   next i t h e = drop-cons xs i 0 h ∙ ap (λ (l : List ℕ). getD xs i 0 ∷ l) e
@@ -230,8 +227,8 @@ module _ (xs : List ℕ) where
   seven : 7 ≤ length xs → xs ≡ getD xs 0 0 ∷ getD xs 1 0 ∷ getD xs 2 0 ∷ getD xs 3 0 ∷ getD xs 4 0 ∷ getD xs 5 0 ∷ getD xs 6 0 ∷ drop 7 xs
   seven h = next 0 _ (omega arith) (next 1 _ (omega arith) (next 2 _ (omega arith) (next 3 _ (omega arith) (next 4 _ (omega arith) (next 5 _ (omega arith) (next 6 _ (omega arith) refl))))))
 
-flatten-blocks : (n : ℕ) (xs : List ℕ) → length xs ≡ n * 7 → flatten (blocksFrom n xs) ≡ xs
-unfolding blocksFrom
+flatten-blocks : (n : ℕ) (xs : List ℕ) → length xs ≡ n * 7 → blocksNumbers (blocksFrom n xs) ≡ xs
+unfolding blocksFrom blocksNumbers
 flatten-blocks zero [] h = refl
 flatten-blocks zero (x ∷ xs) h = absurd (omega arith)
 flatten-blocks (suc n) xs h =
@@ -239,12 +236,33 @@ flatten-blocks (suc n) xs h =
     (flatten-blocks n (drop 7 xs) (length-drop 7 xs ∙ omega arith))
     ∙ sym (seven xs (omega arith))
 
-flat-inv : (xs : List ℕ) {bs : List Block} → flatBlocks xs ≡ ok bs → flatten bs ≡ xs
+flat-inv : (xs : List ℕ) {bs : List Block} → flatBlocks xs ≡ ok bs → blocksNumbers bs ≡ xs
 unfolding flatBlocks
 flat-inv xs e =
     let a = need-inv _ _ _ _ _ e in
     let z : length xs % 7 ≡ 0 = eqb-true _ _ (and-inv (eqb (length xs % 7) 0) (fractionsIn (blocksLent xs)) (a .0) .0) in
-    ap flatten (sym (ok-injective (a .1))) ∙ flatten-blocks (length xs / 7) xs (omega arith)
+    ap blocksNumbers (sym (ok-injective (a .1))) ∙ flatten-blocks (length xs / 7) xs (omega arith)
 
 pub flatBlocks-injective : (xs ys : List ℕ) {bs : List Block} → flatBlocks xs ≡ ok bs → flatBlocks ys ≡ ok bs → xs ≡ ys
 flatBlocks-injective xs ys e f = sym (flat-inv xs e) ∙ flat-inv ys f
+
+-- ---- what is read in one call is what the writers take back
+
+length-numbers : (bs : List Block) → length (blocksNumbers bs) ≡ length bs * 7
+unfolding blocksNumbers
+length-numbers [] = refl
+length-numbers (b ∷ bs) = rw (length-numbers bs) (omega arith)
+
+from-numbers : (bs : List Block) → blocksFrom (length bs) (blocksNumbers bs) ≡ bs
+unfolding blocksFrom blocksNumbers
+from-numbers [] = refl
+from-numbers (b ∷ bs) = ap (λ (bs : List Block). b ∷ bs) (from-numbers bs)
+
+pub numbers-back : (bs : List Block) → fractionsIn bs ≡ true → flatBlocks (blocksNumbers bs) ≡ ok bs
+unfolding flatBlocks need _>>_
+numbers-back bs h =
+    let l = length-numbers bs in
+    let d : length (blocksNumbers bs) / 7 ≡ length bs = omega (arith, l) in
+    let m : length (blocksNumbers bs) % 7 ≡ 0 = omega (arith, l) in
+    let e : blocksLent (blocksNumbers bs) ≡ bs = ap (λ (n : ℕ). blocksFrom n (blocksNumbers bs)) d ∙ from-numbers bs in
+    rw (e, m, h)
