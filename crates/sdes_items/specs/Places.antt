@@ -30,7 +30,7 @@ itemRowAt s p =
 abbrev pub rowAt : List ℕ → Place → List ℕ
 rowAt s p = pick (eqb (getD s (p .at) 0) 0) (p .ssrc ∷ 0 ∷ p .at ∷ 0 ∷ 0 ∷ []) (itemRowAt s p)
 
--- a zero, or an item that is whole and not the last byte of all, with a prefix that fits
+-- a zero, or a whole item behind which something stands, with a prefix that fits
 pub record Stands (s : List ℕ) (at : ℕ) : Type 0 where
   pub within : at < length s
   pub whole : (getD s at 0 ≡ 0 → ⊥) → at + 2 + getD s (at + 1) 0 < length s
