@@ -20,19 +20,22 @@ use Rattle.rfc3550.proofs.Compound.{packet-span, packets-turns}
 use Rattle.utils.specs.Error.{refusalIn}
 use Rattle.utils.specs.declared.error.RtcpParseError.{RtcpParseError}
 use Rattle.utils.proofs.Reading.{mapOk-refused}
-use Rattle.compound.specs.Packet.{packetView, parsedOf, named}
-use Rattle.compound.specs.Compound.{paddingLast, reportFirst, frame, spanOf, readOf, spanned, compoundView, parsedCompoundOf, walkAt, stepView}
+use Rattle.compound.specs.Packet.{packetView, parsedOf, checkedOf}
+use Rattle.compound.specs.Compound.{paddingLast, reportFirst, frame, spanOf, readOf, passedOf, spanned, compoundView, parsedCompoundOf, walkAt, stepView}
 use Rattle.compound.specs.declared.packet.Packet.{Packet}
 use Rattle.compound.specs.declared.packet.ParsedPacket.{ParsedPacket}
 use Rattle.compound.specs.declared.packet.ParsedPacket.the-variants as parsed
+use Rattle.compound.specs.declared.packet.CheckedKind.{CheckedKind}
+use Rattle.compound.specs.declared.packet.CheckedKind.the-variants as checked
 use Rattle.compound.specs.declared.compound.Span.{Span}
 use Rattle.compound.specs.declared.compound.Span.the-variants as span
 use Rattle.compound.specs.declared.compound.ReadPacket.{ReadPacket}
 use Rattle.compound.specs.declared.compound.ReadPacket.the-variants as read
+use Rattle.compound.specs.declared.compound.Passed.{Passed}
+use Rattle.compound.specs.declared.compound.Passed.the-variants as passed
 use Rattle.compound.specs.declared.compound.Compound.{Compound}
 use Rattle.compound.specs.declared.compound.ParsedCompound.{ParsedCompound}
 use Rattle.compound.specs.declared.compound.ParsedCompound.the-variants as compound
-use Rattle.compound.proofs.Packets.{named-is}
 
 -- ---- the two tests of the frame
 
@@ -122,9 +125,15 @@ unfolding typeIn lowIn
 kind-cut n s h = rw (getD-take n s 0 0 (omega arith), getD-take n s 1 0 (omega arith))
 
 module _ (first : Bool) (s : List ℕ) (o : Span) (h : spanOf o ≡ frame first s) where
-  pub frame-refused : (v : RtcpParseError) (r : Refusal) → o ≡ span.Refused v → r ≡ refusalIn (spanOf o) → refused r ≡ mapOk (spanned s) (readPacket first s)
+  unframed : {B : Type 0} (f : Read → B) (v : RtcpParseError) (r : Refusal) → o ≡ span.Refused v → r ≡ refusalIn (spanOf o) → refused r ≡ mapOk (spanned f s) (readPacket first s)
   unfolding mapOk _>>=_
-  frame-refused v r e q = rw (framed first s) (simp (← h, e, q))
+  unframed f v r e q = rw (framed first s) (simp (← h, e, q))
+
+  pub frame-refused : (v : RtcpParseError) (r : Refusal) → o ≡ span.Refused v → r ≡ refusalIn (spanOf o) → refused r ≡ mapOk (spanned packetView s) (readPacket first s)
+  frame-refused = unframed packetView
+
+  pub frame-unpassed : (v : RtcpParseError) (r : Refusal) → o ≡ span.Refused v → r ≡ refusalIn (spanOf o) → refused r ≡ mapOk (spanned hasCname s) (readPacket first s)
+  frame-unpassed = unframed hasCname
 
   module _ (n : ℕ) (e : o ≡ span.Bytes n) where
     pub frame-within : n ≤ length s
@@ -136,29 +145,43 @@ module _ (first : Bool) (s : List ℕ) (o : Span) (h : spanOf o ≡ frame first 
     pub frame-long : 4 ≤ length (take n s)
     frame-long = let f = frame-inv first s n (sym (ap spanOf e) ∙ h) in rw (length-take-le n s (f .within)) (f .long)
 
-    behind : readPacket first s ≡ readAs (kindOf (typeIn (take n s)) (lowIn (take n s))) (take n s)
+    abbrev within : Answer Read
+    within = readAs (kindOf (typeIn (take n s)) (lowIn (take n s))) (take n s)
+
+    behind : readPacket first s ≡ within
     unfolding _>>=_
     behind =
         let f = frame-inv first s n (sym (ap spanOf e) ∙ h) in
         framed first s ∙ rw (← h, e, kind-cut n s (f .long))
 
-    module _ (q : ParsedPacket) (g : parsedOf q ≡ mapOk packetView (readAs (kindOf (typeIn (take n s)) (lowIn (take n s))) (take n s))) where
-      pub packet-refused : (v : RtcpParseError) (r : Refusal) → q ≡ parsed.Refused v → r ≡ refusalIn (parsedOf q) → refused r ≡ mapOk (spanned s) (readPacket first s)
+    module _ {B : Type 0} (f : Read → B) (a : Answer B) (g : a ≡ mapOk f within) where
+      behind-refused : (r : Refusal) → a ≡ refused r → refused r ≡ mapOk (spanned f s) (readPacket first s)
       unfolding mapOk
-      packet-refused v r w z =
-          let k : mapOk packetView (readAs (kindOf (typeIn (take n s)) (lowIn (take n s))) (take n s)) ≡ refused r =
-          sym g ∙ ap parsedOf w ∙ ap refused (sym (z ∙ ap (λ (q : ParsedPacket). refusalIn (parsedOf q)) w)) in
-          rw (behind, mapOk-refused packetView (readAs (kindOf (typeIn (take n s)) (lowIn (take n s))) (take n s)) k)
+      behind-refused r z = rw (behind, mapOk-refused f within (sym g ∙ z))
 
-      pub packet-read : (p : Packet) → q ≡ parsed.Packet p → ok (p, n) ≡ mapOk (spanned s) (readPacket first s)
+      behind-read : (b : B) → a ≡ ok b → ok (b, n) ≡ mapOk (spanned f s) (readPacket first s)
       unfolding mapOk
-      packet-read p w =
-          let f = frame-inv first s n (sym (ap spanOf e) ∙ h) in
-          rw behind (go (readAs (kindOf (typeIn (take n s)) (lowIn (take n s))) (take n s)) (sym (ap parsedOf w) ∙ g) (f .stated))
+      behind-read b w =
+          let i = frame-inv first s n (sym (ap spanOf e) ∙ h) in
+          rw behind (go within (sym w ∙ g) (i .stated))
         where
-          go : (m : Answer Read) → ok p ≡ mapOk packetView m → n ≡ stated s → ok (p, n) ≡ mapOk (spanned s) m
-          go (ok x) k st = let z : p ≡ packetView x = ok-injective k in rw (z, st)
+          go : (m : Answer Read) → ok b ≡ mapOk f m → n ≡ stated s → ok (b, n) ≡ mapOk (spanned f s) m
+          go (ok x) k st = let z : b ≡ f x = ok-injective k in rw (z, st)
           go (refused x) k st = absurd (refused≢ok (sym k))
+
+    module _ (q : ParsedPacket) (g : parsedOf q ≡ mapOk packetView (readAs (kindOf (typeIn (take n s)) (lowIn (take n s))) (take n s))) where
+      pub packet-refused : (v : RtcpParseError) (r : Refusal) → q ≡ parsed.Refused v → r ≡ refusalIn (parsedOf q) → refused r ≡ mapOk (spanned packetView s) (readPacket first s)
+      packet-refused v r w z = behind-refused packetView (parsedOf q) g r (ap parsedOf w ∙ ap refused (sym (z ∙ ap (λ (q : ParsedPacket). refusalIn (parsedOf q)) w)))
+
+      pub packet-read : (p : Packet) → q ≡ parsed.Packet p → ok (p, n) ≡ mapOk (spanned packetView s) (readPacket first s)
+      packet-read p w = behind-read packetView (parsedOf q) g p (ap parsedOf w)
+
+    module _ (q : CheckedKind) (g : checkedOf q ≡ mapOk hasCname (readAs (kindOf (typeIn (take n s)) (lowIn (take n s))) (take n s))) where
+      pub kind-refused : (v : RtcpParseError) (r : Refusal) → q ≡ checked.Refused v → r ≡ refusalIn (checkedOf q) → refused r ≡ mapOk (spanned hasCname s) (readPacket first s)
+      kind-refused v r w z = behind-refused hasCname (checkedOf q) g r (ap checkedOf w ∙ ap refused (sym (z ∙ ap (λ (q : CheckedKind). refusalIn (checkedOf q)) w)))
+
+      pub kind-passed : (b : Bool) → q ≡ checked.HasCname b → ok (b, n) ≡ mapOk (spanned hasCname s) (readPacket first s)
+      kind-passed b w = behind-read hasCname (checkedOf q) g b (ap checkedOf w)
 
 -- ---- the loop: from a place on
 
@@ -225,51 +248,54 @@ cons c n x (refused r) = refl
 from-after : (s : List ℕ) (at : ℕ) → 0 < at → from s at ≡ readPackets (length s) (drop at s)
 from-after s at h = rw (ne-eqb at 0 (omega arith))
 
--- the answer of a read packet, whose bytes are the rest as a part
-here : (s : List ℕ) (at : ℕ) (q : ReadPacket) → readOf q ≡ mapOk (spanned (take (length s - at) (drop at s))) (readPacket (eqb at 0) (take (length s - at) (drop at s)))
-    → readOf q ≡ mapOk (spanned (drop at s)) (readPacket (eqb at 0) (drop at s))
-here s at q e = e ∙ ap (λ (l : List ℕ). mapOk (spanned l) (readPacket (eqb at 0) l)) (rest-is s at)
+-- what is asked of a packet that was read, whose bytes are the rest as a part
+module _ {B : Type 0} (f : Read → B) where
+  here : (s : List ℕ) (at : ℕ) (a : Answer (B × ℕ)) → a ≡ mapOk (spanned f (take (length s - at) (drop at s))) (readPacket (eqb at 0) (take (length s - at) (drop at s)))
+      → a ≡ mapOk (spanned f (drop at s)) (readPacket (eqb at 0) (drop at s))
+  here s at a e = e ∙ ap (λ (l : List ℕ). mapOk (spanned f l) (readPacket (eqb at 0) l)) (rest-is s at)
 
--- what a packet that was read tells
-record Came (first : Bool) (s : List ℕ) (p : Packet) (k : ℕ) : Type 0 where
-  packet : Read
-  is-read : readPacket first s ≡ ok packet
-  view : packetView packet ≡ p
-  span : stated s ≡ k
+  -- what it tells
+  record Came (first : Bool) (s : List ℕ) (p : B) (k : ℕ) : Type 0 where
+    packet : Read
+    is-read : readPacket first s ≡ ok packet
+    view : f packet ≡ p
+    span : stated s ≡ k
 
-came : (first : Bool) (s : List ℕ) (q : ReadPacket) (p : Packet) (k : ℕ) → readOf q ≡ mapOk (spanned s) (readPacket first s) → q ≡ read.Packet p k → Came first s p k
-came first s q p k g e =
-    let m = mapOk-inv (spanned s) (readPacket first s) (sym g ∙ ap readOf e) in
-    record { packet = m .0; is-read = m .1; view = ap (λ (x : Packet × ℕ). x .0) (m .2); span = ap (λ (x : Packet × ℕ). x .1) (m .2) }
+  came : (first : Bool) (s : List ℕ) (a : Answer (B × ℕ)) (p : B) (k : ℕ) → a ≡ mapOk (spanned f s) (readPacket first s) → a ≡ ok (p, k) → Came first s p k
+  came first s a p k g e =
+      let m = mapOk-inv (spanned f s) (readPacket first s) (sym g ∙ e) in
+      record { packet = m .0; is-read = m .1; view = ap (λ (x : B × ℕ). x .0) (m .2); span = ap (λ (x : B × ℕ). x .1) (m .2) }
 
-gone : (first : Bool) (s : List ℕ) (q : ReadPacket) (v : RtcpParseError) (r : Refusal) → readOf q ≡ mapOk (spanned s) (readPacket first s) → q ≡ read.Refused v → r ≡ refusalIn (readOf q)
-    → readPacket first s ≡ refused r
-gone first s q v r g e z =
-    let w : mapOk (spanned s) (readPacket first s) ≡ refused r = sym g ∙ ap readOf e ∙ ap refused (sym (z ∙ ap (λ (q : ReadPacket). refusalIn (readOf q)) e)) in
-    mapOk-refused (spanned s) (readPacket first s) w
+  gone : (first : Bool) (s : List ℕ) (a : Answer (B × ℕ)) (r : Refusal) → a ≡ mapOk (spanned f s) (readPacket first s) → a ≡ refused r → readPacket first s ≡ refused r
+  gone first s a r g e = mapOk-refused (spanned f s) (readPacket first s) (sym g ∙ e)
 
-record Next (s : List ℕ) (at n : ℕ) (c : Bool) (p : Packet) (k : ℕ) : Type 0 where
-  some : 4 ≤ k
-  within : at + k ≤ length s
-  same : finish (c || named p) (n + 1) (from s (at + k)) ≡ finish c n (from s at)
-
-module _ (s : List ℕ) (at n : ℕ) (c : Bool) (h : at < length s) (q : ReadPacket) (g : readOf q ≡ mapOk (spanned (drop at s)) (readPacket (eqb at 0) (drop at s))) where
-  turn-refused : (v : RtcpParseError) (r : Refusal) → q ≡ read.Refused v → r ≡ refusalIn (readOf q) → refused r ≡ finish c n (from s at)
-  unfolding finish _>>=_
-  turn-refused v r e z = rw (from-at s at h, gone (eqb at 0) (drop at s) q v r g e z)
-
-  turn-next : (p : Packet) (k : ℕ) → q ≡ read.Packet p k → Next s at n c p k
-  unfolding _>>=_
-  turn-next p k e =
-      let w = came (eqb at 0) (drop at s) q p k g e in
+  came-within : (s : List ℕ) (at : ℕ) (p : B) (k : ℕ) → at < length s → Came (eqb at 0) (drop at s) p k → (4 ≤ k) × (at + k ≤ length s)
+  came-within s at p k h w =
       let l = packet-span (eqb at 0) (drop at s) (w .is-read) in
       let d = length-drop at s in
-      let m : 4 ≤ k = omega (arith, w .span) in
+      (omega (arith, w .span), omega (arith, w .span))
+
+record Next (s : List ℕ) (at n : ℕ) (c b : Bool) (k : ℕ) : Type 0 where
+  some : 4 ≤ k
+  within : at + k ≤ length s
+  same : finish (c || b) (n + 1) (from s (at + k)) ≡ finish c n (from s at)
+
+module _ (s : List ℕ) (at n : ℕ) (c : Bool) (h : at < length s) (q : Passed) (g : passedOf q ≡ mapOk (spanned hasCname (drop at s)) (readPacket (eqb at 0) (drop at s))) where
+  turn-refused : (v : RtcpParseError) (r : Refusal) → q ≡ passed.Refused v → r ≡ refusalIn (passedOf q) → refused r ≡ finish c n (from s at)
+  unfolding finish _>>=_
+  turn-refused v r e z =
+      rw (from-at s at h, gone hasCname (eqb at 0) (drop at s) (passedOf q) r g (ap passedOf e ∙ ap refused (sym (z ∙ ap (λ (q : Passed). refusalIn (passedOf q)) e))))
+
+  turn-next : (b : Bool) (k : ℕ) → q ≡ passed.Packet b k → Next s at n c b k
+  unfolding _>>=_
+  turn-next b k e =
+      let w = came hasCname (eqb at 0) (drop at s) (passedOf q) b k g (ap passedOf e) in
+      let l = came-within hasCname s at b k h w in
       record {
-        some = m;
-        within = omega (arith, w .span);
+        some = l .0;
+        within = l .1;
         same =
-            rw (from-after s (at + k) (omega arith), ← w .span, ← w .view, named-is (w .packet), from-at s at h, w .is-read)
+            rw (from-after s (at + k) (omega arith), ← w .span, ← w .view, from-at s at h, w .is-read)
             (cons c n (w .packet) (readPackets (length s) (drop (at + stated (drop at s)) s)));
       }
 
@@ -313,23 +339,23 @@ module _ (s : List ℕ) (at n : ℕ) (c : Bool) (g : Loop s at n c) where
   pub loop-unnamed : length s ≤ at → c ≡ false → refuse 8 0 0 ≡ answer s
   loop-unnamed l z = unnamed-end s at n c (g .some) (omega (arith, g .within)) z ∙ g .same
 
-  module _ (h : at < length s) (q : ReadPacket) (e : readOf q ≡ mapOk (spanned (take (length s - at) (drop at s))) (readPacket (eqb at 0) (take (length s - at) (drop at s)))) where
-    pub loop-refused : (v : RtcpParseError) (r : Refusal) → q ≡ read.Refused v → r ≡ refusalIn (readOf q) → refused r ≡ answer s
-    loop-refused v r w z = turn-refused s at n c h q (here s at q e) v r w z ∙ g .same
+  module _ (h : at < length s) (q : Passed) (e : passedOf q ≡ mapOk (spanned hasCname (take (length s - at) (drop at s))) (readPacket (eqb at 0) (take (length s - at) (drop at s)))) where
+    pub loop-refused : (v : RtcpParseError) (r : Refusal) → q ≡ passed.Refused v → r ≡ refusalIn (passedOf q) → refused r ≡ answer s
+    loop-refused v r w z = turn-refused s at n c h q (here hasCname s at (passedOf q) e) v r w z ∙ g .same
 
-    module _ (p : Packet) (k : ℕ) (w : q ≡ read.Packet p k) where
+    module _ (p : Bool) (k : ℕ) (w : q ≡ passed.Packet p k) where
       pub loop-fits : length s < 2 ^ 64 → at + k < 2 ^ 64
-      loop-fits b = let x = turn-next s at n c h q (here s at q e) p k w in omega arith
+      loop-fits b = let x = turn-next s at n c h q (here hasCname s at (passedOf q) e) p k w in omega arith
 
       pub loop-counts : length s < 2 ^ 64 → n + 1 < 2 ^ 64
       loop-counts b = omega (arith, g .count)
 
       pub loop-less : length s - (at + k) < length s - at
-      loop-less = let x = turn-next s at n c h q (here s at q e) p k w in omega arith
+      loop-less = let x = turn-next s at n c h q (here hasCname s at (passedOf q) e) p k w in omega arith
 
-      pub loop-again : (b : Bool) → b ≡ (c || named p) → Loop s (at + k) (n + 1) b
+      pub loop-again : (b : Bool) → b ≡ (c || p) → Loop s (at + k) (n + 1) b
       loop-again b f =
-          let x = turn-next s at n c h q (here s at q e) p k w in
+          let x = turn-next s at n c h q (here hasCname s at (passedOf q) e) p k w in
           record { some = g .some; within = x .within; count = omega (arith, g .count); same = rw f (x .same ∙ g .same) }
 
 -- ---- a walk
@@ -339,19 +365,25 @@ module _ (s : List ℕ) (at : ℕ) where
   unfolding step need _>>_ mapOk
   step-none h = simp (le-ltb _ _ h)
 
-  module _ (h : at < length s) (q : ReadPacket) (g : readOf q ≡ mapOk (spanned (take (length s - at) (drop at s))) (readPacket (eqb at 0) (take (length s - at) (drop at s)))) where
+  module _ (h : at < length s) (q : ReadPacket) (g : readOf q ≡ mapOk (spanned packetView (take (length s - at) (drop at s))) (readPacket (eqb at 0) (take (length s - at) (drop at s)))) where
     pub step-refused : (v : RtcpParseError) (r : Refusal) → q ≡ read.Refused v → r ≡ refusalIn (readOf q) → refused r ≡ mapOk stepView (step s at)
     unfolding step need _>>_ _>>=_ mapOk
-    step-refused v r e z = rw (lt-ltb at (length s) h, gone (eqb at 0) (drop at s) q v r (here s at q g) e z)
+    step-refused v r e z =
+        rw (
+          lt-ltb at (length s) h,
+          gone packetView (eqb at 0) (drop at s) (readOf q) r (here packetView s at (readOf q) g) (ap readOf e ∙ ap refused (sym (z ∙ ap (λ (q : ReadPacket). refusalIn (readOf q)) e))),
+        )
 
     pub step-some : (p : Packet) (k : ℕ) → q ≡ read.Packet p k → ok (p, walkAt (at + k)) ≡ mapOk stepView (step s at)
     unfolding step need _>>_ _>>=_ mapOk
     step-some p k e =
-        let w = came (eqb at 0) (drop at s) q p k (here s at q g) e in
+        let w = came packetView (eqb at 0) (drop at s) (readOf q) p k (here packetView s at (readOf q) g) (ap readOf e) in
         rw (lt-ltb at (length s) h, w .is-read, w .span, w .view)
 
     pub step-fits : (p : Packet) (k : ℕ) → q ≡ read.Packet p k → length s < 2 ^ 64 → at + k < 2 ^ 64
-    step-fits p k e b = let x = turn-next s at 0 false h q (here s at q g) p k e in omega arith
+    step-fits p k e b =
+        let w = came packetView (eqb at 0) (drop at s) (readOf q) p k (here packetView s at (readOf q) g) (ap readOf e) in
+        omega (arith, came-within packetView s at p k h w .1)
 
 module _ (s : List ℕ) (q : ParsedCompound) (g : parsedCompoundOf q ≡ answer s) where
   pub open-refused : (v : RtcpParseError) (r : Refusal) → q ≡ compound.Refused v → r ≡ refusalIn (parsedCompoundOf q) → refused r ≡ mapOk walkAt (openWalk s)
@@ -364,6 +396,6 @@ module _ (s : List ℕ) (q : ParsedCompound) (g : parsedCompoundOf q ≡ answer 
   unfolding openWalk _>>=_ mapOk
   open-ok x e = rw (mapOk-inv compoundView (readCompound s) (sym g ∙ ap parsedCompoundOf e) .1)
 
-pub ruleset frames = (needs, not-true, not-false, padding-set, padding-clear, later, sender-first, receiver-first, frame-short, frame-version, frame-past, frame-padding, frame-report, frame-passed, frame-refused, frame-within, frame-length, frame-long, packet-refused, packet-read)
+pub ruleset frames = (needs, not-true, not-false, padding-set, padding-clear, later, sender-first, receiver-first, frame-short, frame-version, frame-past, frame-padding, frame-report, frame-passed, frame-refused, frame-unpassed, frame-within, frame-length, frame-long, packet-refused, packet-read, kind-refused, kind-passed)
 
 pub ruleset compounds = (needs, not-true, not-false, no-byte, loop-start, loop-named, loop-unnamed, loop-refused, loop-fits, loop-counts, loop-less, loop-again, step-none, step-refused, step-some, step-fits, open-refused, open-ok)

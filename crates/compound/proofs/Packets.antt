@@ -1,6 +1,7 @@
 -- A packet of any kind, from the answer of its kind's reader.
 use borrow.Author.Needs.{needs}
 use mathlib.Core.Path.{_≡_, refl, sym, ap, _∙_}
+use mathlib.Core.Bool.{Bool, false}
 use mathlib.Core.List.{List}
 use Prim.Native.Nat.{ℕ}
 use borrow.Author.Tests.{ne-eqb}
@@ -77,5 +78,51 @@ named-is p = go (p .content) (p .padding)
     go (bye ss l) padding = refl
     go (app subtype ssrc name d) padding = refl
     go (unknown t low b) padding = refl
+
+-- ---- what the check of a datagram asks of a packet
+
+module _ {O A : Type 0} (of : O → Answer A) (k : Kind) (view : Read → A) (name : A → Bool) (same : (p : Read) → named (viewAs k p) ≡ name (view p)) where
+  name-viewed : (s : List ℕ) (r : Answer Read) → readAs k s ≡ r → mapOk name (mapOk view r) ≡ mapOk hasCname r
+  unfolding mapOk
+  name-viewed s (ok p) h = ap ok (sym (same p) ∙ ap (λ (k : Kind). named (viewAs k p)) (sym (readAs-kind k s h)) ∙ named-is p)
+  name-viewed s (refused x) h = refl
+
+  -- of a kind's answer whose constructor is known
+  pub checks : (s : List ℕ) (o p : O) (x : Answer Bool) → o ≡ p → of o ≡ mapOk view (readAs k s) → x ≡ mapOk name (of p) → x ≡ mapOk hasCname (readAs k s)
+  checks s o p x e h q = q ∙ ap (λ (p : O). mapOk name (of p)) (sym e) ∙ ap (mapOk name) h ∙ name-viewed s (readAs k s) refl
+
+abbrev pub nameless : {A : Type 0} → A → Bool
+nameless a = false
+
+module _ (s : List ℕ) (t : ℕ) (e : t ≡ typeIn s) (x : Answer Bool) where
+  pub check-known : (k : Kind) → kindOf t (lowIn s) ≡ k → x ≡ mapOk hasCname (readAs k s) → x ≡ mapOk hasCname (readAs (kindOf (typeIn s) (lowIn s)) s)
+  check-known k q h = h ∙ ap (λ (k : Kind). mapOk hasCname (readAs k s)) (sym q ∙ ap (λ (t : ℕ). kindOf t (lowIn s)) e)
+
+  pub sr-check : t ≡ 200 → x ≡ mapOk hasCname (readAs SR s) → x ≡ mapOk hasCname (readAs (kindOf (typeIn s) (lowIn s)) s)
+  unfolding kindOf
+  sr-check q = check-known SR (rw q)
+
+  pub rr-check : t ≡ 201 → x ≡ mapOk hasCname (readAs RR s) → x ≡ mapOk hasCname (readAs (kindOf (typeIn s) (lowIn s)) s)
+  unfolding kindOf
+  rr-check q = check-known RR (rw q)
+
+  pub sdes-check : t ≡ 202 → x ≡ mapOk hasCname (readAs SDES s) → x ≡ mapOk hasCname (readAs (kindOf (typeIn s) (lowIn s)) s)
+  unfolding kindOf
+  sdes-check q = check-known SDES (rw q)
+
+  pub bye-check : t ≡ 203 → x ≡ mapOk hasCname (readAs BYE s) → x ≡ mapOk hasCname (readAs (kindOf (typeIn s) (lowIn s)) s)
+  unfolding kindOf
+  bye-check q = check-known BYE (rw q)
+
+  pub app-check : t ≡ 204 → x ≡ mapOk hasCname (readAs APP s) → x ≡ mapOk hasCname (readAs (kindOf (typeIn s) (lowIn s)) s)
+  unfolding kindOf
+  app-check q = check-known APP (rw q)
+
+  pub unknown-check : (t ≡ 200 → ⊥) → (t ≡ 201 → ⊥) → (t ≡ 202 → ⊥) → (t ≡ 203 → ⊥) → (t ≡ 204 → ⊥) → x ≡ mapOk hasCname (readAs UNKNOWN s)
+      → x ≡ mapOk hasCname (readAs (kindOf (typeIn s) (lowIn s)) s)
+  unfolding kindOf
+  unknown-check f g h i j = check-known UNKNOWN (rw (ne-eqb t 200 f, ne-eqb t 201 g, ne-eqb t 202 h, ne-eqb t 203 i, ne-eqb t 204 j))
+
+pub ruleset checks-by-type = (needs, sr-check, rr-check, sdes-check, bye-check, app-check, unknown-check)
 
 pub ruleset packets = (needs, sr-read, rr-read, sdes-read, bye-read, app-read, unknown-read)

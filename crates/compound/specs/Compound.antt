@@ -14,6 +14,8 @@ use Rattle.compound.specs.declared.compound.Span.{Span}
 use Rattle.compound.specs.declared.compound.Span.the-variants as span
 use Rattle.compound.specs.declared.compound.ReadPacket.{ReadPacket}
 use Rattle.compound.specs.declared.compound.ReadPacket.the-variants as read
+use Rattle.compound.specs.declared.compound.Passed.{Passed}
+use Rattle.compound.specs.declared.compound.Passed.the-variants as passed
 use Rattle.compound.specs.declared.compound.Compound.{Compound}
 use Rattle.compound.specs.declared.compound.ParsedCompound.{ParsedCompound}
 use Rattle.compound.specs.declared.compound.ParsedCompound.the-variants as parsed
@@ -50,8 +52,13 @@ abbrev pub readOf : ReadPacket → Answer (Packet × ℕ)
 readOf (read.Packet p n) = ok (p, n)
 readOf (read.Refused e) = refused (parseRefusal e)
 
-abbrev pub spanned : List ℕ → Read → Packet × ℕ
-spanned s p = (packetView p, stated s)
+abbrev pub passedOf : Passed → Answer (Bool × ℕ)
+passedOf (passed.Packet b n) = ok (b, n)
+passedOf (passed.Refused e) = refused (parseRefusal e)
+
+-- what is asked of the packet, and its length
+abbrev pub spanned : {B : Type 0} → (Read → B) → List ℕ → Read → B × ℕ
+spanned f s p = (f p, stated s)
 
 -- ---- a datagram, and a walk over it
 

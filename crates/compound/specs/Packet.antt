@@ -19,10 +19,17 @@ use Rattle.compound.specs.declared.packet.Packet.{Packet}
 use Rattle.compound.specs.declared.packet.Packet.the-variants as packet
 use Rattle.compound.specs.declared.packet.ParsedPacket.{ParsedPacket}
 use Rattle.compound.specs.declared.packet.ParsedPacket.the-variants as parsed
+use Rattle.compound.specs.declared.packet.CheckedKind.{CheckedKind}
+use Rattle.compound.specs.declared.packet.CheckedKind.the-variants as checked
 
 abbrev pub parsedOf : ParsedPacket → Answer Packet
 parsedOf (parsed.Packet p) = ok p
 parsedOf (parsed.Refused e) = refused (parseRefusal e)
+
+-- whether it has a CNAME, or why it is refused
+abbrev pub checkedOf : CheckedKind → Answer Bool
+checkedOf (checked.HasCname b) = ok b
+checkedOf (checked.Refused e) = refused (parseRefusal e)
 
 -- ---- each kind as a packet
 

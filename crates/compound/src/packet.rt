@@ -16,14 +16,15 @@ ghost use mathlib.Core.Path.{_≡_};
 ghost use Prim.Native.Nat.{_≤_};
 ghost use lib.ListN.{length};
 ghost use Rattle.rfc3550.specs.Answer.{mapOk};
-ghost use Rattle.rfc3550.specs.Read.{kindOf, typeIn, lowIn, readAs};
+ghost use Rattle.rfc3550.specs.Packet.{hasCname};
+ghost use Rattle.rfc3550.specs.Read.{SR, RR, SDES, BYE, APP, UNKNOWN, kindOf, typeIn, lowIn, readAs};
 ghost use Rattle.utils.specs.Error.{parseRefusal, refusalIn};
 ghost use Rattle.report.specs.Report.{senderOf, receiverOf};
 ghost use Rattle.sdes.specs.Sdes.{parsedSdesOf};
 ghost use Rattle.bye.specs.Bye.{parsedOf as byeOf};
 ghost use Rattle.app.specs.App.{parsedOf as appOf};
 ghost use Rattle.compound.specs.Unknown.{parsedUnknownOf};
-ghost use Rattle.compound.specs.Packet.{packetView, parsedOf, srPacket, rrPacket, sdesPacket, byePacket, appPacket, unknownPacket, named};
+ghost use Rattle.compound.specs.Packet.{packetView, parsedOf, checkedOf, srPacket, rrPacket, sdesPacket, byePacket, appPacket, unknownPacket, named};
 
 pub enum Packet {
     Sr(SenderReport),
@@ -47,6 +48,24 @@ impl ParsedPacket {
         match self {
             ParsedPacket::Packet(_) => RtcpParseError::NothingLeft,
             ParsedPacket::Refused(e) => e,
+        }
+    }
+}
+
+// Whether a packet has a CNAME, or why it is refused: all that the check of a datagram asks of it.
+pub enum CheckedKind {
+    HasCname(bool),
+    Refused(RtcpParseError),
+}
+
+impl CheckedKind {
+    // Why it is refused; NothingLeft where it is not.
+    pub fn refusal(self) -> RtcpParseError
+        ensures { λ r. ⌜ parseRefusal r ≡ refusalIn (checkedOf self) ⌝ }
+    {
+        match self {
+            CheckedKind::HasCname(_) => RtcpParseError::NothingLeft,
+            CheckedKind::Refused(e) => e,
         }
     }
 }
@@ -105,6 +124,60 @@ fn of_unknown(p: ParsedUnknown) -> ParsedPacket
     }
 }
 
+fn check_sr(s: &[u8]) -> CheckedKind
+    ensures { λ r. ⌜ checkedOf r ≡ mapOk hasCname (readAs SR (now (s .entry))) ⌝ }
+{
+    match SenderReport::parse(s) {
+        ParsedSenderReport::Report(_) => CheckedKind::HasCname(false),
+        ParsedSenderReport::Refused(e) => CheckedKind::Refused(e),
+    }
+}
+
+fn check_rr(s: &[u8]) -> CheckedKind
+    ensures { λ r. ⌜ checkedOf r ≡ mapOk hasCname (readAs RR (now (s .entry))) ⌝ }
+{
+    match ReceiverReport::parse(s) {
+        ParsedReceiverReport::Report(_) => CheckedKind::HasCname(false),
+        ParsedReceiverReport::Refused(e) => CheckedKind::Refused(e),
+    }
+}
+
+fn check_sdes(s: &[u8]) -> CheckedKind
+    ensures { λ r. ⌜ checkedOf r ≡ mapOk hasCname (readAs SDES (now (s .entry))) ⌝ }
+{
+    match Sdes::parse(s) {
+        ParsedSdes::Sdes(sdes) => CheckedKind::HasCname(sdes.has_cname),
+        ParsedSdes::Refused(e) => CheckedKind::Refused(e),
+    }
+}
+
+fn check_bye(s: &[u8]) -> CheckedKind
+    ensures { λ r. ⌜ checkedOf r ≡ mapOk hasCname (readAs BYE (now (s .entry))) ⌝ }
+{
+    match Bye::parse(s) {
+        ParsedBye::Bye(_) => CheckedKind::HasCname(false),
+        ParsedBye::Refused(e) => CheckedKind::Refused(e),
+    }
+}
+
+fn check_app(s: &[u8]) -> CheckedKind
+    ensures { λ r. ⌜ checkedOf r ≡ mapOk hasCname (readAs APP (now (s .entry))) ⌝ }
+{
+    match App::parse(s) {
+        ParsedApp::App(_) => CheckedKind::HasCname(false),
+        ParsedApp::Refused(e) => CheckedKind::Refused(e),
+    }
+}
+
+fn check_unknown(s: &[u8]) -> CheckedKind
+    ensures { λ r. ⌜ checkedOf r ≡ mapOk hasCname (readAs UNKNOWN (now (s .entry))) ⌝ }
+{
+    match Unknown::parse(s) {
+        ParsedUnknown::Unknown(_) => CheckedKind::HasCname(false),
+        ParsedUnknown::Refused(e) => CheckedKind::Refused(e),
+    }
+}
+
 impl Packet {
     // The packet that the bytes are, from the first to the last.
     pub fn parse_unchecked(s: &[u8]) -> ParsedPacket
@@ -128,6 +201,30 @@ impl Packet {
             return of_app(App::parse(s));
         }
         of_unknown(Unknown::parse(s))
+    }
+
+    // The same steps, where only the refusal and the CNAME are asked for.
+    pub fn check_unchecked(s: &[u8]) -> CheckedKind
+        requires { ⌜ 4 ≤ length (now s) ⌝ }
+        ensures { λ r. ⌜ checkedOf r ≡ mapOk hasCname (readAs (kindOf (typeIn (now (s .entry))) (lowIn (now (s .entry)))) (now (s .entry))) ⌝ }
+    {
+        let packet_type = utils::parser::parse_packet_type(s);
+        if packet_type == SenderReport::PACKET_TYPE {
+            return check_sr(s);
+        }
+        if packet_type == ReceiverReport::PACKET_TYPE {
+            return check_rr(s);
+        }
+        if packet_type == Sdes::PACKET_TYPE {
+            return check_sdes(s);
+        }
+        if packet_type == Bye::PACKET_TYPE {
+            return check_bye(s);
+        }
+        if packet_type == App::PACKET_TYPE {
+            return check_app(s);
+        }
+        check_unknown(s)
     }
 
     // Whether some chunk of it has a CNAME.

@@ -5,9 +5,9 @@ use Rattle.compound.proofs.compound.Compound.parse.Statement.{statement
 use Rattle.compound.proofs.compound.Compound.parse.Tie as tie
 use Rattle.compound.proofs.compound.Compound.parse.Reads as reads
 use Rattle.compound.proofs.compound.Compound.parse.Lts as lts
-use Rattle.compound.proofs.compound.ReadPacket.refusal.Reads as refusal-reads
+use Rattle.compound.proofs.compound.Passed.refusal.Reads as refusal-reads
 use Rattle.compound.proofs.compound.or_cname.Reads as or-cname-reads
-use Rattle.compound.proofs.compound.read_packet.Reads as read-packet-reads
+use Rattle.compound.proofs.compound.check_packet.Reads as check-packet-reads
 
 abbrev Inv-loop : tie.InvT-loop
 Inv-loop s at₀ n-packets₀ has-cname₀ at n-packets has-cname = Loop s at n-packets has-cname
@@ -36,8 +36,8 @@ part-rest-end : tie.Need-part-rest-end Inv-loop μ-loop
 part-rest-end c = search compounds
 
 -- src/compound.rt:155:17
-read-packet-requires : tie.Need-read-packet-requires Inv-loop μ-loop
-read-packet-requires c κs = search compounds
+check-packet-requires : tie.Need-check-packet-requires Inv-loop μ-loop
+check-packet-requires c κs = search compounds
 
 -- src/compound.rt:156:36
 enum-known-answer : tie.Need-enum-known-answer Inv-loop μ-loop
@@ -94,7 +94,7 @@ parse-spec =
     sub-rest
     part-rest-start
     part-rest-end
-    read-packet-requires
+    check-packet-requires
     enum-known-answer
     enum-told
     refusal-requires
