@@ -28,10 +28,10 @@ struct Place {
     at: usize,
 }
 
-fn wide(b: u8) -> u32
+fn wide(b: u8) -> usize
     ensures { λ r. ⌜ (r ≡ b) × (r < 256) ⌝ }
 {
-    b as u32
+    b as usize
 }
 
 // The first place of the chunk that starts here. Behind the last chunk there is no SSRC.
@@ -56,7 +56,7 @@ fn after(body: &[u8], place: Place) -> Place
     if body[at] == 0 {
         return chunk_place(body, at + (4 - at % 4));
     }
-    let length = wide(body[at + 1]) as usize;
+    let length = wide(body[at + 1]);
     Place {
         ssrc: place.ssrc,
         at: at + 2 + length,
@@ -70,12 +70,11 @@ fn read_row(body: &[u8], place: Place) -> Row
     let at = place.at;
     let ssrc = place.ssrc;
     let type_ = wide(body[at]);
-    let value = at as u32;
     if type_ == 0 {
         return Row {
             ssrc,
             type_: 0,
-            value,
+            value: at as u32,
             prefix: 0,
             length: 0,
         };
@@ -84,19 +83,19 @@ fn read_row(body: &[u8], place: Place) -> Row
     if type_ != 8 {
         return Row {
             ssrc,
-            type_,
-            value: value + 2,
+            type_: type_ as u32,
+            value: (at + 2) as u32,
             prefix: 0,
-            length,
+            length: length as u32,
         };
     }
     let prefix = wide(body[at + 2]);
     Row {
         ssrc,
-        type_,
-        value: value + 3 + prefix,
-        prefix,
-        length: length - 1 - prefix,
+        type_: type_ as u32,
+        value: (at + 3 + prefix) as u32,
+        prefix: prefix as u32,
+        length: (length - 1 - prefix) as u32,
     }
 }
 

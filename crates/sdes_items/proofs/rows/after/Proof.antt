@@ -34,21 +34,17 @@ add-wide c = search rows
 shared-slice-read-wide : tie.Need-shared-slice-read-wide
 shared-slice-read-wide c = search rows
 
--- src/rows.rt:59:18
+-- src/rows.rt:59:9
 wide-requires : tie.Need-wide-requires
 wide-requires c κs = search rows
 
--- src/rows.rt:59:18
-cast-length : tie.Need-cast-length
-cast-length c = search rows
+-- src/rows.rt:62:13
+add-t11 : tie.Need-add-t11
+add-t11 c = search rows
 
 -- src/rows.rt:62:13
-add-t12 : tie.Need-add-t12
-add-t12 c = search rows
-
--- src/rows.rt:62:13
-add-t14 : tie.Need-add-t14
-add-t14 c = search rows
+add-t13 : tie.Need-add-t13
+add-t13 c = search rows
 
 -- src/rows.rt:51:1
 returns-2 : tie.Need-returns-2
@@ -66,7 +62,6 @@ after-spec =
     add-wide
     shared-slice-read-wide
     wide-requires
-    cast-length
-    add-t12
-    add-t14
+    add-t11
+    add-t13
     returns-2)
