@@ -3,6 +3,7 @@ use Prim.Native.Nat.{ℕ, _+_, _-_, _*_, _/_, _%_, _≤_, _<_}
 use mathlib.Core.Path.{_≡_, refl, sym, ap, _∙_}
 use mathlib.Core.Bool.{Bool, true, false}
 use mathlib.Core.List.{List, [], _∷_, _++_, append-nil}
+use native.Mathlib.Nat.{add-zero}
 use native.Mathlib.Omega.{arith}
 use borrow.Author.Tests.{le-leb, lt-leb, leb-true, not-true, not-false}
 use lib.ListN.{length, length-append}
@@ -30,6 +31,10 @@ module _ (least n k : ℕ) where
   pub too-many : 31 < n → refused (refusal 18 n 31) ≡ countSize least n k
   unfolding countSize need _>>_
   too-many h = simp (lt-leb _ _ h)
+
+  pub count-plain : n ≤ 31 → k ≡ 0 → ok (least + n * 24) ≡ countSize least n k
+  unfolding countSize need _>>_
+  count-plain h e = rw e (simp (le-leb _ _ h, add-zero))
 
   module _ (h : n ≤ 31) (t : Bool) (e : t ≡ paddingOk k) where
     pub bad-padding : t ≡ false → refused (refusal 11 k 0) ≡ countSize least n k
@@ -269,7 +274,7 @@ head-long r t k count size l l₁ h e =
     let n = header-long k count t size l (store 0 (header k count t size) l) (omega arith) refl in
     ap length e ∙ length-store 4 (put (reporterWidths r) (reporterFields r)) (store 0 (header k count t size) l) (omega arith) ∙ n
 
-pub ruleset reports = (writes, flats, not-true, not-false, too-many, bad-padding, count-fine, odd-lent, fraction-over, flat-count-refused, flat-count-sized, flat-count, receiver-head, receiver-size, receiver-agree, receiver-fits, receiver-laid, info-laid, sender-head, sender-size, sender-agree, sender-fits, sender-laid, flat-write-refused, flat-write-short, flat-write-done)
+pub ruleset reports = (writes, flats, not-true, not-false, too-many, count-plain, bad-padding, count-fine, odd-lent, fraction-over, flat-count-refused, flat-count-sized, flat-count, receiver-head, receiver-size, receiver-agree, receiver-fits, receiver-laid, info-laid, sender-head, sender-size, sender-agree, sender-fits, sender-laid, flat-write-refused, flat-write-short, flat-write-done)
 
 -- ---- the views lose nothing
 

@@ -54,6 +54,9 @@ pub fn check_count(count: usize, padding: u64, least: u8) -> Written
     if 31 < count {
         return Written::Refused(RtcpWriteError::TooManyReportBlocks { count, max: 31 });
     }
+    if padding == 0 {
+        return Written::Size(least as usize + count * 24);
+    }
     if !writer::check_padding(padding) {
         return Written::Refused(RtcpWriteError::InvalidPadding { padding });
     }
