@@ -1,4 +1,5 @@
 // The walk that holds its bytes, against the walk that is lent them at each step.
+use super::held;
 use super::random;
 use super::tally;
 use super::tally::Tally;
@@ -148,38 +149,56 @@ fn number(a: SteppedChunk) -> u64 {
     }
 }
 
-fn walked(count: Tally, x: u64, data: &mut [u8], chunks: u64, item: u64) -> Tally {
+// A step from any place.
+fn stepped(count: Tally, x: u64, data: &[u8]) -> Tally {
+    let walk = ChunkWalk {
+        at: random::below(random::apart(x, 8), 600) as usize,
+        end: random::below(random::apart(x, 9), 600) as usize,
+    };
+    let lent = walk.step(data);
+    tally::count(count, number(lent), same(held::step_held(data, walk), lent))
+}
+
+fn walked(what: u64, count: Tally, x: u64, data: &mut [u8], chunks: u64, item: u64) -> Tally {
     make(data, chunks, item, x);
     spoil(data, random::apart(x, 2));
+    if what == 1 {
+        return stepped(count, x, data);
+    }
     let n = random::below(random::apart(x, 3), chunks % 32 + 2) as usize;
     let held = sdes_walk::chunk(data, n);
     let lent = flat(data, n);
     tally::count(count, number(lent), same(held, lent))
 }
 
-fn cut(count: Tally, x: u64, data: &mut [u8]) -> Tally {
+fn cut(what: u64, count: Tally, x: u64, data: &mut [u8]) -> Tally {
     let chunks = random::below(random::apart(x, 4), 32) % 32;
     let item = random::below(random::apart(x, 5), 9);
     let size = (4 + chunks_len(chunks, item) % 513) as usize;
     if data.len() < size {
         return count;
     }
-    walked(count, x, &mut data[0..size], chunks, item)
+    walked(what, count, x, &mut data[0..size], chunks, item)
 }
 
-fn packet(count: Tally, x: u64) -> Tally {
+fn packet(what: u64, count: Tally, x: u64) -> Tally {
     let mut data = [0u8; 600];
-    cut(count, x, &mut data)
+    cut(what, count, x, &mut data)
 }
 
-pub fn compare(times: u64) {
+fn packets(what: u64, times: u64) -> Tally {
     let mut count = tally::none();
     let mut x: u64 = 1;
     let mut i: u64 = 0;
     while i < times {
         x = random::next(x);
-        count = packet(count, x);
+        count = packet(what, count, x);
         i += 1;
     }
-    tally::print(b"chunks walked", count);
+    count
+}
+
+pub fn compare(times: u64) {
+    tally::print(b"chunks walked", packets(0, times));
+    tally::print(b"chunks stepped to", packets(1, times));
 }

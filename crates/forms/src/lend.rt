@@ -7,11 +7,18 @@ use utils::writer::Written;
 ghost use mathlib.Core.Path.{_≡_};
 ghost use Prim.Native.Nat.{_≤_};
 ghost use lib.ListN.{take};
-ghost use Rattle.rfc3550.specs.Write.{giveReport, write};
+ghost use Rattle.rfc3550.specs.Write.{giveReport, calculateSize, write};
 ghost use Rattle.rfc3550.specs.Writer.{add, call};
 ghost use Rattle.utils.specs.Writer.{writtenOf};
 ghost use Rattle.report_records.specs.Records.{reporterOf, blocksLent};
 ghost use Rattle.compound_write.specs.Writer.{outcomeOf, writerOf};
+
+pub fn size_lent(reporter: Reporter, list: [ReportBlock; 33], n: usize, padding: u64) -> Written
+    requires { ⌜ n ≤ 33 ⌝ }
+    ensures { λ r. ⌜ writtenOf r ≡ calculateSize (giveReport (reporterOf reporter) (blocksLent (take n list)) padding) ⌝ }
+{
+    report_records::calculate_size(reporter, &list[..n], padding)
+}
 
 pub fn write_lent(
     buf: &mut [u8],

@@ -1,13 +1,13 @@
 use borrow.Author.Needs.{needs}
 use Prim.Native.Nat.{_-_, _≤_}
-use Rattle.forms.proofs.chunks.compare.Statement.{statement}
-use Rattle.forms.proofs.chunks.compare.Tie as tie
+use Rattle.forms.proofs.chunks.packets.Statement.{statement}
+use Rattle.forms.proofs.chunks.packets.Tie as tie
 
 abbrev Inv-loop : tie.InvT-loop
-Inv-loop times count₀ x₀ i₀ t5 count x i = i ≤ times
+Inv-loop what times count₀ x₀ i₀ count x i = i ≤ times
 
 abbrev μ-loop : tie.MeasureT-loop
-μ-loop times count₀ x₀ i₀ t5 count x i = times - i
+μ-loop what times count₀ x₀ i₀ count x i = times - i
 
 none-requires : tie.Need-none-requires Inv-loop μ-loop
 none-requires c κs = search needs
@@ -30,17 +30,11 @@ loop-less c = search needs
 loop-again : tie.Need-loop-again Inv-loop μ-loop
 loop-again c = search needs
 
-slice-aggregate-print : tie.Need-slice-aggregate-print Inv-loop μ-loop
-slice-aggregate-print c = search needs
-
-print-requires : tie.Need-print-requires Inv-loop μ-loop
-print-requires c κs = search needs
-
 returns : tie.Need-returns Inv-loop μ-loop
 returns c = search needs
 
-pub compare-spec : {M : Type 1} → statement M
-compare-spec =
+pub packets-spec : {M : Type 1} → statement M
+packets-spec =
     tie.close
     (tie.spec
     Inv-loop
@@ -52,6 +46,4 @@ compare-spec =
     add-i
     loop-less
     loop-again
-    slice-aggregate-print
-    print-requires
     returns)

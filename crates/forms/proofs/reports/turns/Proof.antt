@@ -1,27 +1,25 @@
 use borrow.Author.Needs.{needs}
 use Prim.Native.Nat.{_-_, _≤_}
-use mathlib.Core.Path.{_≡_}
-use lib.ListN.{length}
-use Rattle.forms.proofs.reports.fill.Statement.{statement}
-use Rattle.forms.proofs.reports.fill.Tie as tie
+use Rattle.forms.proofs.reports.turns.Statement.{statement}
+use Rattle.forms.proofs.reports.turns.Tie as tie
 
 abbrev Inv-loop : tie.InvT-loop
-Inv-loop buf₀ x y₀ i₀ buf y i = (length buf ≡ length buf₀) × (i ≤ length buf₀)
+Inv-loop what times count₀ x₀ i₀ count x i = i ≤ times
 
 abbrev μ-loop : tie.MeasureT-loop
-μ-loop buf₀ x y₀ i₀ buf y i = length buf₀ - i
+μ-loop what times count₀ x₀ i₀ count x i = times - i
+
+none-requires : tie.Need-none-requires Inv-loop μ-loop
+none-requires c κs = search needs
 
 loop-holds : tie.Need-loop-holds Inv-loop μ-loop
 loop-holds c = search needs
 
-byte-requires : tie.Need-byte-requires Inv-loop μ-loop
-byte-requires c κs = search needs
-
-slice-write-buf : tie.Need-slice-write-buf Inv-loop μ-loop
-slice-write-buf c = search needs
-
 next-requires : tie.Need-next-requires Inv-loop μ-loop
 next-requires c κs = search needs
+
+turn-requires : tie.Need-turn-requires Inv-loop μ-loop
+turn-requires c κs = search needs
 
 add-i : tie.Need-add-i Inv-loop μ-loop
 add-i c = search needs
@@ -32,24 +30,20 @@ loop-less c = search needs
 loop-again : tie.Need-loop-again Inv-loop μ-loop
 loop-again c = search needs
 
-same-length : tie.Need-same-length Inv-loop μ-loop
-same-length c = search needs
-
 returns : tie.Need-returns Inv-loop μ-loop
 returns c = search needs
 
-pub fill-spec : {M : Type 1} → statement M
-fill-spec =
+pub turns-spec : {M : Type 1} → statement M
+turns-spec =
     tie.close
     (tie.spec
     Inv-loop
     μ-loop
+    none-requires
     loop-holds
-    byte-requires
-    slice-write-buf
     next-requires
+    turn-requires
     add-i
     loop-less
     loop-again
-    same-length
     returns)
