@@ -1,35 +1,16 @@
 /* A datagram written by calls of the compound writer, read, and walked over, through the C functions. The exit status is 1 where an answer
    differs. */
-#include <stdio.h>
-#include <string.h>
-
-#include "rtcp.h"
-
-static int failed;
+#include "check.h"
 
 /* The writer that the last call handed back. */
 static struct RtcpWriter w;
-
-static void compare(const char *name, const void *got, const void *want, size_t size) {
-    if (memcmp(got, want, size) != 0) {
-        printf("hosts/c/compound_smoke.c: %s differs\n", name);
-        failed = 1;
-    }
-}
-
-#define CHECK(result, call, ...)                        \
-    do {                                                \
-        struct result got = call;                       \
-        struct result want = {__VA_ARGS__};             \
-        compare(#call, &got, &want, sizeof got);        \
-    } while (0)
 
 /* A call: its answer, and the writer that it hands back. */
 #define CALLS(number, first, second, length, padded, cname, closed, call)                        \
     do {                                                                                         \
         struct RtcpCall got = call;                                                              \
         struct RtcpCall want = {number, first, second, {length, padded, cname, closed}};         \
-        compare(#call, &got, &want, sizeof got);                                                 \
+        compare(__FILE__, #call, &got, &want, sizeof got);                                       \
         w = got.writer;                                                                          \
     } while (0)
 
@@ -54,10 +35,10 @@ static uint8_t buf[sizeof datagram + 4];
 
 static void left(size_t size) {
     size_t i;
-    compare("the bytes written", buf, datagram, size);
+    compare(__FILE__, "the bytes written", buf, datagram, size);
     for (i = size; i < sizeof buf; i++) {
         if (buf[i] != 0x5A) {
-            compare("the bytes past them", buf + i, "\x5A", 1);
+            compare(__FILE__, "the bytes past them", buf + i, "\x5A", 1);
             return;
         }
     }
@@ -68,7 +49,7 @@ static void writes(void) {
     const uint8_t *nam = (const uint8_t *)"nam", *data = (const uint8_t *)"data";
     memset(buf, 0x5A, sizeof buf);
     w = rtcp_writer_new();
-    compare("rtcp_writer_new()", &w, &new, sizeof w);
+    compare(__FILE__, "rtcp_writer_new()", &w, &new, sizeof w);
     CALLS(27, 0, 0, 0, 0, 0, 0, rtcp_writer_add_bye(buf, sizeof buf, w, ssrcs, 1, text, 2, 3));
     CALLS(28, 0, 0, 0, 0, 0, 0, rtcp_writer_close(w));
     CALLS(24, 0, 0, 0, 0, 0, 0, rtcp_writer_add_sr(buf, sizeof buf, w, 1, 2, 3, 4, 5, wide, 7, 3));
@@ -114,7 +95,7 @@ static void reads(void) {
     CHECK(RtcpCompound, rtcp_compound_parse(s + 60, 16), 7, 202, 0, 0);
     CHECK(RtcpWritten, rtcp_compound_packets(s, n, packets, 14), 10, 15, 0, 0);
     CHECK(RtcpWritten, rtcp_compound_packets(s, n, packets, 16), 0, 0, 0, 15);
-    compare("the list of packets", packets, rows, sizeof rows);
+    compare(__FILE__, "the list of packets", packets, rows, sizeof rows);
     CHECK(RtcpWritten, rtcp_compound_packets(s, 52, packets, 16), 8, 0, 0, 0);
     CHECK(RtcpWalk, rtcp_walk_open(s, n), 0, 0, 0, 0);
     CHECK(RtcpWalk, rtcp_walk_open(s, 52), 8, 0, 0, 0);

@@ -1,24 +1,5 @@
 /* Some of document 01's trial rows through the C functions. The exit status is 1 where an answer differs. */
-#include <stdio.h>
-#include <string.h>
-
-#include "rtcp.h"
-
-static int failed;
-
-static void compare(const char *name, const void *got, const void *want, size_t size) {
-    if (memcmp(got, want, size) != 0) {
-        printf("hosts/c/smoke.c: %s differs\n", name);
-        failed = 1;
-    }
-}
-
-#define CHECK(result, call, ...)                        \
-    do {                                                \
-        struct result got = call;                       \
-        struct result want = {__VA_ARGS__};             \
-        compare(#call, &got, &want, sizeof got);        \
-    } while (0)
+#include "check.h"
 
 static const uint8_t rr[] = {0x80, 0xC9, 0x00, 0x01, 0x11, 0x22, 0x33, 0x44};
 static const uint8_t cname[] = {0x81, 0xCA, 0x00, 0x03, 0x11, 0x22, 0x33, 0x44, 0x01, 0x03, 0x61, 0x40, 0x62, 0x00, 0x00, 0x00};
@@ -55,7 +36,7 @@ static void block_lists(void) {
     memcpy(one + 8, block, sizeof block);
     CHECK(RtcpWritten, rtcp_rr_report_blocks(one, sizeof one, list, 6), 10, 7, 0, 0);
     CHECK(RtcpWritten, rtcp_rr_report_blocks(one, sizeof one, list, 8), 0, 0, 0, 7);
-    compare("the list of blocks", list, numbers, sizeof numbers);
+    compare(__FILE__, "the list of blocks", list, numbers, sizeof numbers);
     CHECK(RtcpWritten, rtcp_rr_report_blocks(one, sizeof one, list, 7), 0, 0, 0, 7);
 }
 
@@ -89,11 +70,11 @@ static void item_lists(void) {
     memcpy(priv + 8, private_item, sizeof private_item);
     CHECK(RtcpWritten, rtcp_sdes_items(cname, sizeof cname, list, 9), 10, 10, 0, 0);
     CHECK(RtcpWritten, rtcp_sdes_items(cname, sizeof cname, list, 11), 0, 0, 0, 10);
-    compare("the list of items", list, numbers, sizeof numbers);
+    compare(__FILE__, "the list of items", list, numbers, sizeof numbers);
     CHECK(RtcpWritten, rtcp_sdes_items(two, sizeof two, list, 10), 0, 0, 0, 10);
-    compare("the list of chunks without items", list, ends, sizeof ends);
+    compare(__FILE__, "the list of chunks without items", list, ends, sizeof ends);
     CHECK(RtcpWritten, rtcp_sdes_items(priv, sizeof priv, list, 10), 0, 0, 0, 10);
-    compare("the list with a prefix", list, private_row, sizeof private_row);
+    compare(__FILE__, "the list with a prefix", list, private_row, sizeof private_row);
     CHECK(RtcpWritten, rtcp_sdes_items(none, sizeof none, NULL, 0), 0, 0, 0, 0);
     CHECK(RtcpWritten, rtcp_sdes_items(prefix, sizeof prefix, list, 11), 5, 5, 0, 0);
     CHECK(RtcpWritten, rtcp_sdes_items(NULL, 0, NULL, 0), 2, 4, 0, 0);

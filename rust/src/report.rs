@@ -5,6 +5,72 @@ use crate::{
 };
 use std::iter::FusedIterator;
 
+// What the two kinds of report have in common, for the type and the function that reads its blocks.
+macro_rules! read_report {
+    ($report:ident, $block:path) => {
+        impl<'a> $report<'a> {
+            /// The number of padding bytes, if the packet is padded.
+            pub fn padding(&self) -> Option<u8> {
+                padding_count(self.padding)
+            }
+
+            /// The number of report blocks.
+            pub fn n_reports(&self) -> u8 {
+                self.n_reports
+            }
+
+            /// The SSRC of the one that reports.
+            pub fn ssrc(&self) -> u32 {
+                self.ssrc
+            }
+
+            /// The report blocks, one call of the library for each.
+            pub fn report_blocks(&self) -> ReportBlocks<'a> {
+                ReportBlocks {
+                    data: self.data,
+                    read: $block,
+                    at: 0,
+                    count: self.n_reports,
+                }
+            }
+
+            /// The report block with an index from 0; 25 past the last.
+            pub fn report_block(&self, index: usize) -> Result<ReportBlock, RtcpParseError> {
+                Ok(ReportBlock::of($block(self.data, index as u64).done()?))
+            }
+
+            /// The bytes after the blocks.
+            pub fn extension(&self) -> &'a [u8] {
+                self.extension
+            }
+        }
+    };
+}
+
+// The same for the builders.
+macro_rules! build_report {
+    ($builder:ident) => {
+        impl $builder {
+            /// The number of padding bytes.
+            pub fn padding(mut self, padding: u8) -> Self {
+                self.padding = padding;
+                self
+            }
+
+            /// Adds a report block.
+            pub fn add_report_block(mut self, report_block: ReportBlockBuilder) -> Self {
+                self.blocks.extend(report_block.numbers);
+                self
+            }
+        }
+    };
+}
+
+read_report!(SenderReport, ffi::rtcp_sr_report_block);
+read_report!(ReceiverReport, ffi::rtcp_rr_report_block);
+build_report!(SenderReportBuilder);
+build_report!(ReceiverReportBuilder);
+
 /// A sender report.
 ///
 /// ```
@@ -86,21 +152,6 @@ impl<'a> SenderReport<'a> {
         }
     }
 
-    /// The number of padding bytes, if the packet is padded.
-    pub fn padding(&self) -> Option<u8> {
-        padding_count(self.padding)
-    }
-
-    /// The number of report blocks.
-    pub fn n_reports(&self) -> u8 {
-        self.n_reports
-    }
-
-    /// The SSRC of the sender.
-    pub fn ssrc(&self) -> u32 {
-        self.ssrc
-    }
-
     /// The NTP time of the report, 32 bits before and 32 after the point.
     pub fn ntp_timestamp(&self) -> u64 {
         self.ntp_timestamp
@@ -119,27 +170,6 @@ impl<'a> SenderReport<'a> {
     /// The octets sent.
     pub fn octet_count(&self) -> u32 {
         self.octet_count
-    }
-
-    /// The report blocks, one call of the library for each.
-    pub fn report_blocks(&self) -> ReportBlocks<'a> {
-        ReportBlocks {
-            data: self.data,
-            read: ffi::rtcp_sr_report_block,
-            at: 0,
-            count: self.n_reports,
-        }
-    }
-
-    /// The report block with an index from 0; 25 past the last.
-    pub fn report_block(&self, index: usize) -> Result<ReportBlock, RtcpParseError> {
-        let block = ffi::rtcp_sr_report_block(self.data, index as u64);
-        Ok(ReportBlock::of(block.done()?))
-    }
-
-    /// The bytes after the blocks.
-    pub fn extension(&self) -> &'a [u8] {
-        self.extension
     }
 
     /// A builder for a sender report.
@@ -215,42 +245,6 @@ impl<'a> ReceiverReport<'a> {
             extension: between(data, step.extension, step.body),
             padding: part(data, step.body, step.padding_len),
         }
-    }
-
-    /// The number of padding bytes, if the packet is padded.
-    pub fn padding(&self) -> Option<u8> {
-        padding_count(self.padding)
-    }
-
-    /// The number of report blocks.
-    pub fn n_reports(&self) -> u8 {
-        self.n_reports
-    }
-
-    /// The SSRC of the receiver that reports.
-    pub fn ssrc(&self) -> u32 {
-        self.ssrc
-    }
-
-    /// The report blocks, one call of the library for each.
-    pub fn report_blocks(&self) -> ReportBlocks<'a> {
-        ReportBlocks {
-            data: self.data,
-            read: ffi::rtcp_rr_report_block,
-            at: 0,
-            count: self.n_reports,
-        }
-    }
-
-    /// The report block with an index from 0; 25 past the last.
-    pub fn report_block(&self, index: usize) -> Result<ReportBlock, RtcpParseError> {
-        let block = ffi::rtcp_rr_report_block(self.data, index as u64);
-        Ok(ReportBlock::of(block.done()?))
-    }
-
-    /// The bytes after the blocks.
-    pub fn extension(&self) -> &'a [u8] {
-        self.extension
     }
 
     /// A builder for a receiver report.
@@ -442,12 +436,6 @@ pub struct SenderReportBuilder {
 }
 
 impl SenderReportBuilder {
-    /// The number of padding bytes.
-    pub fn padding(mut self, padding: u8) -> Self {
-        self.padding = padding;
-        self
-    }
-
     /// The NTP time of the report.
     pub fn ntp_timestamp(mut self, ntp_timestamp: u64) -> Self {
         self.ntp_timestamp = ntp_timestamp;
@@ -469,12 +457,6 @@ impl SenderReportBuilder {
     /// The octets sent.
     pub fn octet_count(mut self, octet_count: u32) -> Self {
         self.octet_count = octet_count;
-        self
-    }
-
-    /// Adds a report block.
-    pub fn add_report_block(mut self, report_block: ReportBlockBuilder) -> Self {
-        self.blocks.extend(report_block.numbers);
         self
     }
 }
@@ -534,20 +516,6 @@ pub struct ReceiverReportBuilder {
     ssrc: u32,
     padding: u8,
     blocks: Vec<u32>,
-}
-
-impl ReceiverReportBuilder {
-    /// The number of padding bytes.
-    pub fn padding(mut self, padding: u8) -> Self {
-        self.padding = padding;
-        self
-    }
-
-    /// Adds a report block.
-    pub fn add_report_block(mut self, report_block: ReportBlockBuilder) -> Self {
-        self.blocks.extend(report_block.numbers);
-        self
-    }
 }
 
 impl RtcpPacketWriter for ReceiverReportBuilder {
