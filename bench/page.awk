@@ -121,8 +121,8 @@ function print_growth(i, n, packets, cells) {
 END {
     print "# What reading and writing take"
     print ""
-    print "`bench/run` measures and writes this page; `bench/run --check` counts our instructions alone and fails where one operation is not below the best"
-    print "peer's figure that the command has in it. Sides of this run: ours through the C functions of librtcp.a (C by gcc " version["gcc"] " -O2);"
+    print "`bench/run` measures and writes this page; `bench/run --check` counts our instructions alone and fails where one operation takes more"
+    print "than the command allows it. Sides of this run: ours through the C functions of librtcp.a (C by gcc " version["gcc"] " -O2);"
     print known("rtcp-types") ", its sources unchanged (rustc " version["rustc"] ", the defaults of cargo's release profile); " known("gstreamer") "; " known("libre") ";"
     print known("pion") " (Go " version["go"] ")."
     print ""
