@@ -319,7 +319,7 @@ impl<'a> Unknown<'a> {
 #[cfg(test)]
 mod tests {
     use super::*;
-    use crate::ffi::open::rtcp_walk_open;
+    use crate::ffi::rtcp_walk_open;
 
     #[test]
     fn a_walk_starts_where_the_library_opens_it() {

@@ -548,8 +548,8 @@ impl<'a> SdesItemBuilder<'a> {
 #[cfg(test)]
 mod tests {
     use super::*;
-    use crate::ffi::lists::rtcp_sdes_items;
-    use crate::ffi::open::{rtcp_chunk_walk_open, rtcp_item_walk_open};
+    use crate::ffi::rtcp_sdes_items;
+    use crate::ffi::{rtcp_chunk_walk_open, rtcp_item_walk_open};
 
     const PACKETS: [&[u8]; 5] = [
         b"\x80\xCA\x00\x00",

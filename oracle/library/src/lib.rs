@@ -57,75 +57,6 @@ macro_rules! results {
     )* };
 }
 
-results! {
-    RtcpBlock {
-        ssrc: u32, fraction_lost: u32, cumulative_lost: u32, extended_sequence_number: u32,
-        interarrival_jitter: u32, last_sender_report_timestamp: u32,
-        delay_since_last_sender_report_timestamp: u32, reserved: u32
-    }
-    RtcpRr {
-        ssrc: u64, n_reports: u64, extension: u64, extension_len: u64, padding: u64,
-        padding_len: u64
-    }
-    RtcpSr {
-        ssrc: u64, ntp_timestamp: u64, rtp_timestamp: u64, packet_count: u64, octet_count: u64,
-        n_reports: u64, extension: u64, extension_len: u64, padding: u64, padding_len: u64
-    }
-    RtcpApp {
-        subtype: u64, ssrc: u64, name: u64, name_len: u64, data: u64, data_len: u64, padding: u64,
-        padding_len: u64
-    }
-    RtcpBye {
-        n_sources: u64, has_reason: u64, reason: u64, reason_len: u64, tail: u64, tail_len: u64,
-        padding: u64, padding_len: u64
-    }
-    RtcpSource { ssrc: u64 }
-    RtcpSdes { n_chunks: u64, has_cname: u64, body: u64, padding: u64, padding_len: u64 }
-    RtcpItem {
-        type_: u64, length: u64, prefix: u64, prefix_len: u64, value: u64, value_len: u64
-    }
-    RtcpPart { offset: u64, len: u64 }
-    RtcpChunk { ssrc: u64, length: u64, cname: u64 }
-    RtcpChunkWalk { at: u64, end: u64 }
-    RtcpChunkStep { ssrc: u64, length: u64, cname: u64, at: u64, end: u64 }
-    RtcpItemWalk { at: u64 }
-    RtcpItemStep {
-        type_: u64, length: u64, prefix: u64, prefix_len: u64, value: u64, value_len: u64, at: u64
-    }
-    RtcpCompound { n_packets: u64 }
-    RtcpWalk { at: u64 }
-    RtcpStep {
-        kind: u64, packet_type: u64, count: u64, offset: u64, len: u64, body: u64,
-        padding_len: u64, ssrc: u64, ntp_timestamp: u64, rtp_timestamp: u64, packet_count: u64,
-        octet_count: u64, extension: u64, has_cname: u64, has_reason: u64, reason: u64,
-        reason_len: u64, at: u64
-    }
-    RtcpWritten { size: u64 }
-    RtcpCall { length: u64, padded: u64, cname: u64, closed: u64 }
-}
-
-/// The state of a compound writer. A flag that is not 0 is set.
-#[repr(C)]
-#[derive(Clone, Copy, Debug, Default, PartialEq, Eq)]
-pub struct RtcpWriter {
-    pub length: u64,
-    pub padded: u64,
-    pub cname: u64,
-    pub closed: u64,
-}
-
-impl RtcpCall {
-    /// The writer after the call: the struct's last field in C.
-    pub fn writer(&self) -> RtcpWriter {
-        RtcpWriter {
-            length: self.length,
-            padded: self.padded,
-            cname: self.cname,
-            closed: self.closed,
-        }
-    }
-}
-
 /// One function: its parameters are taken one by one, and a slice becomes a
 /// pointer and a length.
 macro_rules! function {
@@ -178,91 +109,22 @@ macro_rules! functions {
     };
 }
 
-functions! {
-    "rtcp_block_parse" rtcp_block_parse(s: &[u8]) -> RtcpBlock;
-    "rtcp_rr_parse" rtcp_rr_parse(s: &[u8]) -> RtcpRr;
-    "rtcp_sr_parse" rtcp_sr_parse(s: &[u8]) -> RtcpSr;
-    "rtcp_rr_report_block" rtcp_rr_report_block(s: &[u8], i: u64) -> RtcpBlock;
-    "rtcp_sr_report_block" rtcp_sr_report_block(s: &[u8], i: u64) -> RtcpBlock;
-    "rtcp_rr_report_blocks" rtcp_rr_report_blocks(s: &[u8], blocks: &mut [u32]) -> RtcpWritten;
-    "rtcp_sr_report_blocks" rtcp_sr_report_blocks(s: &[u8], blocks: &mut [u32]) -> RtcpWritten;
-    "rtcp_app_parse" rtcp_app_parse(s: &[u8]) -> RtcpApp;
-    "rtcp_bye_parse" rtcp_bye_parse(s: &[u8]) -> RtcpBye;
-    "rtcp_bye_source" rtcp_bye_source(s: &[u8], i: u64) -> RtcpSource;
-    "rtcp_sdes_parse" rtcp_sdes_parse(s: &[u8]) -> RtcpSdes;
-    "rtcp_item_parse" rtcp_item_parse(s: &[u8]) -> RtcpItem;
-    "rtcp_item_priv_prefix" rtcp_item_priv_prefix(s: &[u8]) -> RtcpPart;
-    "rtcp_chunk_parse" rtcp_chunk_parse(s: &[u8]) -> RtcpChunk;
-    "rtcp_chunk_walk_open" rtcp_chunk_walk_open(s: &[u8]) -> RtcpChunkWalk;
-    "rtcp_chunk_walk_step" rtcp_chunk_walk_step(s: &[u8], at: u64, end: u64) -> RtcpChunkStep;
-    "rtcp_item_walk_open" rtcp_item_walk_open(s: &[u8]) -> RtcpItemWalk;
-    "rtcp_item_walk_step" rtcp_item_walk_step(s: &[u8], at: u64) -> RtcpItemStep;
-    "rtcp_sdes_items" rtcp_sdes_items(s: &[u8], rows: &mut [u32]) -> RtcpWritten;
-    "rtcp_compound_parse" rtcp_compound_parse(s: &[u8]) -> RtcpCompound;
-    "rtcp_compound_packets" rtcp_compound_packets(s: &[u8], packets: &mut [u64]) -> RtcpWritten;
-    "rtcp_walk_open" rtcp_walk_open(s: &[u8]) -> RtcpWalk;
-    "rtcp_walk_step" rtcp_walk_step(s: &[u8], at: u64) -> RtcpStep;
+include!("../../../rust/src/declared.rs");
 
-    "rtcp_rr_write" rtcp_rr_write(
-        buf: &mut [u8], ssrc: u32, blocks: &[u32], padding: u64
-    ) -> RtcpWritten;
-    "rtcp_sr_write" rtcp_sr_write(
-        buf: &mut [u8], ssrc: u32, ntp_timestamp: u64, rtp_timestamp: u32, packet_count: u32,
-        octet_count: u32, blocks: &[u32], padding: u64
-    ) -> RtcpWritten;
-    "rtcp_bye_write" rtcp_bye_write(
-        buf: &mut [u8], sources: &[u32], reason: &[u8], padding: u64
-    ) -> RtcpWritten;
-    "rtcp_app_write" rtcp_app_write(
-        buf: &mut [u8], subtype: u64, ssrc: u32, name: &[u8], data: &[u8], padding: u64
-    ) -> RtcpWritten;
-    "rtcp_sdes_write" rtcp_sdes_write(
-        buf: &mut [u8], ssrcs: &[u32], counts: &[u64], types: &[u8], prefixes: &[u64],
-        values: &[u64], bytes: &[u8], padding: u64
-    ) -> RtcpWritten;
-    "rtcp_chunk_write" rtcp_chunk_write(
-        buf: &mut [u8], ssrc: u32, types: &[u8], prefixes: &[u64], values: &[u64], bytes: &[u8]
-    ) -> RtcpWritten;
-    "rtcp_item_write" rtcp_item_write(
-        buf: &mut [u8], type_: u8, prefix: &[u8], value: &[u8]
-    ) -> RtcpWritten;
-    "rtcp_rr_size" rtcp_rr_size(blocks: &[u32], padding: u64) -> RtcpWritten;
-    "rtcp_sr_size" rtcp_sr_size(blocks: &[u32], padding: u64) -> RtcpWritten;
-    "rtcp_bye_size" rtcp_bye_size(
-        sources: &[u32], reason: &[u8], padding: u64
-    ) -> RtcpWritten;
-    "rtcp_app_size" rtcp_app_size(
-        subtype: u64, name: &[u8], data: &[u8], padding: u64
-    ) -> RtcpWritten;
-    "rtcp_sdes_size" rtcp_sdes_size(
-        ssrcs: &[u32], counts: &[u64], types: &[u8], prefixes: &[u64], values: &[u64],
-        bytes: &[u8], padding: u64
-    ) -> RtcpWritten;
-    "rtcp_chunk_size" rtcp_chunk_size(
-        types: &[u8], prefixes: &[u64], values: &[u64], bytes: &[u8]
-    ) -> RtcpWritten;
-    "rtcp_item_size" rtcp_item_size(type_: u8, prefix: &[u8], value: &[u8]) -> RtcpWritten;
+results! {
+    RtcpCall { length: u64, padded: u64, cname: u64, closed: u64 }
+}
 
-    "rtcp_writer_new" rtcp_writer_new() -> RtcpWriter;
-    "rtcp_writer_add_rr" rtcp_writer_add_rr(
-        buf: &mut [u8], writer: RtcpWriter, ssrc: u32, blocks: &[u32], padding: u64
-    ) -> RtcpCall;
-    "rtcp_writer_add_sr" rtcp_writer_add_sr(
-        buf: &mut [u8], writer: RtcpWriter, ssrc: u32, ntp_timestamp: u64, rtp_timestamp: u32,
-        packet_count: u32, octet_count: u32, blocks: &[u32], padding: u64
-    ) -> RtcpCall;
-    "rtcp_writer_add_sdes" rtcp_writer_add_sdes(
-        buf: &mut [u8], writer: RtcpWriter, ssrcs: &[u32], counts: &[u64], types: &[u8],
-        prefixes: &[u64], values: &[u64], bytes: &[u8], padding: u64
-    ) -> RtcpCall;
-    "rtcp_writer_add_bye" rtcp_writer_add_bye(
-        buf: &mut [u8], writer: RtcpWriter, sources: &[u32], reason: &[u8], padding: u64
-    ) -> RtcpCall;
-    "rtcp_writer_add_app" rtcp_writer_add_app(
-        buf: &mut [u8], writer: RtcpWriter, subtype: u64, ssrc: u32, name: &[u8], data: &[u8],
-        padding: u64
-    ) -> RtcpCall;
-    "rtcp_writer_close" rtcp_writer_close(writer: RtcpWriter) -> RtcpCall;
+impl RtcpCall {
+    /// The writer after the call: the struct's last field in C.
+    pub fn writer(&self) -> RtcpWriter {
+        RtcpWriter {
+            length: self.length,
+            padded: self.padded,
+            cname: self.cname,
+            closed: self.closed,
+        }
+    }
 }
 
 /// Whether the static library was there.
