@@ -10,11 +10,14 @@ CAPTURES := $(sort $(wildcard samples/captures/*.hex))
 
 .PHONY: all install uninstall sample
 
+# `rt check` proves two crates at a time, `rt staticlib` one after the other.
 all:
+	rt check rtcp
 	rt staticlib rtcp
 
 # Only where there is none: an install need not have the toolchain.
 $(ARCHIVE):
+	rt check rtcp >&2
 	rt staticlib rtcp >&2
 
 install: $(ARCHIVE)
