@@ -62,7 +62,21 @@ static uint64_t parse_sdes31(void) { return sdes_sum(sdes31.bytes, sdes31.len); 
 /* The prefixes of the items: none has one. */
 static const uint64_t no_prefixes[MOST];
 
+static struct RtcpWritten sdes_written(uint8_t *buf, size_t room, const struct Input *in) {
+    return rtcp_sdes_write(buf, room, in->ssrcs, in->n_chunks, in->counts, in->n_chunks, in->types, in->n_items, no_prefixes,
+                           in->n_items, in->lengths, in->n_items, in->text, in->text_len, 0);
+}
+
+/* Packet after packet. */
 static uint64_t write_rrsdes(void) {
+    const struct Input *in = &rrsdes;
+    size_t rr = rtcp_rr_write(out, sizeof out, in->ssrc, in->blocks[0], 7 * in->n_blocks, 0).size;
+    size_t sdes = sdes_written(out + rr, sizeof out - rr, in).size;
+    return rr == 0 || sdes == 0 ? 0 : rr + sdes;
+}
+
+/* By the compound writer, which holds the rules of a compound. */
+static uint64_t write_compound(void) {
     const struct Input *in = &rrsdes;
     struct RtcpCall c = rtcp_writer_add_rr(out, sizeof out, rtcp_writer_new(), in->ssrc, in->blocks[0], 7 * in->n_blocks, 0);
     if (c.number != 0) return 0;
@@ -78,15 +92,11 @@ static uint64_t write_sr31(void) {
     return rtcp_sr_write(out, sizeof out, in->ssrc, in->ntp, in->rtp, in->packets, in->octets, in->blocks[0], 7 * in->n_blocks, 0).size;
 }
 
-static uint64_t write_sdes31(void) {
-    const struct Input *in = &sdes31;
-    return rtcp_sdes_write(out, sizeof out, in->ssrcs, in->n_chunks, in->counts, in->n_chunks, in->types, in->n_items, no_prefixes,
-                           in->n_items, in->lengths, in->n_items, in->text, in->text_len, 0)
-        .size;
-}
+static uint64_t write_sdes31(void) { return sdes_written(out, sizeof out, &sdes31).size; }
 
 const struct Operation operations[] = {
     {"parse-rrsdes", parse_rrsdes, &rrsdes}, {"parse-sr31", parse_sr31, &sr31}, {"parse-sdes31", parse_sdes31, &sdes31},
     {"write-rrsdes", write_rrsdes, &rrsdes}, {"write-sr31", write_sr31, &sr31}, {"write-sdes31", write_sdes31, &sdes31},
+    {"write-compound", write_compound, &rrsdes},
     {NULL, NULL, NULL},
 };

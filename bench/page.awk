@@ -1,14 +1,17 @@
 # Writes docs/PERFORMANCE.md from the lines of bench/run: what, operation, side, value.
 BEGIN {
     FS = "\t"
-    n_ops = split("parse-rrsdes parse-sr31 parse-sdes31 write-rrsdes write-sr31 write-sdes31", ops, " ")
+    n_ops = split("parse-rrsdes parse-sr31 parse-sdes31 write-rrsdes write-sr31 write-sdes31 write-compound", ops, " ")
     title["parse-rrsdes"] = "read RR+SDES"; title["parse-sr31"] = "read SR, 31 blocks"; title["parse-sdes31"] = "read SDES, 31 chunks"
     title["write-rrsdes"] = "write RR+SDES"; title["write-sr31"] = "write SR, 31 blocks"; title["write-sdes31"] = "write SDES, 31 chunks"
+    title["write-compound"] = "write RR+SDES by a compound writer"
     # In 32-bit words. Reading: header, SSRC and block words, and two for each SDES item (type and length; where its value is). Writing: all words.
     fields["parse-rrsdes"] = 18; fields["parse-sr31"] = 193; fields["parse-sdes31"] = 94
     fields["write-rrsdes"] = 25; fields["write-sr31"] = 193; fields["write-sdes31"] = 125
+    fields["write-compound"] = 25
     how["parse-rrsdes"] = "(2 + 6) + (2 + 4 × 2)"; how["parse-sr31"] = "7 + 31 × 6"; how["parse-sdes31"] = "1 + 31 × (1 + 2)"
     how["write-rrsdes"] = "100 bytes / 4"; how["write-sr31"] = "772 bytes / 4"; how["write-sdes31"] = "500 bytes / 4"
+    how["write-compound"] = "100 bytes / 4"
     n_peers = split("rtcp-types gstreamer libre pion", peers, " ")
     n_counted = split("ours rtcp-types rtcp-types-builder rtcp-types-lto gstreamer libre pion", counted, " ")
     n_timed = split("rtcp-types rtcp-types-builder rtcp-types-lto gstreamer libre pion", timed, " ")

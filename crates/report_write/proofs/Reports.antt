@@ -13,15 +13,15 @@ use Rattle.rfc3550.specs.Bytes.{be, put, store}
 use Rattle.rfc3550.specs.Packet.{Block, Reporter, receiver, sender, report, blocksBytes, receiverWidths, senderWidths, reporterWidths, reporterFields, contentBytes, type, layout}
 use Rattle.rfc3550.specs.Write.{giveReport, packetGiven, paddingBytes, paddingOk, lossTests, ownTests, calculateSize}
 use Rattle.rfc3550.proofs.Answer.{need-inv, ok-injective, refused≢ok}
-use Rattle.rfc3550.proofs.Bytes.{length-store}
+use Rattle.rfc3550.proofs.Bytes.{length-be, length-store}
 use Rattle.utils.specs.Writer.{writtenOf, header}
 use Rattle.utils.specs.declared.error.RtcpWriteError.{RtcpWriteError}
 use Rattle.utils.specs.declared.writer.Written.{Written}
 use Rattle.utils.specs.declared.writer.Written.the-variants.{Size, Refused}
-use Rattle.utils.proofs.WriterStores.{stores}
-use Rattle.utils.proofs.WriterPackets.{writes, write-refused, write-short, write-done, padding-most, sized, size-ok, size-refused, parts-laid, header-long, packet-laid}
+use Rattle.utils.proofs.WriterStores.{stores, store-nil}
+use Rattle.utils.proofs.WriterPackets.{writes, write-refused, write-short, write-done, padding-most, sized, size-ok, size-refused, parts-laid, header-long, header-last, packet-laid}
 use Rattle.report_write.specs.declared.sender.SenderInfo.{SenderInfo}
-use Rattle.report_write.specs.Report.{senderOf, blocksLent, fractionsIn, BothFit, flatOk, flatBlocks, sizeBlocks, writeBlocks, countSize, lossesSize, reportSize, flatSize, ReportFits, headLaid}
+use Rattle.report_write.specs.Report.{senderOf, blocksLent, fractionsIn, BothFit, Plain, PlainIf, flatOk, flatBlocks, sizeBlocks, writeBlocks, countSize, lossesSize, reportSize, flatSize, ReportFits, headLaid}
 use Rattle.report_write.proofs.Blocks.{length-blocks}
 use Rattle.report_write.proofs.Flat.{length-lent, odd-list, whole-list, flats}
 
@@ -209,6 +209,40 @@ module _ (r : Reporter) (xs : List ℕ) (k : ℕ) (w : Written) (l : List ℕ) (
     unfolding writeBlocks
     flat-write-done l₁ f e = rw (flat-ok xs fine) (write-done (giveReport r (blocksLent xs) k) w l agreed n l₁ q f e)
 
+-- ---- a plain report
+
+module _ (least : ℕ) (xs : List ℕ) (k space : ℕ) where
+  pub plain-not : PlainIf least xs k 0 space
+  plain-not = record { holds = λ h. absurd (omega arith) }
+
+  pub plain-is : k ≡ 0 → length xs ≤ 217 → length xs % 7 ≡ 0 → least + length xs / 7 * 24 ≤ space → (t : Bool) → (t ≡ true → BothFit xs) → t ≡ true → PlainIf least xs k (least + length xs / 7 * 24) space
+  plain-is e h z s t f q = record { holds = λ o. record { none = e; even = z; few = omega arith; fit = f q; size = refl; room = s } }
+
+module _ (r : Reporter) (least : ℕ) (q : least ≡ 4 + length (put (reporterWidths r) (reporterFields r))) (low : least ≤ 28) (xs : List ℕ) (k n space : ℕ) (f : Plain least xs k n space) where
+  plain-size : ok n ≡ sizeBlocks r (flatBlocks xs) k
+  plain-size = flat-size r least q low xs k (Size n) (flat-count xs least k (f .even) (f .fit) (Size n) (ap (λ (m : ℕ). ok m) (f .size) ∙ count-plain least (length xs / 7) k (f .few) (f .none)))
+
+  plain-fits : ReportFits least (length xs / 7) (blocksLent xs) k n space
+  plain-fits = flat-fits r least q low xs k (Size n) n plain-size refl space (f .room)
+
+  plain-fine : flatOk xs ≡ true
+  plain-fine = flat-accepted r xs k (Size n) n plain-size refl
+
+  plain-head : (length xs / 7 ≤ 31) × (least ≤ n) × (n ≤ 262144) × (n ≤ space)
+  plain-head = let s = f .size in (f .few, omega arith, plain-fits .most, f .room)
+
+module _ (r : Reporter) (least : ℕ) (q : least ≡ 4 + length (put (reporterWidths r) (reporterFields r))) (low : least ≤ 28) (xs : List ℕ) (k n : ℕ) (l : List ℕ) (f : Plain least xs k n (length l)) where
+  plain-room : (m : ℕ) → m ≡ length l → (flatOk xs ≡ true) × (least + length xs / 7 * 24 ≤ m) × (lossTests (blocksLent xs) ≡ ok tt)
+  plain-room m e = let s = f .size in let o = f .room in (plain-fine r least q low xs k n (length l) f, omega arith, f .fit .losses)
+
+  plain-done : (t : ℕ) (l₁ l₂ : List ℕ) → t ≡ type (report r (blocksLent xs) []) → l₁ ≡ headLaid r t 0 (length xs / 7) n l → l₂ ≡ store least (blocksBytes (blocksLent xs)) l₁ → (ok n, l₂) ≡ writeBlocks r (flatBlocks xs) k l
+  plain-done t l₁ l₂ u e₁ e₂ =
+      let z = f .none in
+      let g = plain-fits r least q low xs k n (length l) f in
+      let p : l₂ ≡ store (n - 0) (paddingBytes 0) l₂ = sym (store-nil (n - 0) l₂) in
+      let d = report-laid r least q (length xs / 7) (blocksLent xs) 0 t n l l₁ l₂ l₂ u (rw z at g) e₁ e₂ p in
+      flat-write-done r xs k (Size n) l (plain-size r least q low xs k n (length l) f) n refl l₂ (f .room) (rw z d)
+
 -- ---- RR
 
 module _ (ssrc : ℕ) where
@@ -216,9 +250,9 @@ module _ (ssrc : ℕ) where
   unfolding put be
   receiver-least = refl
 
-  pub receiver-head : (k count size : ℕ) (l l₁ l₂ : List ℕ) → l₁ ≡ store 0 (header k count 201 size) l → l₂ ≡ store 4 (be 4 ssrc) l₁ → l₂ ≡ headLaid (receiver ssrc) 201 k count size l
+  pub receiver-head : (k count size : ℕ) (l l₁ l₂ : List ℕ) → 8 ≤ length l → l₁ ≡ store 4 (be 4 ssrc) l → l₂ ≡ store 0 (header k count 201 size) l₁ → l₂ ≡ headLaid (receiver ssrc) 201 k count size l
   unfolding put
-  receiver-head k count size l l₁ l₂ e f = f ∙ rw (e, append-nil)
+  receiver-head k count size l l₁ l₂ h e f = header-last k count 201 size (be 4 ssrc) l l₁ l₂ (omega (arith, length-be 4 ssrc)) e f ∙ rw append-nil
 
   module _ (xs : List ℕ) (k : ℕ) where
     pub receiver-size : (w : Written) → writtenOf w ≡ flatSize 8 (flatBlocks xs) k → writtenOf w ≡ sizeBlocks (receiver ssrc) (flatBlocks xs) k
@@ -230,6 +264,16 @@ module _ (ssrc : ℕ) where
 
       pub receiver-fits : (space : ℕ) → n ≤ space → ReportFits 8 (length xs / 7) (blocksLent xs) k n space
       receiver-fits = flat-fits (receiver ssrc) 8 receiver-least (omega arith) xs k w n e p
+
+    module _ (n : ℕ) (l : List ℕ) (f : PlainIf 8 xs k n (length l)) (h : 0 < n) where
+      pub receiver-plain-head : (length xs / 7 ≤ 31) × (8 ≤ n) × (n ≤ 262144) × (n ≤ length l)
+      receiver-plain-head = plain-head (receiver ssrc) 8 receiver-least (omega arith) xs k n (length l) (f .holds h)
+
+      pub receiver-plain-room : (m : ℕ) → m ≡ length l → (flatOk xs ≡ true) × (8 + length xs / 7 * 24 ≤ m) × (lossTests (blocksLent xs) ≡ ok tt)
+      receiver-plain-room = plain-room (receiver ssrc) 8 receiver-least (omega arith) xs k n l (f .holds h)
+
+      pub receiver-plain-done : (l₁ l₂ : List ℕ) → l₁ ≡ headLaid (receiver ssrc) 201 0 (length xs / 7) n l → l₂ ≡ store 8 (blocksBytes (blocksLent xs)) l₁ → (ok n, l₂) ≡ writeBlocks (receiver ssrc) (flatBlocks xs) k l
+      receiver-plain-done l₁ l₂ = plain-done (receiver ssrc) 8 receiver-least (omega arith) xs k n l (f .holds h) 201 l₁ l₂ refl
 
     pub receiver-laid : (size : ℕ) (l l₂ l₃ l₄ : List ℕ) → ReportFits 8 (length xs / 7) (blocksLent xs) k size (length l)
         → l₂ ≡ headLaid (receiver ssrc) 201 k (length xs / 7) size l → l₃ ≡ store 8 (blocksBytes (blocksLent xs)) l₂ → l₄ ≡ store (size - k) (paddingBytes k) l₃
@@ -249,8 +293,8 @@ module _ (i : SenderInfo) where
   info-laid l l₁ l₂ l₃ l₄ l₅ h e₁ e₂ e₃ e₄ e₅ =
       e₅ ∙ rw (e₄, e₃, e₂, e₁) (stores 4 (be 4 (i .ssrc)) (be 8 (i .«ntp_timestamp») ∷ be 4 (i .«rtp_timestamp») ∷ be 4 (i .«packet_count») ∷ be 4 (i .«octet_count») ∷ []) l h)
 
-  pub sender-head : (k count size : ℕ) (l l₁ l₂ : List ℕ) → l₁ ≡ store 0 (header k count 200 size) l → l₂ ≡ store 4 (put senderWidths (reporterFields (senderOf i))) l₁ → l₂ ≡ headLaid (senderOf i) 200 k count size l
-  sender-head k count size l l₁ l₂ e f = f ∙ rw e
+  pub sender-head : (k count size : ℕ) (l l₁ l₂ : List ℕ) → 28 ≤ length l → l₁ ≡ store 4 (put senderWidths (reporterFields (senderOf i))) l → l₂ ≡ store 0 (header k count 200 size) l₁ → l₂ ≡ headLaid (senderOf i) 200 k count size l
+  sender-head k count size l l₁ l₂ h e f = header-last k count 200 size (put senderWidths (reporterFields (senderOf i))) l l₁ l₂ (omega (arith, sender-least)) e f
 
   module _ (xs : List ℕ) (k : ℕ) where
     pub sender-size : (w : Written) → writtenOf w ≡ flatSize 28 (flatBlocks xs) k → writtenOf w ≡ sizeBlocks (senderOf i) (flatBlocks xs) k
@@ -263,6 +307,16 @@ module _ (i : SenderInfo) where
       pub sender-fits : (space : ℕ) → n ≤ space → ReportFits 28 (length xs / 7) (blocksLent xs) k n space
       sender-fits = flat-fits (senderOf i) 28 sender-least (omega arith) xs k w n e p
 
+    module _ (n : ℕ) (l : List ℕ) (f : PlainIf 28 xs k n (length l)) (h : 0 < n) where
+      pub sender-plain-head : (length xs / 7 ≤ 31) × (28 ≤ n) × (n ≤ 262144) × (n ≤ length l)
+      sender-plain-head = plain-head (senderOf i) 28 sender-least (omega arith) xs k n (length l) (f .holds h)
+
+      pub sender-plain-room : (m : ℕ) → m ≡ length l → (flatOk xs ≡ true) × (28 + length xs / 7 * 24 ≤ m) × (lossTests (blocksLent xs) ≡ ok tt)
+      sender-plain-room = plain-room (senderOf i) 28 sender-least (omega arith) xs k n l (f .holds h)
+
+      pub sender-plain-done : (l₁ l₂ : List ℕ) → l₁ ≡ headLaid (senderOf i) 200 0 (length xs / 7) n l → l₂ ≡ store 28 (blocksBytes (blocksLent xs)) l₁ → (ok n, l₂) ≡ writeBlocks (senderOf i) (flatBlocks xs) k l
+      sender-plain-done l₁ l₂ = plain-done (senderOf i) 28 sender-least (omega arith) xs k n l (f .holds h) 200 l₁ l₂ refl
+
     pub sender-laid : (size : ℕ) (l l₂ l₃ l₄ : List ℕ) → ReportFits 28 (length xs / 7) (blocksLent xs) k size (length l)
         → l₂ ≡ headLaid (senderOf i) 200 k (length xs / 7) size l → l₃ ≡ store 28 (blocksBytes (blocksLent xs)) l₂ → l₄ ≡ store (size - k) (paddingBytes k) l₃
         → l₄ ≡ store 0 (layout (packetGiven (giveReport (senderOf i) (blocksLent xs) k))) l
@@ -274,7 +328,7 @@ head-long r t k count size l l₁ h e =
     let n = header-long k count t size l (store 0 (header k count t size) l) (omega arith) refl in
     ap length e ∙ length-store 4 (put (reporterWidths r) (reporterFields r)) (store 0 (header k count t size) l) (omega arith) ∙ n
 
-pub ruleset reports = (writes, flats, not-true, not-false, too-many, count-plain, bad-padding, count-fine, odd-lent, fraction-over, flat-count-refused, flat-count-sized, flat-count, receiver-head, receiver-size, receiver-agree, receiver-fits, receiver-laid, info-laid, sender-head, sender-size, sender-agree, sender-fits, sender-laid, flat-write-refused, flat-write-short, flat-write-done)
+pub ruleset reports = (writes, flats, not-true, not-false, plain-not, plain-is, too-many, count-plain, bad-padding, count-fine, odd-lent, fraction-over, flat-count-refused, flat-count-sized, flat-count, receiver-head, receiver-size, receiver-agree, receiver-fits, receiver-laid, receiver-plain-head, receiver-plain-room, receiver-plain-done, info-laid, sender-head, sender-size, sender-agree, sender-fits, sender-laid, sender-plain-head, sender-plain-room, sender-plain-done, flat-write-refused, flat-write-short, flat-write-done)
 
 -- ---- the views lose nothing
 

@@ -1,5 +1,5 @@
 -- Report blocks lent as one flat list, the size of a report with them, and what its checks leave known.
-use Prim.Native.Nat.{ℕ, zero, suc, _+_, _*_, _/_, _%_, _≤_}
+use Prim.Native.Nat.{ℕ, zero, suc, _+_, _*_, _/_, _%_, _≤_, _<_}
 use mathlib.Core.Path.{_≡_}
 use mathlib.Core.Bool.{Bool, true, _&&_}
 use mathlib.Core.List.{List, [], _∷_}
@@ -82,6 +82,19 @@ flatSize least bs k = do
 pub record BothFit (xs : List ℕ) : Type 0 where
   pub fractions : fractionsIn (blocksLent xs) ≡ true
   pub losses : lossTests (blocksLent xs) ≡ ok tt
+
+-- a report of whole blocks that fit, without padding
+pub record Plain (least : ℕ) (xs : List ℕ) (k n space : ℕ) : Type 0 where
+  pub none : k ≡ 0
+  pub even : length xs % 7 ≡ 0
+  pub few : length xs / 7 ≤ 31
+  pub fit : BothFit xs
+  pub size : n ≡ least + length xs / 7 * 24
+  pub room : n ≤ space
+
+-- a size that is not 0 is that of such a report
+pub record PlainIf (least : ℕ) (xs : List ℕ) (k n space : ℕ) : Type 0 where
+  pub holds : 0 < n → Plain least xs k n space
 
 -- the seven numbers of a block stand at `at`, and its fraction and its loss fit
 pub record BlockThere (xs : List ℕ) (at : ℕ) : Type 0 where

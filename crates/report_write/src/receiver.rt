@@ -23,13 +23,13 @@ pub fn calculate_size(ssrc: u32, blocks: &[u32], padding: u64) -> Written
     report_block::check_reports(blocks, padding, MIN_PACKET_LEN)
 }
 
-// What stands before so many blocks.
+// What stands before so many blocks. The header is laid last: so the bytes of the SSRC are compiled to one store.
 pub fn write_head_unchecked(buf: &mut [u8], ssrc: u32, count: usize, padding: u64, size: usize)
     requires { ⌜ (count ≤ 31) × (8 ≤ size) × (size ≤ 262144) × (size ≤ length (now buf)) ⌝ }
     ensures { λ _. ⌜ now (buf .exit) ≡ headLaid (receiver ssrc) 201 padding count size (now (buf .entry)) ⌝ }
 {
-    writer::write_header_unchecked(buf, padding, count as u8, ReceiverReport::PACKET_TYPE, size);
     writer::write_u32_unchecked(buf, 4, ssrc);
+    writer::write_header_unchecked(buf, padding, count as u8, ReceiverReport::PACKET_TYPE, size);
 }
 
 pub fn write_into_unchecked(buf: &mut [u8], ssrc: u32, blocks: &[u32], padding: u64, size: usize)
@@ -46,6 +46,12 @@ pub fn write_into_unchecked(buf: &mut [u8], ssrc: u32, blocks: &[u32], padding: 
 pub fn write_into(buf: &mut [u8], ssrc: u32, blocks: &[u32], padding: u64) -> Written
     ensures { λ r. ⌜ (writtenOf r, now (buf .exit)) ≡ writeBlocks (receiver ssrc) (flatBlocks (now (blocks .entry))) padding (now (buf .entry)) ⌝ }
 {
+    let plain = crate::plain_size(blocks, padding, MIN_PACKET_LEN, buf.len());
+    if 0 < plain {
+        write_head_unchecked(buf, ssrc, blocks.len() / 7, 0, plain);
+        report_block::write_blocks_unchecked(buf, 8, blocks);
+        return Written::Size(plain);
+    }
     let checked = calculate_size(ssrc, blocks, padding);
     let Written::Size(size) = checked else {
         return checked;

@@ -11,7 +11,7 @@ ghost use Rattle.rfc3550.specs.Bytes.{be, put, store};
 ghost use Rattle.rfc3550.specs.Packet.{blockWidths, blockFields, blocksBytes};
 ghost use Rattle.rfc3550.specs.Write.{lossTests};
 ghost use Rattle.utils.specs.Writer.{writtenOf};
-ghost use Rattle.report_write.specs.Report.{flatBlock, blocksLent, fractionsIn, BothFit, flatOk, flatBlocks, countSize, lossesSize, flatSize, BlockThere};
+ghost use Rattle.report_write.specs.Report.{flatBlock, blocksLent, fractionsIn, flatOk, flatBlocks, countSize, lossesSize, flatSize, BlockThere};
 
 // The fraction of every block fits a byte.
 fn check_fractions(blocks: &[u32]) -> bool
@@ -26,25 +26,6 @@ fn check_fractions(blocks: &[u32]) -> bool
         i += 1;
     }
     true
-}
-
-// The fraction and the loss of every block fit, if no bit of any stands too high. That is so of nearly every list, and told of both at once.
-fn check_both(blocks: &[u32]) -> bool
-    ensures { λ r. ⌜ (r ≡ true → BothFit (now (blocks .entry))) ⌝ }
-{
-    let n = blocks.len() / 7;
-    let mut i: usize = 0;
-    let mut fractions: u32 = 0;
-    let mut losses: u32 = 0;
-    while i < n {
-        fractions = fractions | blocks[i * 7 + 1];
-        losses = losses | blocks[i * 7 + 2];
-        i += 1;
-    }
-    if 255 < fractions {
-        return false;
-    }
-    losses <= 16777215
 }
 
 // The size of a report of so many blocks with so many bytes before them, or why it is refused.
@@ -89,7 +70,7 @@ pub fn check_reports(blocks: &[u32], padding: u64, least: u8) -> Written
     if blocks.len() % 7 != 0 {
         return Written::Refused(RtcpWriteError::ListsDisagree);
     }
-    if check_both(blocks) {
+    if crate::check_both(blocks) {
         return check_count(blocks.len() / 7, padding, least);
     }
     if !check_fractions(blocks) {

@@ -43,7 +43,7 @@ fn write_info(buf: &mut [u8], info: SenderInfo)
     writer::write_u32_unchecked(buf, 24, info.octet_count);
 }
 
-// What stands before so many blocks.
+// What stands before so many blocks. The header is laid last: so the bytes of the SSRC are compiled to one store.
 pub fn write_head_unchecked(
     buf: &mut [u8],
     info: SenderInfo,
@@ -54,8 +54,8 @@ pub fn write_head_unchecked(
     requires { ⌜ (count ≤ 31) × (28 ≤ size) × (size ≤ 262144) × (size ≤ length (now buf)) ⌝ }
     ensures { λ _. ⌜ now (buf .exit) ≡ headLaid (senderOf info) 200 padding count size (now (buf .entry)) ⌝ }
 {
-    writer::write_header_unchecked(buf, padding, count as u8, SenderReport::PACKET_TYPE, size);
     write_info(buf, info);
+    writer::write_header_unchecked(buf, padding, count as u8, SenderReport::PACKET_TYPE, size);
 }
 
 pub fn write_into_unchecked(
@@ -78,6 +78,12 @@ pub fn write_into_unchecked(
 pub fn write_into(buf: &mut [u8], info: SenderInfo, blocks: &[u32], padding: u64) -> Written
     ensures { λ r. ⌜ (writtenOf r, now (buf .exit)) ≡ writeBlocks (senderOf info) (flatBlocks (now (blocks .entry))) padding (now (buf .entry)) ⌝ }
 {
+    let plain = crate::plain_size(blocks, padding, MIN_PACKET_LEN, buf.len());
+    if 0 < plain {
+        write_head_unchecked(buf, info, blocks.len() / 7, 0, plain);
+        report_block::write_blocks_unchecked(buf, 28, blocks);
+        return Written::Size(plain);
+    }
     let checked = calculate_size(info, blocks, padding);
     let Written::Size(size) = checked else {
         return checked;

@@ -34,7 +34,7 @@ use Rattle.chunk_write.proofs.Chunks.{left-is, left-not, Agreed, agreed, sum-ne
 
 -- ---- parts of the lists
 
-sum-split : (c : ℕ) (xs : List ℕ) → sum xs ≡ sum (take c xs) + sum (drop c xs)
+pub sum-split : (c : ℕ) (xs : List ℕ) → sum xs ≡ sum (take c xs) + sum (drop c xs)
 unfolding sum
 sum-split zero xs = omega arith
 sum-split (suc c) [] = refl
@@ -290,12 +290,12 @@ pub record Chunking (ss cs ts ps vs bs l : List ℕ) (k i at from : ℕ) (l₁ :
   pub items : i + sum (drop k cs) ≡ length ts
   pub used : from + (sum (drop i ps) + sum (drop i vs)) ≡ sum ps + sum vs
   pub tests : itemsTests (left ts ps vs bs i from) ≡ ok tt
-  pub room : at + length (chunksLeft ss cs ts ps vs bs k i from) ≤ length l
+  pub size : at + length (chunksLeft ss cs ts ps vs bs k i from) ≡ 4 + length (laidChunks ss cs ts ps vs bs)
   pub rest : store at (chunksLeft ss cs ts ps vs bs k i from) l₁ ≡ store 4 (laidChunks ss cs ts ps vs bs) l
 
 module _ (ss cs ts ps vs bs l : List ℕ) (f : ChunksFit ss cs ts ps vs bs (length l)) where
   pub chunking-start : Chunking ss cs ts ps vs bs l 0 0 4 0 l
-  chunking-start = record { within = omega arith; long = refl; items = omega (arith, f .items); used = omega arith; tests = f .tests; room = f .room; rest = refl }
+  chunking-start = record { within = omega arith; long = refl; items = omega (arith, f .items); used = omega arith; tests = f .tests; size = refl; rest = refl }
 
   module _ (k i at from : ℕ) (l₁ : List ℕ) (w : Chunking ss cs ts ps vs bs l k i at from l₁) where
     module _ (h : k < length ss) (c : ℕ) (e : c ≡ getD cs k 0) where
@@ -322,8 +322,8 @@ module _ (ss cs ts ps vs bs l : List ℕ) (f : ChunksFit ss cs ts ps vs bs (leng
 
       room-split : at + (length (chunkBytes (chunkGiven (record { ssrc = getD ss k 0; items = take c (left ts ps vs bs i from) }))) + length (chunksBytes (chunksGiven (lentChunks (drop (k + 1) ss) (drop (k + 1) cs) (drop c (left ts ps vs bs i from)))))) ≤ length l
       room-split =
-          let z : at + length (chunkBytes (chunkGiven (record { ssrc = getD ss k 0; items = take c (left ts ps vs bs i from) })) ++ chunksBytes (chunksGiven (lentChunks (drop (k + 1) ss) (drop (k + 1) cs) (drop c (left ts ps vs bs i from))))) ≤ length l = rw split at (w .room) in
-          omega (arith, length-append (chunkBytes (chunkGiven (record { ssrc = getD ss k 0; items = take c (left ts ps vs bs i from) }))) (chunksBytes (chunksGiven (lentChunks (drop (k + 1) ss) (drop (k + 1) cs) (drop c (left ts ps vs bs i from))))))
+          let z : at + length (chunkBytes (chunkGiven (record { ssrc = getD ss k 0; items = take c (left ts ps vs bs i from) })) ++ chunksBytes (chunksGiven (lentChunks (drop (k + 1) ss) (drop (k + 1) cs) (drop c (left ts ps vs bs i from))))) ≡ 4 + length (laidChunks ss cs ts ps vs bs) = rw split at (w .size) in
+          omega (arith, f .room, length-append (chunkBytes (chunkGiven (record { ssrc = getD ss k 0; items = take c (left ts ps vs bs i from) }))) (chunksBytes (chunksGiven (lentChunks (drop (k + 1) ss) (drop (k + 1) cs) (drop c (left ts ps vs bs i from))))))
 
       pub chunking-add : length ts < 2 ^ 64 → i + c < 2 ^ 64
       chunking-add q = let n = counts-next in let j = w .items in omega arith
@@ -374,7 +374,8 @@ module _ (ss cs ts ps vs bs l : List ℕ) (f : ChunksFit ss cs ts ps vs bs (leng
           let z = y .size in
           let e' = y .ends in
           let la = length-append (laidChunk (getD ss k 0) (take (i + c - i) (drop i ts)) (take (i + c - i) (drop i ps)) (take (i + c - i) (drop i vs)) (drop from bs)) (chunksLeft ss cs ts ps vs bs (k + 1) (i + c) (from + r .used)) in
-          let rm : at + length (laidChunk (getD ss k 0) (take (i + c - i) (drop i ts)) (take (i + c - i) (drop i ps)) (take (i + c - i) (drop i vs)) (drop from bs) ++ chunksLeft ss cs ts ps vs bs (k + 1) (i + c) (from + r .used)) ≤ length l = rw sp at (w .room) in
+          let rm : at + length (laidChunk (getD ss k 0) (take (i + c - i) (drop i ts)) (take (i + c - i) (drop i ps)) (take (i + c - i) (drop i vs)) (drop from bs) ++ chunksLeft ss cs ts ps vs bs (k + 1) (i + c) (from + r .used)) ≡ 4 + length (laidChunks ss cs ts ps vs bs) = rw sp at (w .size) in
+          let fr = f .room in
           let s : store (at + r .size) (chunksLeft ss cs ts ps vs bs (k + 1) (i + c) (from + r .used)) l₂
           ≡ store at (laidChunk (getD ss k 0) (take (i + c - i) (drop i ts)) (take (i + c - i) (drop i ps)) (take (i + c - i) (drop i vs)) (drop from bs) ++ chunksLeft ss cs ts ps vs bs (k + 1) (i + c) (from + r .used)) l₁ =
           rw (y .bytes) (store-store at (at + r .size) (laidChunk (getD ss k 0) (take (i + c - i) (drop i ts)) (take (i + c - i) (drop i ps)) (take (i + c - i) (drop i vs)) (drop from bs)) (chunksLeft ss cs ts ps vs bs (k + 1) (i + c) (from + r .used)) l₁ (omega arith) (omega arith)) in
@@ -384,7 +385,7 @@ module _ (ss cs ts ps vs bs l : List ℕ) (f : ChunksFit ss cs ts ps vs bs (leng
             items = omega arith;
             used = omega arith;
             tests = rw t at (passed .1);
-            room = omega arith;
+            size = omega arith;
             rest = s ∙ (rw sp at (w .rest));
           }
 
@@ -393,6 +394,13 @@ module _ (ss cs ts ps vs bs l : List ℕ) (f : ChunksFit ss cs ts ps vs bs (leng
     chunking-done h =
         let z : drop k ss ≡ [] = drop-of-length-le ss {i = k} h in
         sym (store-nil at l₁) ∙ (rw z at (w .rest))
+
+    pub chunking-size : length ss ≤ k → at ≡ 4 + length (laidChunks ss cs ts ps vs bs)
+    unfolding lentChunks chunksGiven chunksBytes
+    chunking-size h =
+        let z : drop k ss ≡ [] = drop-of-length-le ss {i = k} h in
+        let s : at + 0 ≡ 4 + length (laidChunks ss cs ts ps vs bs) = rw z at (w .size) in
+        omega arith
 
 -- ---- the packet
 

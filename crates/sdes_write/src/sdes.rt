@@ -1,4 +1,6 @@
 // SDES packets, written (sdes.rs, `SdesBuilder`). One SSRC and one item count for each chunk, and the lists of all items.
+mod plain;
+
 use chunk_write::chunk;
 use chunk_write::chunk::Laid;
 use chunk_write::chunk::Rest;
@@ -225,6 +227,26 @@ pub fn write_into(
 ) -> Written
     ensures { λ r. ⌜ (writtenOf r, now (buf .exit)) ≡ write (giveSdes (lists (now (ssrcs .entry)) (now (counts .entry)) (now (types .entry)) (now (prefixes .entry)) (now (values .entry)) (now (bytes .entry))) padding) (now (buf .entry)) ⌝ }
 {
+    if plain::is_plain(
+        ssrcs,
+        counts,
+        types,
+        prefixes,
+        values,
+        bytes,
+        padding,
+        buf.len(),
+    ) {
+        return Written::Size(plain::write_into_unchecked(
+            buf,
+            ssrcs,
+            counts,
+            types,
+            prefixes,
+            values,
+            bytes,
+        ));
+    }
     let checked = calculate_size(ssrcs, counts, types, prefixes, values, bytes, padding);
     let Written::Size(size) = checked else {
         return checked;

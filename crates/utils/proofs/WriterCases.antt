@@ -4,7 +4,7 @@ use Prim.Native.Nat.{ℕ, zero, suc, _+_, _-_, _/_, _%_, _^_, _<_, _≤_}
 use mathlib.Core.Path.{_≡_, refl, sym, ap, _∙_}
 use mathlib.Core.Bool.{Bool, true, false}
 use mathlib.Core.List.{List, [], _∷_, _++_}
-use native.Mathlib.Nat.{div-one, le-antisymm}
+use native.Mathlib.Nat.{div-one, le-antisymm, zero-add}
 use native.Mathlib.Numerals.{add-one}
 use native.Mathlib.Omega.{arith}
 use borrow.Author.Tests.{eq-eqb, ne-eqb}
@@ -77,6 +77,12 @@ pub record Laid (at : ℕ) (bs l l₁ : List ℕ) : Type 0 where
   pub is : l₁ ≡ store at bs l
   pub long : length l₁ ≡ length l
 
+-- a loop that goes on from k₀ bytes that are stored
+pub record Copying (at : ℕ) (src l₀ : List ℕ) (k₀ : ℕ) (l₁ : List ℕ) (k : ℕ) : Type 0 where
+  pub within : k ≤ length src
+  pub long : length l₁ ≡ length l₀
+  pub so-far : (l : List ℕ) → at + length src ≤ length l → Laid at (take k₀ src) l l₀ → Laid at (take k src) l l₁
+
 module _ (at : ℕ) (l : List ℕ) where
   pub laid-none : Laid at [] l l
   laid-none = record { is = sym (store-nil at l); long = refl }
@@ -118,6 +124,20 @@ module _ (at : ℕ) (l : List ℕ) where
   pub group-twice : (w : ℕ) (src l₁ l₂ : List ℕ) → l₂ ≡ store (at + (length src - w)) (take w (drop (length src - w) src)) l₁ → l₁ ≡ store (at + 0) (take w (drop 0 src)) l → w ≤ length src → length src ≤ w + w → at + length src ≤ length l → l₂ ≡ store at src l
   group-twice w src l₁ l₂ e d h f s = group-last w (0 + w) src l₁ l₂ h (omega arith) (omega arith) s e (copied w 0 0 src l l₁ (omega arith) (omega arith) (omega arith) s d laid-none)
 
+  -- the first w bytes, and the w bytes after them
+  pub group-one : (w : ℕ) (src l₁ : List ℕ) → l₁ ≡ store (at + 0) (take w (drop 0 src)) l → w ≤ length src → at + length src ≤ length l → l₁ ≡ store at (take w src) l
+  group-one w src l₁ e h s = rw (zero-add w) at (copied w 0 0 src l l₁ (omega arith) (omega arith) (omega arith) s e laid-none .is)
+
+  pub laid-first : (k : ℕ) (src l₁ : List ℕ) → k ≤ length src → l₁ ≡ store at (take k src) l → at + length src ≤ length l → Laid at (take k src) l l₁
+  laid-first k src l₁ h e s = record { is = e; long = ap length e ∙ length-store at (take k src) l (omega (arith, length-take-le k src h)) }
+
+  pub group-two : (w : ℕ) (src l₁ l₂ : List ℕ) → l₂ ≡ store (at + w) (take w (drop w src)) l₁ → l₁ ≡ store (at + 0) (take w (drop 0 src)) l → w + w ≤ length src → at + length src ≤ length l → l₂ ≡ store at (take (w + w) src) l
+  group-two w src l₁ l₂ e d h s = copied w w w src l₁ l₂ (omega arith) (omega arith) h s e (laid-first w src l₁ (omega arith) (group-one w src l₁ d (omega arith) s) s) .is
+
+  pub copied-all : (w k₀ k : ℕ) (src l₀ l₁ l₂ : List ℕ) → w ≤ length src → k₀ ≤ length src → at + length src ≤ length l → l₀ ≡ store at (take k₀ src) l → Copying at src l₀ k₀ l₁ k → length src - k ≤ w
+      → l₂ ≡ store (at + (length src - w)) (take w (drop (length src - w) src)) l₁ → l₂ ≡ store at src l
+  copied-all w k₀ k src l₀ l₁ l₂ h f s e c g d = group-last w k src l₁ l₂ h (c .within) g s d (c .so-far l s (laid-first k₀ src l₀ f e s))
+
   pub byte-alone : (src : List ℕ) → 0 < length src → length src < 2 → at + length src ≤ length l → set l at (getD src 0 0) ≡ store at src l
   byte-alone (b ∷ []) e f h = store-puts at b [] l h
   byte-alone [] e f h = absurd (omega arith)
@@ -132,5 +152,18 @@ module _ (at : ℕ) (l : List ℕ) where
 
   pub zeros-done : (k n : ℕ) (l₁ : List ℕ) → k ≤ n → n ≤ k → Laid at (replicate k 0) l l₁ → l₁ ≡ store at (replicate n 0) l
   zeros-done k n l₁ h f w = let e : k ≡ n = omega arith in rw e at (w .is)
+
+pub copying-start : (at : ℕ) (src l : List ℕ) (k : ℕ) → k ≤ length src → Copying at src l k l k
+copying-start at src l k h = record { within = h; long = refl; so-far = λ l₀ s w. w }
+
+pub copying-again : (w at : ℕ) (src l₀ : List ℕ) (k₀ : ℕ) (l₁ : List ℕ) (k : ℕ) (l₂ : List ℕ) → Copying at src l₀ k₀ l₁ k → w < length src - k → at + length src ≤ length l₀ → l₂ ≡ store (at + k) (take w (drop k src)) l₁ → Copying at src l₀ k₀ l₂ (k + w)
+copying-again w at src l₀ k₀ l₁ k l₂ c h s e =
+    let n : length (take w (drop k src)) ≡ w = length-take-le w (drop k src) (rw length-drop (omega arith)) in
+    let g = c .long in
+    record {
+      within = omega arith;
+      long = ap length e ∙ length-store (at + k) (take w (drop k src)) l₁ (omega arith) ∙ c .long;
+      so-far = λ l t v. group-more at l w k src l₁ l₂ h t e (c .so-far l t v);
+    }
 
 pub ruleset writer = (needs, padding-odd, padding-even, first-plain, first-padded, padding-none, padding-laid, header-laid, u16-laid, u32-laid, u64-laid, laid-none, zeros-more, zeros-done, group-more, group-last, byte-alone, bytes-none)

@@ -28,6 +28,15 @@ store-store at k a b l e h =
     rw (← append-assoc, ← f, drop-append-add, drop-drop, g) in
     rw (t, d) (simp (append-assoc, length-append, ← add-assoc, e))
 
+-- a second store that ends where the first started
+pub store-before : (k : ℕ) (a b l : List ℕ) → length a ≡ k → k + length b ≤ length l → store 0 a (store k b l) ≡ store 0 (a ++ b) l
+unfolding store
+store-before k a b l e h =
+    let t : length (take k l) ≡ k = length-take-le k l (omega arith) in
+    let d : drop (0 + length a) (take k l ++ (b ++ drop (k + length b) l)) ≡ b ++ drop (k + length b) l = rw (zero-add, e) (drop-at (take k l) (b ++ drop (k + length b) l) k t) in
+    let n : 0 + length (a ++ b) ≡ k + length b = omega (arith, length-append a b) in
+    rw (d, n) (sym (append-assoc a b (drop (k + length b) l)))
+
 -- a second store at the same place, at least as long as the first
 pub store-over : (at : ℕ) (a b l : List ℕ) → length a ≤ length b → at + length b ≤ length l → store at b (store at a l) ≡ store at b l
 unfolding store

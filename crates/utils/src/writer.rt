@@ -125,13 +125,26 @@ fn write_few(buf: &mut [u8], at: usize, src: &[u8])
     }
 }
 
+// The first eight bytes of eight or more, or the first sixteen of more than sixteen, and how many: most texts are short, and need no loop.
+fn write_first(buf: &mut [u8], at: usize, src: &[u8]) -> usize
+    requires { ⌜ (8 ≤ length (now src)) × (at + length (now src) ≤ length (now buf)) ⌝ }
+    ensures { λ r. ⌜ (r ≤ length (now (src .entry))) × (now (buf .exit) ≡ store at (take r (now (src .entry))) (now (buf .entry))) ⌝ }
+{
+    copy_eight(buf, at, src, 0);
+    if src.len() <= 16 {
+        return 8;
+    }
+    copy_eight(buf, at, src, 8);
+    16
+}
+
 // Eight bytes or more: by eights, and the last eight, which may share some with those before.
 fn write_many(buf: &mut [u8], at: usize, src: &[u8])
     requires { ⌜ (8 ≤ length (now src)) × (at + length (now src) ≤ length (now buf)) ⌝ }
     ensures { λ _. ⌜ now (buf .exit) ≡ store at (now (src .entry)) (now (buf .entry)) ⌝ }
 {
     let n = src.len();
-    let mut k: usize = 0;
+    let mut k = write_first(buf, at, src);
     while 8 < n - k {
         copy_eight(buf, at, src, k);
         k += 8;

@@ -1,6 +1,6 @@
 //! The operations, and the loop that is measured.
 
-use crate::whole::{Compound, Packet};
+use crate::whole::{Compound, CompoundBuilder, Packet};
 use rtcp_types::prelude::*;
 use rtcp_types::*;
 use std::hint::black_box;
@@ -35,7 +35,9 @@ pub fn main() -> u8 {
     let Some((verb, name)) = operation.split_once('-') else {
         return 3;
     };
-    let Some(input) = load(inputs, name) else {
+    // A compound is the same datagram, written by the compound builder.
+    let input = if name == "compound" { "rrsdes" } else { name };
+    let Some(input) = load(inputs, input) else {
         return 2;
     };
     let fields = fields(&input);
@@ -55,6 +57,13 @@ pub fn main() -> u8 {
         ("write", "sdes31") => {
             let builder = sdes(&fields);
             finish(count, || write(&builder, &mut out))
+        }
+        ("write", "compound") => {
+            let builder = compound(&fields);
+            finish(count, || write(&builder, &mut out))
+        }
+        ("build", "compound") => {
+            finish(count, || write(&compound(black_box(&fields)), &mut out))
         }
         ("build", "rrsdes") => finish(count, || {
             write_both(&rr(black_box(&fields)), &sdes(black_box(&fields)), &mut out)
@@ -226,6 +235,12 @@ fn sdes(fields: &Fields) -> SdesBuilder<'_> {
             chunk.add_item(SdesItem::builder(*type_, value))
         }))
     })
+}
+
+fn compound(fields: &Fields) -> CompoundBuilder<'_> {
+    Compound::builder()
+        .add_packet(rr(fields))
+        .add_packet(sdes(fields))
 }
 
 fn write(builder: &impl RtcpPacketWriter, out: &mut [u8]) -> u64 {

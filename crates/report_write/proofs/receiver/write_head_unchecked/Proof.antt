@@ -1,4 +1,5 @@
-use Rattle.report_write.proofs.Reports.{reports}
+use Rattle.report_write.proofs.Reports.{reports, receiver-head}
+use native.Mathlib.Omega.{arith}
 use borrow.Author.Needs.{needs}
 use Rattle.report_write.proofs.receiver.write_head_unchecked.Statement.{statement}
 use Rattle.report_write.proofs.receiver.write_head_unchecked.Tie as tie
@@ -25,14 +26,14 @@ same-length c = search reports
 
 -- src/receiver.rt:27:1
 returns : tie.Need-returns
-returns c = search reports
+returns c = receiver-head (c .before .before .before .before .before .before .before .before .before .args .ssrc) (c .before .before .before .before .before .before .before .before .before .args .padding) (c .before .before .before .before .before .before .before .before .before .args .count) (c .before .before .before .before .before .before .before .before .before .args .size) (c .before .before .before .before .before .before .before .before .before .args .buf .now) _ _ (omega arith) (c .before .before .before .before .before .before .write-u32-unchecked .ensures) (c .before .before .write-header-unchecked .ensures)
 
 pub write-head-unchecked-spec : {M : Type 1} → statement M
 write-head-unchecked-spec =
     tie.close
     (tie.spec
+    write-u32-unchecked-requires
     cast-write-header-unchecked
     write-header-unchecked-requires
-    write-u32-unchecked-requires
     same-length
     returns)

@@ -4,7 +4,7 @@ use Rattle.report_write.proofs.report_block.check_reports.Statement.{st
 use Rattle.report_write.proofs.report_block.check_reports.Tie as tie
 use Rattle.report_write.proofs.report_block.check_reports.Reads as reads
 use Rattle.report_write.proofs.report_block.check_reports.Lts as lts
-use Rattle.report_write.proofs.report_block.check_both.Reads as check-both-reads
+use Rattle.report_write.proofs.check_both.Reads as check-both-reads
 use Rattle.report_write.proofs.report_block.check_count.Reads as check-count-reads
 use Rattle.report_write.proofs.report_block.check_fractions.Reads as check-fractions-reads
 use Rattle.report_write.proofs.report_block.check_losses.Reads as check-losses-reads

@@ -1,4 +1,5 @@
-use Rattle.report_write.proofs.Reports.{reports}
+use Rattle.report_write.proofs.Reports.{reports, sender-head}
+use native.Mathlib.Omega.{arith}
 use borrow.Author.Needs.{needs}
 use Rattle.report_write.proofs.sender.write_head_unchecked.Statement.{statement}
 use Rattle.report_write.proofs.sender.write_head_unchecked.Tie as tie
@@ -25,14 +26,14 @@ same-length c = search reports
 
 -- src/sender.rt:47:1
 returns : tie.Need-returns
-returns c = search reports
+returns c = sender-head (c .before .before .before .before .before .before .before .before .before .args .info) (c .before .before .before .before .before .before .before .before .before .args .padding) (c .before .before .before .before .before .before .before .before .before .args .count) (c .before .before .before .before .before .before .before .before .before .args .size) (c .before .before .before .before .before .before .before .before .before .args .buf .now) _ _ (omega arith) (c .before .before .before .before .before .before .write-info .ensures) (c .before .before .write-header-unchecked .ensures)
 
 pub write-head-unchecked-spec : {M : Type 1} → statement M
 write-head-unchecked-spec =
     tie.close
     (tie.spec
+    write-info-requires
     cast-write-header-unchecked
     write-header-unchecked-requires
-    write-info-requires
     same-length
     returns)

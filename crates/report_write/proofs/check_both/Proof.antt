@@ -4,10 +4,10 @@ use mathlib.Core.Bool.{true≢false}
 use lib.ListN.{length}
 use Rattle.report_write.proofs.Flat.{AtMost}
 use Rattle.report_write.proofs.Reports.{reports}
-use Rattle.report_write.proofs.report_block.check_both.Statement.{statement}
-use Rattle.report_write.proofs.report_block.check_both.Tie as tie
-use Rattle.report_write.proofs.report_block.check_both.Reads as reads
-use Rattle.report_write.proofs.report_block.check_both.Lts as lts
+use Rattle.report_write.proofs.check_both.Statement.{statement}
+use Rattle.report_write.proofs.check_both.Tie as tie
+use Rattle.report_write.proofs.check_both.Reads as reads
+use Rattle.report_write.proofs.check_both.Lts as lts
 
 abbrev Inv-loop : tie.InvT-loop
 Inv-loop blocks n i₀ fractions₀ losses₀ i fractions losses = (n ≡ length blocks / 7) × (i ≤ n) × AtMost blocks i fractions losses
