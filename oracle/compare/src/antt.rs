@@ -26,10 +26,11 @@ const UNFOLDING: &str = "need _>>=_ mapOk _>>_ firstFault turn be val put get su
 /// Equations in one declaration.
 const ROWS: usize = 40;
 
-/// A module of equations, as a file of a crate's proofs.
+/// A module of equations, as a file of a crate's proofs. No definition there
+/// fills a list.
 pub fn module(operations: impl Iterator<Item = Operation>) -> String {
     let equations: Vec<String> = operations
-        .map(|operation| equation(&operation, &operation.modelled()))
+        .filter_map(|operation| equation(&operation, &operation.modelled()))
         .collect();
     let mut module = HEAD.to_string();
     for (number, rows) in equations.chunks(ROWS).enumerate() {
@@ -45,8 +46,12 @@ pub fn module(operations: impl Iterator<Item = Operation>) -> String {
 }
 
 /// The equation `operation ≡ outcome`.
-fn equation(operation: &Operation, outcome: &Outcome) -> String {
-    format!("{} ≡ {}", left(operation), right(operation, outcome))
+fn equation(operation: &Operation, outcome: &Outcome) -> Option<String> {
+    Some(format!(
+        "{} ≡ {}",
+        left(operation)?,
+        right(operation, outcome)
+    ))
 }
 
 fn list<T>(items: impl IntoIterator<Item = T>, show: impl Fn(T) -> String) -> String {
@@ -230,8 +235,8 @@ fn book(book: &Book) -> String {
     )
 }
 
-fn left(operation: &Operation) -> String {
-    match operation {
+fn left(operation: &Operation) -> Option<String> {
+    Some(match operation {
         Operation::ReadAs(k, bytes) => format!("readAs {} {}", kind(*k), numbers(bytes)),
         Operation::ReadBlock(bytes) => format!("readBlock {}", numbers(bytes)),
         Operation::ReadItem(bytes) => format!("readItem {}", numbers(bytes)),
@@ -254,6 +259,7 @@ fn left(operation: &Operation) -> String {
         Operation::ItemStep(bytes, position) => {
             format!("itemStep {} {position}", numbers(bytes))
         }
+        Operation::List(..) => return None,
         Operation::Write(g, buffer) => format!("write {} {}", given(g), numbers(buffer)),
         Operation::WriteChunk(lists, buffer) => format!(
             "writeChunk {} {} {} {} {} {}",
@@ -284,7 +290,7 @@ fn left(operation: &Operation) -> String {
             }
             Call::Close => format!("turn close 0 ({})", book(b)),
         },
-    }
+    })
 }
 
 fn right(operation: &Operation, outcome: &Outcome) -> String {
@@ -316,6 +322,9 @@ fn right(operation: &Operation, outcome: &Outcome) -> String {
             format!("({}, {})", chunk(c), sdes_walk(walk))
         }),
         Outcome::ItemStep(a) => answer(a, |(i, next)| format!("({}, {next})", item(i))),
+        Outcome::Listed(a, list) => {
+            format!("({}, {})", answer(a, u64::to_string), numbers(list))
+        }
         Outcome::Written(a, buffer) => {
             format!("({}, {})", answer(a, u64::to_string), numbers(buffer))
         }

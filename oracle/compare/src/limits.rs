@@ -1,7 +1,7 @@
 //! Inputs by enumeration: short ones exhaustively, every length around each
 //! boundary, both sides of every limit.
 
-use crate::generate::{item_lists, sdes_lists, STALE};
+use crate::generate::{item_lists, sdes_lists, stale_list, STALE};
 use crate::operation::Operation;
 use model::*;
 
@@ -15,6 +15,9 @@ pub fn enumerate(visit: &mut dyn FnMut(Operation)) {
     lone_parts(visit);
     large_packets(visit);
     large_steps(visit);
+    block_lists(visit);
+    item_lists_read(visit);
+    packet_lists(visit);
     report_writes(visit);
     bye_writes(visit);
     app_writes(visit);
@@ -257,6 +260,85 @@ fn large_steps(visit: &mut dyn FnMut(Operation)) {
                     ));
                 }
             }
+        }
+    }
+}
+
+// ---- lists filled with what is read
+
+/// Lists of every length around the right one, and around the one from which on
+/// items are not counted first. Where the reading is refused, an empty one and
+/// one of some length.
+pub fn lists(listing: Listing, bytes: &[u8], visit: &mut dyn FnMut(Operation)) {
+    let mut lengths = vec![0, 5];
+    if let Ok(numbers) = listing.numbers(bytes) {
+        let count = numbers.len();
+        lengths = vec![0, count.saturating_sub(1), count, count + 1];
+        if listing == Listing::Items {
+            let enough = bytes.len() / 2 * 5;
+            lengths.extend([enough.saturating_sub(1), enough]);
+        }
+        lengths.sort_unstable();
+        lengths.dedup();
+    }
+    for length in lengths {
+        let before = stale_list(listing, length);
+        visit(Operation::List(listing, bytes.to_vec(), before));
+    }
+}
+
+/// Every count of blocks, in a packet that has them, lacks a word of them, or has
+/// more.
+fn block_lists(visit: &mut dyn FnMut(Operation)) {
+    for kind in [Kind::Sr, Kind::Rr] {
+        for low in 0..32 {
+            let end = kind.least() - 4 + 24 * usize::from(low);
+            for len in [end.saturating_sub(4), end, end + 8] {
+                let rest: Vec<u8> = (0..len).map(|i| (3 * i) as u8).collect();
+                let bytes = packet(kind, 0x80 | low, &rest);
+                lists(Listing::Blocks(kind), &bytes, visit);
+            }
+        }
+    }
+}
+
+/// Every count of chunks, each with none to two items; short bodies exhaustively;
+/// and as many items as a packet has room for.
+fn item_lists_read(visit: &mut dyn FnMut(Operation)) {
+    let mut fill = |bytes: &[u8]| lists(Listing::Items, bytes, visit);
+    let chunk = |i: u8| -> Vec<u8> {
+        let items: [&[u8]; 3] = [&[0; 4], &[1, 1, 7, 0], &[8, 2, 1, 9, 2, 0, 0, 0]];
+        [&[i, 0, 0, i], items[usize::from(i % 3)]].concat()
+    };
+    for low in 0..32 {
+        let rest: Vec<u8> = (0..low).flat_map(chunk).collect();
+        fill(&packet(Kind::Sdes, 0x80 | low, &rest));
+        fill(&packet(
+            Kind::Sdes,
+            0xA0 | low,
+            &[&rest[..], &[0, 0, 0, 4]].concat(),
+        ));
+    }
+    strings(&SMALL, 4, &mut |tail| {
+        fill(&packet(Kind::Sdes, 0x81, &[&[0, 0, 0, 1], tail].concat()));
+    });
+    let mut rest = vec![2, 0].repeat(PACKET_LIMIT / 2 - 2);
+    rest[PACKET_LIMIT - 8..].fill(0);
+    fill(&packet(Kind::Sdes, 0x81, &rest));
+}
+
+/// Datagrams of up to 40 packets, with and without a CNAME.
+fn packet_lists(visit: &mut dyn FnMut(Operation)) {
+    let report = packet(Kind::Rr, 0x80, &[0; 4]);
+    let cname = packet(Kind::Sdes, 0x81, &[0, 0, 0, 1, 1, 1, b'c', 0]);
+    let unknown = [0x80, 195, 0, 0];
+    for count in 0..40 {
+        let more = unknown.repeat(count);
+        for bytes in [
+            [&report[..], &cname, &more].concat(),
+            [&report[..], &more].concat(),
+        ] {
+            lists(Listing::Packets, &bytes, visit);
         }
     }
 }

@@ -17,7 +17,7 @@ use compare::side::{Model, Side};
 use compare::text::{from_hex, inputs};
 use compare::view::{Verdict, View};
 use library::guard;
-use model::Kind;
+use model::{Kind, Listing};
 use std::collections::BTreeMap;
 use std::process::ExitCode;
 
@@ -77,12 +77,16 @@ fn datagrams(file: &str, visit: &mut dyn FnMut(Operation)) {
     for line in text.lines() {
         let bytes = from_hex(line.rsplit('\t').next().unwrap_or_default());
         visit(Operation::ReadCompound(bytes.clone()));
+        limits::lists(Listing::Packets, &bytes, visit);
         let mut at = 0;
         while let Ok((_, next)) = model::step(&bytes, at) {
             let packet = bytes[at as usize..next as usize].to_vec();
             visit(Operation::Step(bytes.clone(), at));
             for kind in Kind::ALL {
                 visit(Operation::ReadAs(kind, packet.clone()));
+            }
+            for listing in Listing::ALL {
+                limits::lists(listing, &packet, visit);
             }
             at = next;
         }

@@ -18,6 +18,8 @@ pub enum Operation {
     SdesStep(Vec<u8>, SdesWalk),
     OpenItems(Vec<u8>),
     ItemStep(Vec<u8>, u64),
+    /// The last part is the list before it.
+    List(Listing, Vec<u8>, Vec<u64>),
     /// The last part of a write is the buffer before it.
     Write(Given, Vec<u8>),
     WriteChunk(ChunkLists, Vec<u8>),
@@ -27,8 +29,8 @@ pub enum Operation {
     Turn(Book, Call),
 }
 
-/// What an operation gives. A write also leaves a buffer, a call also a writer
-/// or a book.
+/// What an operation gives. A write also leaves a buffer, a filling a list, a
+/// call also a writer or a book.
 #[derive(Clone, Debug, PartialEq, Eq, Hash)]
 pub enum Outcome {
     Packet(Answer<Packet>),
@@ -43,6 +45,7 @@ pub enum Outcome {
     OpenedSdes(Answer<SdesWalk>),
     SdesStep(Answer<(Chunk, SdesWalk)>),
     ItemStep(Answer<(Item, u64)>),
+    Listed(Answer<u64>, Vec<u64>),
     Written(Answer<u64>, Vec<u8>),
     Added(Answer<()>, Writer, Vec<u8>),
     Closed(Answer<()>, Writer),
@@ -70,6 +73,10 @@ impl Operation {
             Operation::SdesStep(..) => "SDES step",
             Operation::OpenItems(_) => "open items",
             Operation::ItemStep(..) => "item step",
+            Operation::List(Listing::Blocks(Kind::Sr), ..) => "list SR blocks",
+            Operation::List(Listing::Blocks(_), ..) => "list RR blocks",
+            Operation::List(Listing::Items, ..) => "list items",
+            Operation::List(Listing::Packets, ..) => "list packets",
             Operation::Write(given, _) => match given.kind() {
                 Kind::Sr => "write SR",
                 Kind::Rr => "write RR",
@@ -104,6 +111,10 @@ impl Operation {
             Operation::SdesStep(bytes, walk) => Outcome::SdesStep(sdes_step(bytes, *walk)),
             Operation::OpenItems(bytes) => Outcome::Opened(open_items(bytes)),
             Operation::ItemStep(bytes, position) => Outcome::ItemStep(item_step(bytes, *position)),
+            Operation::List(listing, bytes, before) => {
+                let mut list = before.clone();
+                Outcome::Listed(listing.fill(bytes, &mut list), list)
+            }
             Operation::Write(given, before) => written(before, |buffer| write(given, buffer)),
             Operation::WriteChunk(lists, before) => {
                 written(before, |buffer| write_chunk(lists, buffer))

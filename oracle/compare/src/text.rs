@@ -36,6 +36,10 @@ pub fn inputs(operation: &Operation) -> String {
             put("position", walk.position.to_string());
             put("end", walk.end.to_string());
         }
+        Operation::List(_, bytes, before) => {
+            put("bytes", run(bytes));
+            put("list", list(before, u64::to_string));
+        }
         Operation::Write(g, buffer) => {
             given(g, &mut put);
             put("buffer", run(buffer));

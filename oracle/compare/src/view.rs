@@ -16,6 +16,7 @@ pub enum Value {
     Nothing,
     Number(u64),
     Bytes(Vec<u8>),
+    Numbers(Vec<u64>),
     Refused(Refusal),
     Panic,
 }
@@ -125,6 +126,11 @@ impl View {
                 item(view, &i);
                 view.number("position", position);
             }),
+            Outcome::Listed(answer, list) => {
+                let mut view = View::of_answer(answer, |view, count| view.number("listed", count));
+                view.put("list", Value::Numbers(list));
+                view
+            }
             Outcome::Written(answer, buffer) => {
                 let mut view = View::of_answer(answer, |view, size| view.number("written", size));
                 view.put("size", size_value(operation));
@@ -299,6 +305,7 @@ impl fmt::Display for Value {
             Value::Nothing => write!(f, "-"),
             Value::Number(number) => write!(f, "{number}"),
             Value::Bytes(bytes) => write!(f, "x{}", hex(bytes)),
+            Value::Numbers(numbers) => write!(f, "{numbers:?}"),
             Value::Refused(refusal) => write!(f, "{refusal}"),
             Value::Panic => write!(f, "panic"),
         }

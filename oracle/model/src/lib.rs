@@ -6,6 +6,7 @@
 mod book;
 mod compound;
 mod layout;
+mod list;
 mod packet;
 mod read;
 mod refusal;
@@ -16,6 +17,7 @@ mod writer;
 pub use book::{written_packet, Book, Call};
 pub use compound::read_compound;
 pub use layout::{layout, layout_chunk, layout_item};
+pub use list::Listing;
 pub use packet::*;
 pub use read::{
     check_header, read_as, read_block, read_block_at, read_chunk, read_item, read_prefix,

@@ -13,24 +13,54 @@ use readings::*;
 use writings::*;
 pub use writings::{item_lists, sdes_lists};
 
-/// The byte that buffers are filled with before a write.
+/// The byte that buffers and lists are filled with before a call.
 pub const STALE: u8 = 0x5A;
 
-/// A buffer of stale bytes: empty, around the size wanted, or larger.
-fn buffer(rng: &mut Rng, wanted: usize) -> Vec<u8> {
-    let length = match rng.below(8) {
+/// A list of stale numbers, as wide as the listing's.
+pub fn stale_list(listing: Listing, length: usize) -> Vec<u64> {
+    let number = match listing {
+        Listing::Packets => u64::from_be_bytes([STALE; 8]),
+        _ => u32::from_be_bytes([STALE; 4]).into(),
+    };
+    vec![number; length]
+}
+
+/// Nothing, around the size wanted, or more.
+fn length_around(rng: &mut Rng, wanted: usize) -> usize {
+    match rng.below(8) {
         0 => 0,
         1 => wanted.saturating_sub(1),
         2 => rng.below(wanted + 1),
         3 | 4 => wanted,
         _ => wanted + 1 + rng.below(9),
-    };
-    vec![STALE; length]
+    }
+}
+
+fn buffer(rng: &mut Rng, wanted: usize) -> Vec<u8> {
+    vec![STALE; length_around(rng, wanted)]
 }
 
 /// The room that a write wants; some, where it is refused anyway.
 fn room(size: Answer<u64>) -> usize {
     size.map_or(8, |size| size as usize)
+}
+
+/// A list of any length, often around the right one or around the one from which
+/// on items are not counted first.
+fn list(rng: &mut Rng) -> Operation {
+    let listing = rng.pick(&Listing::ALL);
+    let bytes = match listing {
+        Listing::Blocks(kind) => packet_bytes(rng, Some(kind)),
+        Listing::Items => packet_bytes(rng, Some(Kind::Sdes)),
+        Listing::Packets => datagram(rng),
+    };
+    let wanted = if listing == Listing::Items && rng.once_in(4) {
+        bytes.len() / 2 * 5
+    } else {
+        listing.numbers(&bytes).map_or(8, |numbers| numbers.len())
+    };
+    let before = stale_list(listing, length_around(rng, wanted));
+    Operation::List(listing, bytes, before)
 }
 
 fn writer(rng: &mut Rng) -> Writer {
@@ -170,12 +200,13 @@ pub enum Sort {
     SdesStep,
     OpenItems,
     ItemStep,
+    List,
     Call,
     Turn,
 }
 
 impl Sort {
-    pub const ALL: [Sort; 19] = [
+    pub const ALL: [Sort; 20] = [
         Sort::ReadAs,
         Sort::ReadBlock,
         Sort::ReadItem,
@@ -193,6 +224,7 @@ impl Sort {
         Sort::SdesStep,
         Sort::OpenItems,
         Sort::ItemStep,
+        Sort::List,
         Sort::Call,
         Sort::Turn,
     ];
@@ -271,6 +303,7 @@ pub fn operation(rng: &mut Rng, sort: Sort) -> Operation {
             };
             Operation::ItemStep(bytes, position)
         }
+        Sort::List => list(rng),
         Sort::Call => {
             if rng.once_in(5) {
                 Operation::Close(writer(rng))

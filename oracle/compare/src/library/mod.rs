@@ -4,6 +4,7 @@
 
 mod calls;
 mod compounds;
+mod lists;
 mod reading;
 mod writing;
 
@@ -68,6 +69,7 @@ impl Side for Library {
 
     fn view(&self, operation: &Operation) -> Option<View> {
         match operation {
+            Operation::List(listing, bytes, before) => self.listed(*listing, bytes, before),
             Operation::Write(given, before) => self.write(given, before),
             Operation::WriteChunk(lists, before) => self.write_chunk(lists, before),
             Operation::WriteItem(item, before) => self.write_item(item, before),
@@ -77,12 +79,17 @@ impl Side for Library {
                 let bytes = bytes_read(operation)?;
                 let s = Guarded::new(bytes, self.0);
                 let mut view = read(operation, &s)?;
-                if *s != *bytes {
-                    broken(&mut view, "bytes that a reading changed");
-                }
+                kept(&mut view, &s, bytes);
                 Some(view)
             }
         }
+    }
+}
+
+/// The bytes lent to a reading are as they were.
+fn kept(view: &mut View, s: &[u8], bytes: &[u8]) {
+    if s != bytes {
+        broken(view, "bytes that a reading changed");
     }
 }
 

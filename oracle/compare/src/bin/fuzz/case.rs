@@ -1,6 +1,7 @@
 //! A case, and what is asked of it.
 
 use compare::generate::STALE;
+use compare::limits::lists;
 use compare::operation::Operation;
 use library::guard::{Guarded, Side};
 use library::*;
@@ -22,7 +23,7 @@ impl Case {
         }
     }
 
-    /// Every reading, a write and a call.
+    /// Every reading, every list around its right length, a write and a call.
     pub fn operations(&self) -> Vec<Operation> {
         let bytes = || self.bytes.clone();
         let walk = SdesWalk {
@@ -46,6 +47,9 @@ impl Case {
             Operation::ItemStep(bytes(), self.at),
         ];
         operations.extend(Kind::ALL.map(|kind| Operation::ReadAs(kind, bytes())));
+        for listing in Listing::ALL {
+            lists(listing, &self.bytes, &mut |list| operations.push(list));
+        }
         operations.push(Draw(&self.bytes).write());
         operations.push(Draw(&self.bytes).call());
         operations

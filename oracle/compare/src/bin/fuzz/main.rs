@@ -2,10 +2,11 @@
 //!
 //!     fuzz [COUNT|SECONDSs] [SEED]
 //!
-//! A case is a run of bytes and two numbers. Every reading is asked of it, and
-//! one write and one call whose arguments are drawn from its bytes. An answer must be the
-//! model's, with everything lent in memory that ends at a closed page, and again
-//! in memory that starts at one. A case that brings a refusal, a field or a class
+//! A case is a run of bytes and two numbers. Every reading is asked of it, every
+//! call that fills a list with lists around the right length, and one write and
+//! one call of the writer whose arguments are drawn from its bytes. An answer must
+//! be the model's, with everything lent in memory that ends at a closed page, and
+//! again in memory that starts at one. A case that brings a refusal, a field or a class
 //! of numbers that was not seen before is kept, and later cases are changes of
 //! kept ones. The first cases are real datagrams (`compare::captures`) and random
 //! inputs. A difference is printed, and the exit status is 1.
@@ -129,7 +130,8 @@ fn case_of(operation: Operation) -> Option<Case> {
         | Operation::ReadCompound(bytes)
         | Operation::Open(bytes)
         | Operation::OpenSdes(bytes)
-        | Operation::OpenItems(bytes) => Case::of(&bytes, 0, 0),
+        | Operation::OpenItems(bytes)
+        | Operation::List(_, bytes, _) => Case::of(&bytes, 0, 0),
         Operation::ReadBlockAt(_, bytes, at)
         | Operation::ReadSourceAt(bytes, at)
         | Operation::Step(bytes, at)

@@ -1,0 +1,99 @@
+//! All parts of a packet or a datagram at once, as the numbers of a list: what
+//! reading gives, in the rows that include/rtcp.h names. The places are those of
+//! the layout.
+
+use crate::compound::read_compound;
+use crate::layout::{layout, layout_chunk, layout_item};
+use crate::packet::*;
+use crate::read::read_as;
+use crate::refusal::{Answer, Refusal};
+
+/// What a list is of.
+#[derive(Clone, Copy, Debug, PartialEq, Eq, Hash)]
+pub enum Listing {
+    /// The blocks of an SR or an RR.
+    Blocks(Kind),
+    /// The chunks of an SDES, with their items.
+    Items,
+    /// The packets of a datagram.
+    Packets,
+}
+
+impl Listing {
+    pub const ALL: [Listing; 4] = [
+        Listing::Blocks(Kind::Sr),
+        Listing::Blocks(Kind::Rr),
+        Listing::Items,
+        Listing::Packets,
+    ];
+
+    /// The numbers that there are.
+    pub fn numbers(self, bytes: &[u8]) -> Answer<Vec<u64>> {
+        if self == Listing::Packets {
+            return Ok(packet_rows(&read_compound(bytes)?));
+        }
+        let kind = match self {
+            Listing::Blocks(kind) => kind,
+            _ => Kind::Sdes,
+        };
+        Ok(match read_as(kind, bytes)?.content {
+            Content::Report { blocks, .. } => blocks.iter().flat_map(block_row).collect(),
+            Content::Sdes { chunks } => chunk_rows(&chunks),
+            _ => Vec::new(),
+        })
+    }
+
+    /// The numbers at the list's start, and how many. A list that is too short
+    /// gets 10, after every other refusal.
+    pub fn fill(self, bytes: &[u8], list: &mut [u64]) -> Answer<u64> {
+        let numbers = self.numbers(bytes)?;
+        let count = numbers.len() as u64;
+        let Some(start) = list.get_mut(..numbers.len()) else {
+            return Err(Refusal::output_too_small(count));
+        };
+        start.copy_from_slice(&numbers);
+        Ok(count)
+    }
+}
+
+fn block_row(block: &Block) -> [u64; 7] {
+    [
+        block.ssrc,
+        block.fraction_lost.into(),
+        block.cumulative_lost,
+        block.extended_sequence,
+        block.jitter,
+        block.last_sr,
+        block.delay,
+    ]
+    .map(u64::from)
+}
+
+/// A row for each item, and one for the closing zero of each chunk.
+fn chunk_rows(chunks: &[Chunk]) -> Vec<u64> {
+    let mut rows = Vec::new();
+    let mut start = 4;
+    for chunk in chunks {
+        let ssrc = chunk.ssrc.into();
+        let mut at = start + 4;
+        for item in &chunk.items {
+            let [prefix, value] = [&item.prefix, &item.value].map(|part| part.len() as u64);
+            at += layout_item(item).len() as u64;
+            rows.extend([ssrc, item.item_type.into(), at - value, prefix, value]);
+        }
+        rows.extend([ssrc, 0, at, 0, 0]);
+        start += layout_chunk(chunk).len() as u64;
+    }
+    rows
+}
+
+fn packet_rows(packets: &[Packet]) -> Vec<u64> {
+    let mut rows = Vec::new();
+    let mut at = 0;
+    for packet in packets {
+        let length = layout(packet).len() as u64;
+        rows.extend([packet.packet_type().into(), at, length]);
+        at += length;
+    }
+    rows
+}
