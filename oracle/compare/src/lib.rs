@@ -2,6 +2,7 @@
 //! them, and the rows where the Rust is overridden.
 
 pub mod antt;
+pub mod calls;
 pub mod captures;
 pub mod generate;
 pub mod library;

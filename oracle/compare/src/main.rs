@@ -1,12 +1,14 @@
-//! Holds the sides against each other on many inputs.
+//! Holds the sides against each other on many inputs, and then the compound
+//! writer against the book on lists of calls.
 //!
 //!     compare [SIZE] [SEED] [FILE..]
 //!
 //! SIZE is the number of inputs, SEED that of the random ones. A FILE has a
 //! datagram a line, in hexadecimal after a tab. The exit status is 1 where a
-//! difference has no row that explains it, or the library touches memory that is
-//! not its own.
+//! difference has no row that explains it, a list of calls differs from the book,
+//! or the library touches memory that is not its own.
 
+use compare::calls;
 use compare::generate::{operation, Sort};
 use compare::library::{about_library, watched, Library};
 use compare::limits;
@@ -27,6 +29,9 @@ const SHOWN: usize = 20;
 /// Inputs from one line of progress to the next.
 const PROGRESS: usize = 2_000_000;
 
+/// Inputs for each list of calls.
+const PER_LIST: usize = 100;
+
 fn main() -> ExitCode {
     let mut arguments = std::env::args().skip(1);
     let mut number = |default: u64| {
@@ -34,7 +39,7 @@ fn main() -> ExitCode {
             text.parse().expect("SIZE and SEED are numbers")
         })
     };
-    let (size, seed) = (number(2_000_000) as usize, number(1));
+    let (size, seed) = (number(40_000_000) as usize, number(1));
     let files: Vec<String> = arguments.collect();
 
     println!("{}", about_library());
@@ -54,7 +59,9 @@ fn main() -> ExitCode {
         let sort = Sort::any(&mut rng);
         comparison.run(operation(&mut rng, sort));
     }
-    comparison.report()
+    comparison.report();
+    let booked = !library::present() || calls::run(size / PER_LIST, seed);
+    ExitCode::from(u8::from(comparison.unexplained > 0 || !booked))
 }
 
 /// The enumerated inputs, thinned out evenly where they are more than wanted.
@@ -214,7 +221,7 @@ impl Comparison {
         }
     }
 
-    fn report(&self) -> ExitCode {
+    fn report(&self) {
         for (name, counts) in &self.counts {
             let refused = counts
                 .refused
@@ -231,6 +238,13 @@ impl Comparison {
                 braces(rows),
             );
         }
+        let mut refused = BTreeMap::new();
+        for (number, count) in self.counts.values().flat_map(|counts| &counts.refused) {
+            *refused.entry(number).or_insert(0) += count;
+        }
+        for (number, count) in refused {
+            println!("refusal {number}: {count} inputs");
+        }
         for number in 1..=9 {
             let count: usize = self
                 .counts
@@ -245,7 +259,6 @@ impl Comparison {
             "{} inputs, {} held against the library, {} held against the Rust, {} differences without a row",
             self.inputs, self.equal_inputs, self.compared, self.unexplained
         );
-        ExitCode::from(u8::from(self.unexplained > 0))
     }
 }
 

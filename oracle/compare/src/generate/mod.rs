@@ -229,12 +229,18 @@ impl Sort {
         Sort::Turn,
     ];
 
-    /// Whole packets are read and written more often than parts.
+    /// A sort that more than the model has. Whole packets are read and written
+    /// more often than parts.
     pub fn any(rng: &mut Rng) -> Sort {
         match rng.below(4) {
             0 => Sort::ReadAs,
             1 => Sort::Write,
-            _ => rng.pick(&Sort::ALL),
+            _ => loop {
+                let sort = rng.pick(&Sort::ALL);
+                if sort != Sort::Turn {
+                    return sort;
+                }
+            },
         }
     }
 }

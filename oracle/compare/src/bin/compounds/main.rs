@@ -7,10 +7,10 @@
 //! datagrams, whose time per byte must stay flat. The exit status is 1 where
 //! something differs.
 
-mod calls;
 mod long;
 mod real;
 
+use compare::calls;
 use compare::library::about_library;
 use std::process::ExitCode;
 

@@ -68,7 +68,9 @@ fn main() -> ExitCode {
     let mut rng = Rng::new(seed);
     let mut fuzz = Fuzz::new();
     for case in first_cases(&mut rng) {
-        fuzz.run(case);
+        if fuzz.differences < ENOUGH {
+            fuzz.run(case);
+        }
     }
     println!("first cases: {}, kept {}", fuzz.cases, fuzz.kept.len());
     while !until.reached(fuzz.cases) && fuzz.differences < ENOUGH {

@@ -2,12 +2,12 @@
 //! returned, and a buffer of any length with the datagram so far at its start.
 //! Answer, datagram and, once closed, what reading it gives must be the book's.
 
-use compare::generate::{lent, request, STALE};
-use compare::library::Library;
-use compare::operation::{Operation, Outcome};
-use compare::rng::Rng;
-use compare::side::Side;
-use compare::view::{hex, View};
+use crate::generate::{lent, request, STALE};
+use crate::library::Library;
+use crate::operation::{Operation, Outcome};
+use crate::rng::Rng;
+use crate::side::Side;
+use crate::view::{hex, View};
 use library::guard::{self, Guarded};
 use library::*;
 use model::*;
@@ -26,6 +26,7 @@ struct Counts {
     refused: BTreeMap<u8, usize>,
 }
 
+/// Runs that many lists, prints what they had, and says whether all were right.
 pub fn run(count: usize, seed: u64) -> bool {
     let mut rng = Rng::new(seed);
     let mut counts = Counts::default();
