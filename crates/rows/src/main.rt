@@ -14,84 +14,59 @@ use rtcp::read_bye;
 use rtcp::read_report;
 use rtcp::read_sdes;
 
+// Each of these four: whether the operation is one of its own.
 fn report(op: &[u8], s: &[u8], i: u64) -> bool {
-    if check::same(op, b"block_parse") {
-        show::block(read_report::rtcp_block_parse(s));
-        return true;
+    let at = text::index_of(
+        op,
+        b"block_parse rr_parse sr_parse rr_report_block sr_report_block",
+    );
+    match at {
+        0 => show::block(read_report::rtcp_block_parse(s)),
+        1 => show::rr(s, read_report::rtcp_rr_parse(s)),
+        2 => show::sr(s, read_report::rtcp_sr_parse(s)),
+        3 => show::block(read_report::rtcp_rr_report_block(s, i)),
+        4 => show::block(read_report::rtcp_sr_report_block(s, i)),
+        _ => return false,
     }
-    if check::same(op, b"rr_parse") {
-        show::rr(s, read_report::rtcp_rr_parse(s));
-        return true;
-    }
-    if check::same(op, b"sr_parse") {
-        show::sr(s, read_report::rtcp_sr_parse(s));
-        return true;
-    }
-    if check::same(op, b"rr_report_block") {
-        show::block(read_report::rtcp_rr_report_block(s, i));
-        return true;
-    }
-    if check::same(op, b"sr_report_block") {
-        show::block(read_report::rtcp_sr_report_block(s, i));
-        return true;
-    }
-    false
+    true
 }
 
 fn other(op: &[u8], s: &[u8], i: u64) -> bool {
-    if check::same(op, b"app_parse") {
-        show::app(s, read_app::rtcp_app_parse(s));
-        return true;
+    let at = text::index_of(op, b"app_parse bye_parse bye_source sdes_parse");
+    match at {
+        0 => show::app(s, read_app::rtcp_app_parse(s)),
+        1 => show::bye(s, read_bye::rtcp_bye_parse(s)),
+        2 => show::source(read_bye::rtcp_bye_source(s, i)),
+        3 => show::sdes(s, read_sdes::rtcp_sdes_parse(s)),
+        _ => return false,
     }
-    if check::same(op, b"bye_parse") {
-        show::bye(s, read_bye::rtcp_bye_parse(s));
-        return true;
-    }
-    if check::same(op, b"bye_source") {
-        show::source(read_bye::rtcp_bye_source(s, i));
-        return true;
-    }
-    if check::same(op, b"sdes_parse") {
-        show::sdes(s, read_sdes::rtcp_sdes_parse(s));
-        return true;
-    }
-    false
+    true
 }
 
 fn description(op: &[u8], s: &[u8]) -> bool {
-    if check::same(op, b"item_parse") {
-        show::item(s, read_sdes::rtcp_item_parse(s));
-        return true;
+    let at = text::index_of(op, b"item_parse item_priv_prefix chunk_parse");
+    match at {
+        0 => show::item(s, read_sdes::rtcp_item_parse(s)),
+        1 => show::prefix(s, read_sdes::rtcp_item_priv_prefix(s)),
+        2 => show::chunk(read_sdes::rtcp_chunk_parse(s)),
+        _ => return false,
     }
-    if check::same(op, b"item_priv_prefix") {
-        show::prefix(s, read_sdes::rtcp_item_priv_prefix(s));
-        return true;
-    }
-    if check::same(op, b"chunk_parse") {
-        show::chunk(read_sdes::rtcp_chunk_parse(s));
-        return true;
-    }
-    false
+    true
 }
 
 fn walk(op: &[u8], s: &[u8], at: u64, end: u64) -> bool {
-    if check::same(op, b"chunk_walk_open") {
-        show::chunk_walk(read_sdes::rtcp_chunk_walk_open(s));
-        return true;
+    let op = text::index_of(
+        op,
+        b"chunk_walk_open chunk_walk_step item_walk_open item_walk_step",
+    );
+    match op {
+        0 => show::chunk_walk(read_sdes::rtcp_chunk_walk_open(s)),
+        1 => show::chunk_step(read_sdes::rtcp_chunk_walk_step(s, at, end)),
+        2 => show::item_walk(read_sdes::rtcp_item_walk_open(s)),
+        3 => show::item_step(s, read_sdes::rtcp_item_walk_step(s, at)),
+        _ => return false,
     }
-    if check::same(op, b"chunk_walk_step") {
-        show::chunk_step(read_sdes::rtcp_chunk_walk_step(s, at, end));
-        return true;
-    }
-    if check::same(op, b"item_walk_open") {
-        show::item_walk(read_sdes::rtcp_item_walk_open(s));
-        return true;
-    }
-    if check::same(op, b"item_walk_step") {
-        show::item_step(s, read_sdes::rtcp_item_walk_step(s, at));
-        return true;
-    }
-    false
+    true
 }
 
 fn answer(op: &[u8], s: &[u8], a: u64, b: u64) {
@@ -111,8 +86,8 @@ fn answer(op: &[u8], s: &[u8], a: u64, b: u64) {
 }
 
 fn read(line: &[u8]) {
-    let a = text::number(text::nth(line, 2));
-    let b = text::number(text::nth(line, 3));
+    let a = text::number_at(line, 2);
+    let b = text::number_at(line, 3);
     let args = text::rest(text::rest(line));
     let mut buf = io::buffer();
     let n = text::unhex(text::last_word(args), &mut buf);
@@ -148,7 +123,7 @@ fn rows(lines: &[u8]) {
 }
 
 fn main() {
-    let mut buf = [0u8; 262144];
+    let mut buf = text::large(0);
     let n = io::read_full(0, &mut buf);
     rows(&buf[..n]);
 }

@@ -3,6 +3,7 @@ use super::output::bytes;
 use super::output::decimal;
 use super::output::done;
 use super::output::print;
+use super::text;
 use rtcp::read_app::RtcpApp;
 use rtcp::read_bye::RtcpBye;
 use rtcp::read_bye::RtcpSource;
@@ -26,9 +27,8 @@ fn field(name: &[u8], value: u64) {
     decimal(value);
 }
 
-// A part of the bytes that were read, and where it is.
-fn part(name: &[u8], s: &[u8], offset: u64, len: u64) {
-    field(name, offset);
+// How long a part of the bytes that were read is, and its bytes.
+fn part(s: &[u8], offset: u64, len: u64) {
     print(b"+");
     decimal(len);
     print(b":");
@@ -46,57 +46,136 @@ fn part(name: &[u8], s: &[u8], offset: u64, len: u64) {
     bytes(&s[from..end]);
 }
 
+fn value(values: &[u64], i: usize) -> u64 {
+    if i < values.len() { values[i] } else { 0 }
+}
+
+// A value for each of the names. One whose name is `+` is the length of a part, which starts at the value before it.
+fn fields(s: &[u8], names: &[u8], values: &[u64]) {
+    let mut before: u64 = 0;
+    let mut at = 0;
+    let mut i = 0;
+    while at < names.len() {
+        let end = text::find(names, at, b' ');
+        let now = value(values, i);
+        if names[at] == b'+' {
+            part(s, before, now);
+        } else {
+            field(&names[at..end], now);
+        }
+        before = now;
+        at = end + 1;
+        i += 1;
+    }
+}
+
+fn numbers(names: &[u8], values: &[u64]) {
+    fields(b"", names, values);
+}
+
+fn losses(r: RtcpBlock) {
+    numbers(
+        b"ssrc fraction lost sequence",
+        &[
+            r.ssrc as u64,
+            r.fraction_lost as u64,
+            r.cumulative_lost as u64,
+            r.extended_sequence_number as u64,
+        ],
+    );
+}
+
+fn times(r: RtcpBlock) {
+    numbers(
+        b"jitter lsr dlsr",
+        &[
+            r.interarrival_jitter as u64,
+            r.last_sender_report_timestamp as u64,
+            r.delay_since_last_sender_report_timestamp as u64,
+        ],
+    );
+}
+
 pub fn block(r: RtcpBlock) {
     if done(r.number, r.first, r.second) {
-        field(b"ssrc", r.ssrc as u64);
-        field(b"fraction", r.fraction_lost as u64);
-        field(b"lost", r.cumulative_lost as u64);
-        field(b"sequence", r.extended_sequence_number as u64);
-        field(b"jitter", r.interarrival_jitter as u64);
-        field(b"lsr", r.last_sender_report_timestamp as u64);
-        field(b"dlsr", r.delay_since_last_sender_report_timestamp as u64);
+        losses(r);
+        times(r);
     }
 }
 
 pub fn rr(s: &[u8], r: RtcpRr) {
     if done(r.number, r.first, r.second) {
-        field(b"ssrc", r.ssrc);
-        field(b"n_reports", r.n_reports);
-        part(b"extension", s, r.extension, r.extension_len);
-        part(b"padding", s, r.padding, r.padding_len);
+        fields(
+            s,
+            b"ssrc n_reports extension + padding +",
+            &[
+                r.ssrc,
+                r.n_reports,
+                r.extension,
+                r.extension_len,
+                r.padding,
+                r.padding_len,
+            ],
+        );
     }
 }
 
 pub fn sr(s: &[u8], r: RtcpSr) {
     if done(r.number, r.first, r.second) {
-        field(b"ssrc", r.ssrc);
-        field(b"ntp", r.ntp_timestamp);
-        field(b"rtp", r.rtp_timestamp);
-        field(b"packets", r.packet_count);
-        field(b"octets", r.octet_count);
-        field(b"n_reports", r.n_reports);
-        part(b"extension", s, r.extension, r.extension_len);
-        part(b"padding", s, r.padding, r.padding_len);
+        fields(
+            s,
+            b"ssrc ntp rtp packets octets n_reports extension + padding +",
+            &[
+                r.ssrc,
+                r.ntp_timestamp,
+                r.rtp_timestamp,
+                r.packet_count,
+                r.octet_count,
+                r.n_reports,
+                r.extension,
+                r.extension_len,
+                r.padding,
+                r.padding_len,
+            ],
+        );
     }
 }
 
 pub fn app(s: &[u8], r: RtcpApp) {
     if done(r.number, r.first, r.second) {
-        field(b"subtype", r.subtype);
-        field(b"ssrc", r.ssrc);
-        part(b"name", s, r.name, r.name_len);
-        part(b"data", s, r.data, r.data_len);
-        part(b"padding", s, r.padding, r.padding_len);
+        fields(
+            s,
+            b"subtype ssrc name + data + padding +",
+            &[
+                r.subtype,
+                r.ssrc,
+                r.name,
+                r.name_len,
+                r.data,
+                r.data_len,
+                r.padding,
+                r.padding_len,
+            ],
+        );
     }
 }
 
 pub fn bye(s: &[u8], r: RtcpBye) {
     if done(r.number, r.first, r.second) {
-        field(b"n_sources", r.n_sources);
-        field(b"has_reason", r.has_reason);
-        part(b"reason", s, r.reason, r.reason_len);
-        part(b"tail", s, r.tail, r.tail_len);
-        part(b"padding", s, r.padding, r.padding_len);
+        fields(
+            s,
+            b"n_sources has_reason reason + tail + padding +",
+            &[
+                r.n_sources,
+                r.has_reason,
+                r.reason,
+                r.reason_len,
+                r.tail,
+                r.tail_len,
+                r.padding,
+                r.padding_len,
+            ],
+        );
     }
 }
 
@@ -108,52 +187,55 @@ pub fn source(r: RtcpSource) {
 
 pub fn sdes(s: &[u8], r: RtcpSdes) {
     if done(r.number, r.first, r.second) {
-        field(b"n_chunks", r.n_chunks);
-        field(b"has_cname", r.has_cname);
-        field(b"body", r.body);
-        part(b"padding", s, r.padding, r.padding_len);
+        fields(
+            s,
+            b"n_chunks has_cname body padding +",
+            &[r.n_chunks, r.has_cname, r.body, r.padding, r.padding_len],
+        );
     }
 }
 
 pub fn item(s: &[u8], r: RtcpItem) {
     if done(r.number, r.first, r.second) {
-        field(b"type", r.type_);
-        field(b"length", r.length);
-        part(b"prefix", s, r.prefix, r.prefix_len);
-        part(b"value", s, r.value, r.value_len);
+        fields(
+            s,
+            b"type length prefix + value +",
+            &[
+                r.type_,
+                r.length,
+                r.prefix,
+                r.prefix_len,
+                r.value,
+                r.value_len,
+            ],
+        );
     }
 }
 
 pub fn prefix(s: &[u8], r: RtcpPart) {
     if done(r.number, r.first, r.second) {
-        part(b"prefix", s, r.offset, r.len);
+        fields(s, b"prefix +", &[r.offset, r.len]);
     }
 }
 
 pub fn chunk(r: RtcpChunk) {
     if done(r.number, r.first, r.second) {
-        field(b"ssrc", r.ssrc);
-        field(b"length", r.length);
-        field(b"cname", r.cname);
+        numbers(b"ssrc length cname", &[r.ssrc, r.length, r.cname]);
     }
 }
 
 pub fn chunk_walk(r: RtcpChunkWalk) {
     if done(r.number, r.first, r.second) {
-        field(b"at", r.at);
-        field(b"end", r.end);
+        numbers(b"at end", &[r.at, r.end]);
     }
 }
 
 // The walk comes back on a refusal too.
 pub fn chunk_step(r: RtcpChunkStep) {
     if done(r.number, r.first, r.second) {
-        field(b"ssrc", r.ssrc);
-        field(b"length", r.length);
-        field(b"cname", r.cname);
+        numbers(b"ssrc length cname", &[r.ssrc, r.length, r.cname]);
     }
-    field(b"at", r.at);
-    field(b"end", r.end);
+    numbers(b"at end", &[r.at, r.end]);
 }
 
 pub fn item_walk(r: RtcpItemWalk) {
@@ -164,10 +246,18 @@ pub fn item_walk(r: RtcpItemWalk) {
 
 pub fn item_step(s: &[u8], r: RtcpItemStep) {
     if done(r.number, r.first, r.second) {
-        field(b"type", r.type_);
-        field(b"length", r.length);
-        part(b"prefix", s, r.prefix, r.prefix_len);
-        part(b"value", s, r.value, r.value_len);
+        fields(
+            s,
+            b"type length prefix + value +",
+            &[
+                r.type_,
+                r.length,
+                r.prefix,
+                r.prefix_len,
+                r.value,
+                r.value_len,
+            ],
+        );
     }
     field(b"at", r.at);
 }

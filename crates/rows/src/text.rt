@@ -1,5 +1,6 @@
 // A line's words, which one blank sets apart, and what they stand for.
 ghost use Prim.Native.Nat.{_<_, _≤_};
+ghost use mathlib.Core.Path.{_≡_};
 ghost use lib.ListN.{length};
 ghost use Rattle.io.specs.Counts.{Counts};
 
@@ -61,6 +62,21 @@ pub fn nth(s: &[u8], index: usize) -> &[u8] {
     word(&s[at..])
 }
 
+// Which of the words it is, from 0; how many there are where it is none of them.
+pub fn index_of(word: &[u8], words: &[u8]) -> usize {
+    let mut at = 0;
+    let mut i = 0;
+    while at < words.len() {
+        let end = find(words, at, b' ');
+        if check::same(word, &words[at..end]) {
+            return i;
+        }
+        at = end + 1;
+        i += 1;
+    }
+    i
+}
+
 // The last of up to three words.
 pub fn last_word(s: &[u8]) -> &[u8] {
     let second = rest(s);
@@ -75,7 +91,7 @@ pub fn last_word(s: &[u8]) -> &[u8] {
 }
 
 // A decimal number; what is too large for it is left out.
-pub fn number(s: &[u8]) -> u64 {
+fn number(s: &[u8]) -> u64 {
     let mut n: u64 = 0;
     let mut i = 0;
     while i < s.len() {
@@ -83,6 +99,33 @@ pub fn number(s: &[u8]) -> u64 {
         i += 1;
     }
     n
+}
+
+// What the word at an index stands for.
+pub fn number_at(line: &[u8], index: usize) -> u64 {
+    number(nth(line, index))
+}
+
+pub fn low_at(line: &[u8], index: usize) -> u32 {
+    low(number_at(line, index))
+}
+
+pub fn numbers_at(line: &[u8], index: usize, out: &mut [u64]) -> usize
+    ensures { λ r. ⌜ Counts r (now (out .exit)) ⌝ }
+{
+    numbers(nth(line, index), out)
+}
+
+pub fn words_at(line: &[u8], index: usize, out: &mut [u32]) -> usize
+    ensures { λ r. ⌜ Counts r (now (out .exit)) ⌝ }
+{
+    words(nth(line, index), out)
+}
+
+pub fn bytes_at(line: &[u8], index: usize, out: &mut [u8]) -> usize
+    ensures { λ r. ⌜ Counts r (now (out .exit)) ⌝ }
+{
+    bytes(nth(line, index), out)
 }
 
 fn shifted(n: u64, digit: u8) -> u64 {
@@ -184,7 +227,7 @@ fn put_number(s: &[u8], out: &mut [u64], from: usize) -> usize
 }
 
 // Numbers with commas between them, `VALUE*COUNT` for one that repeats, `-` for none; and how many.
-pub fn numbers(s: &[u8], out: &mut [u64]) -> usize
+fn numbers(s: &[u8], out: &mut [u64]) -> usize
     ensures { λ r. ⌜ Counts r (now (out .exit)) ⌝ }
 {
     if check::same(s, b"-") {
@@ -201,12 +244,19 @@ pub fn numbers(s: &[u8], out: &mut [u64]) -> usize
 }
 
 // The low 32 bits, and the low 8.
-pub fn low(n: u64) -> u32 {
+fn low(n: u64) -> u32 {
     (n % 4294967296) as u32
 }
 
 pub fn lowest(n: u64) -> u8 {
     (n % 256) as u8
+}
+
+// More than the longest packet, all the same byte. Lent where it is made, such an array takes seconds to prove.
+pub fn large(b: u8) -> [u8; 262400]
+    ensures { λ r. ⌜ 262400 ≡ length r ⌝ }
+{
+    [b; 262400]
 }
 
 // So many bytes as a buffer has.
@@ -229,7 +279,7 @@ fn narrow(numbers: &[u64], out: &mut [u32]) -> usize
 }
 
 // At most 256 numbers of 32 bits.
-pub fn words(s: &[u8], out: &mut [u32]) -> usize
+fn words(s: &[u8], out: &mut [u32]) -> usize
     ensures { λ r. ⌜ Counts r (now (out .exit)) ⌝ }
 {
     let mut wide = [0u64; 256];
@@ -251,7 +301,7 @@ fn put_bytes(s: &[u8], out: &mut [u8], from: usize) -> usize
 }
 
 // Bytes in parts with commas between them, each as digits or as `BYTE*COUNT`, `-` for none; and how many.
-pub fn bytes(s: &[u8], out: &mut [u8]) -> usize
+fn bytes(s: &[u8], out: &mut [u8]) -> usize
     ensures { λ r. ⌜ Counts r (now (out .exit)) ⌝ }
 {
     let mut n = 0;

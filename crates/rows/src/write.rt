@@ -8,35 +8,20 @@ use super::write_sdes;
 use super::write_single;
 
 fn answer(op: &[u8], line: &[u8], buf: &mut [u8]) {
-    if check::same(op, b"rr_write") {
-        write_report::rr(line, buf);
-        return;
+    let at = text::index_of(
+        op,
+        b"rr_write sr_write bye_write app_write sdes_write chunk_write item_write",
+    );
+    match at {
+        0 => write_report::rr(line, buf),
+        1 => write_report::sr(line, buf),
+        2 => write_single::bye(line, buf),
+        3 => write_single::app(line, buf),
+        4 => write_sdes::sdes(line, buf),
+        5 => write_sdes::chunk(line, buf),
+        6 => write_sdes::item(line, buf),
+        _ => print(b"no such operation; "),
     }
-    if check::same(op, b"sr_write") {
-        write_report::sr(line, buf);
-        return;
-    }
-    if check::same(op, b"bye_write") {
-        write_single::bye(line, buf);
-        return;
-    }
-    if check::same(op, b"app_write") {
-        write_single::app(line, buf);
-        return;
-    }
-    if check::same(op, b"sdes_write") {
-        write_sdes::sdes(line, buf);
-        return;
-    }
-    if check::same(op, b"chunk_write") {
-        write_sdes::chunk(line, buf);
-        return;
-    }
-    if check::same(op, b"item_write") {
-        write_sdes::item(line, buf);
-        return;
-    }
-    print(b"no such operation; ");
 }
 
 fn filled(line: &[u8], buf: &mut [u8]) {
@@ -45,8 +30,8 @@ fn filled(line: &[u8], buf: &mut [u8]) {
 }
 
 pub fn row(line: &[u8]) {
-    let wanted = text::number(text::nth(line, 2));
-    let mut space = [0x5Au8; 262400];
+    let wanted = text::number_at(line, 2);
+    let mut space = text::large(0x5A);
     let len = text::limited(wanted, &space);
     filled(line, &mut space[..len]);
 }

@@ -6,17 +6,17 @@ use rtcp::write_sdes;
 // `sdes_write LEN SSRCS COUNTS TYPES PREFIXES VALUES BYTES PADDING`.
 pub fn sdes(line: &[u8], buf: &mut [u8]) {
     let mut ssrcs = [0u32; 256];
-    let s = text::words(text::nth(line, 3), &mut ssrcs);
+    let s = text::words_at(line, 3, &mut ssrcs);
     let mut counts = [0u64; 256];
-    let c = text::numbers(text::nth(line, 4), &mut counts);
+    let c = text::numbers_at(line, 4, &mut counts);
     items_of(line, buf, &ssrcs[..s], &counts[..c]);
 }
 
 fn items_of(line: &[u8], buf: &mut [u8], ssrcs: &[u32], counts: &[u64]) {
     let mut types = [0u8; 2048];
-    let t = text::bytes(text::nth(line, 5), &mut types);
-    let mut bytes = [0u8; 262400];
-    let b = text::bytes(text::nth(line, 8), &mut bytes);
+    let t = text::bytes_at(line, 5, &mut types);
+    let mut bytes = text::large(0);
+    let b = text::bytes_at(line, 8, &mut bytes);
     lengths_of(line, buf, ssrcs, counts, &types[..t], &bytes[..b]);
 }
 
@@ -28,11 +28,11 @@ fn lengths_of(
     types: &[u8],
     bytes: &[u8],
 ) {
-    let padding = text::number(text::nth(line, 9));
+    let padding = text::number_at(line, 9);
     let mut prefixes = [0u64; 2048];
-    let p = text::numbers(text::nth(line, 6), &mut prefixes);
+    let p = text::numbers_at(line, 6, &mut prefixes);
     let mut values = [0u64; 2048];
-    let v = text::numbers(text::nth(line, 7), &mut values);
+    let v = text::numbers_at(line, 7, &mut values);
     sdes_of(
         buf,
         ssrcs,
@@ -71,18 +71,18 @@ fn sdes_of(
 // `chunk_write LEN SSRC TYPES PREFIXES VALUES BYTES`.
 pub fn chunk(line: &[u8], buf: &mut [u8]) {
     let mut types = [0u8; 2048];
-    let t = text::bytes(text::nth(line, 4), &mut types);
-    let mut bytes = [0u8; 262400];
-    let b = text::bytes(text::nth(line, 7), &mut bytes);
+    let t = text::bytes_at(line, 4, &mut types);
+    let mut bytes = text::large(0);
+    let b = text::bytes_at(line, 7, &mut bytes);
     chunk_lengths_of(line, buf, &types[..t], &bytes[..b]);
 }
 
 fn chunk_lengths_of(line: &[u8], buf: &mut [u8], types: &[u8], bytes: &[u8]) {
-    let ssrc = text::low(text::number(text::nth(line, 3)));
+    let ssrc = text::low_at(line, 3);
     let mut prefixes = [0u64; 2048];
-    let p = text::numbers(text::nth(line, 5), &mut prefixes);
+    let p = text::numbers_at(line, 5, &mut prefixes);
     let mut values = [0u64; 2048];
-    let v = text::numbers(text::nth(line, 6), &mut values);
+    let v = text::numbers_at(line, 6, &mut values);
     chunk_of(buf, ssrc, types, &prefixes[..p], &values[..v], bytes);
 }
 
@@ -101,14 +101,14 @@ fn chunk_of(
 // `item_write LEN TYPE PREFIX VALUE`.
 pub fn item(line: &[u8], buf: &mut [u8]) {
     let mut prefix = io::buffer();
-    let p = text::bytes(text::nth(line, 4), &mut prefix);
+    let p = text::bytes_at(line, 4, &mut prefix);
     let mut value = io::buffer();
-    let v = text::bytes(text::nth(line, 5), &mut value);
+    let v = text::bytes_at(line, 5, &mut value);
     item_of(line, buf, &prefix[..p], &value[..v]);
 }
 
 fn item_of(line: &[u8], buf: &mut [u8], prefix: &[u8], value: &[u8]) {
-    let type_ = text::lowest(text::number(text::nth(line, 3)));
+    let type_ = text::lowest(text::number_at(line, 3));
     written(write_sdes::rtcp_item_size(type_, prefix, value));
     written(write_sdes::rtcp_item_write(buf, type_, prefix, value));
 }
