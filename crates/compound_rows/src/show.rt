@@ -24,18 +24,30 @@ fn done(number: u64, first: u64, second: u64) -> bool {
     false
 }
 
-fn field(name: &[u8], value: u64) {
-    print(b" ");
-    print(name);
-    print(b"=");
-    io::print_decimal(1, value);
+fn value(values: &[u64], i: usize) -> u64 {
+    if i < values.len() { values[i] } else { 0 }
+}
+
+// The text, with the next of the values after each `=`.
+fn fields(text: &[u8], values: &[u64]) {
+    let mut at = 0;
+    let mut i = 0;
+    while at < text.len() {
+        let next = at + 1;
+        print(&text[at..next]);
+        if text[at] == b'=' {
+            io::print_decimal(1, value(values, i));
+            i += 1;
+        }
+        at = next;
+    }
 }
 
 pub fn compound(name: &[u8], r: RtcpCompound) {
     print(name);
     print(b": ");
     if done(r.number, r.first, r.second) {
-        field(b"n_packets", r.n_packets);
+        fields(b" n_packets=", &[r.n_packets]);
     }
     print(b"\n");
 }
@@ -43,29 +55,34 @@ pub fn compound(name: &[u8], r: RtcpCompound) {
 pub fn walk(r: RtcpWalk) {
     print(b"  open ");
     if done(r.number, r.first, r.second) {
-        field(b"at", r.at);
+        fields(b" at=", &[r.at]);
     }
     print(b"\n");
 }
 
-fn fields(r: RtcpStep) {
-    field(b"kind", r.kind);
-    field(b"type", r.packet_type);
-    field(b"count", r.count);
-    field(b"offset", r.offset);
-    field(b"len", r.len);
-    field(b"body", r.body);
-    field(b"padding", r.padding_len);
-    field(b"ssrc", r.ssrc);
-    field(b"ntp", r.ntp_timestamp);
-    field(b"rtp", r.rtp_timestamp);
-    field(b"packets", r.packet_count);
-    field(b"octets", r.octet_count);
-    field(b"extension", r.extension);
-    field(b"cname", r.has_cname);
-    field(b"has_reason", r.has_reason);
-    field(b"reason", r.reason);
-    field(b"reason_len", r.reason_len);
+fn packet(r: RtcpStep) {
+    fields(
+        b" kind= type= count= offset= len= body= padding= ssrc= ntp= rtp= packets= octets= extension= cname= has_reason= reason= reason_len=",
+        &[
+            r.kind,
+            r.packet_type,
+            r.count,
+            r.offset,
+            r.len,
+            r.body,
+            r.padding_len,
+            r.ssrc,
+            r.ntp_timestamp,
+            r.rtp_timestamp,
+            r.packet_count,
+            r.octet_count,
+            r.extension,
+            r.has_cname,
+            r.has_reason,
+            r.reason,
+            r.reason_len,
+        ],
+    );
 }
 
 // The walk comes back on a refusal too.
@@ -73,10 +90,9 @@ pub fn step(name: &[u8], r: RtcpStep) {
     print(name);
     print(b" ");
     if done(r.number, r.first, r.second) {
-        fields(r);
+        packet(r);
     }
-    field(b"at", r.at);
-    print(b"\n");
+    fields(b" at=\n", &[r.at]);
 }
 
 // And so does the writer.
@@ -85,11 +101,10 @@ pub fn call(name: &[u8], r: RtcpCall) -> RtcpWriter {
     print(name);
     print(b": ");
     done(r.number, r.first, r.second);
-    field(b"length", w.length);
-    field(b"padded", w.padded);
-    field(b"cname", w.cname);
-    field(b"closed", w.closed);
-    print(b"\n");
+    fields(
+        b" length= padded= cname= closed=\n",
+        &[w.length, w.padded, w.cname, w.closed],
+    );
     w
 }
 
