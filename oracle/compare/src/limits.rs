@@ -15,9 +15,9 @@ pub fn enumerate(visit: &mut dyn FnMut(Operation)) {
     lone_parts(visit);
     large_packets(visit);
     large_steps(visit);
-    block_lists(visit);
-    item_lists_read(visit);
-    packet_lists(visit);
+    fill_blocks(visit);
+    fill_items(visit);
+    fill_packets(visit);
     report_writes(visit);
     bye_writes(visit);
     app_writes(visit);
@@ -289,7 +289,7 @@ pub fn lists(listing: Listing, bytes: &[u8], visit: &mut dyn FnMut(Operation)) {
 
 /// Every count of blocks, in a packet that has them, lacks a word of them, or has
 /// more.
-fn block_lists(visit: &mut dyn FnMut(Operation)) {
+fn fill_blocks(visit: &mut dyn FnMut(Operation)) {
     for kind in [Kind::Sr, Kind::Rr] {
         for low in 0..32 {
             let end = kind.least() - 4 + 24 * usize::from(low);
@@ -304,7 +304,7 @@ fn block_lists(visit: &mut dyn FnMut(Operation)) {
 
 /// Every count of chunks, each with none to two items; short bodies exhaustively;
 /// and as many items as a packet has room for.
-fn item_lists_read(visit: &mut dyn FnMut(Operation)) {
+fn fill_items(visit: &mut dyn FnMut(Operation)) {
     let mut fill = |bytes: &[u8]| lists(Listing::Items, bytes, visit);
     let chunk = |i: u8| -> Vec<u8> {
         let items: [&[u8]; 3] = [&[0; 4], &[1, 1, 7, 0], &[8, 2, 1, 9, 2, 0, 0, 0]];
@@ -322,13 +322,13 @@ fn item_lists_read(visit: &mut dyn FnMut(Operation)) {
     strings(&SMALL, 4, &mut |tail| {
         fill(&packet(Kind::Sdes, 0x81, &[&[0, 0, 0, 1], tail].concat()));
     });
-    let mut rest = vec![2, 0].repeat(PACKET_LIMIT / 2 - 2);
+    let mut rest = [2, 0].repeat(PACKET_LIMIT / 2 - 2);
     rest[PACKET_LIMIT - 8..].fill(0);
     fill(&packet(Kind::Sdes, 0x81, &rest));
 }
 
 /// Datagrams of up to 40 packets, with and without a CNAME.
-fn packet_lists(visit: &mut dyn FnMut(Operation)) {
+fn fill_packets(visit: &mut dyn FnMut(Operation)) {
     let report = packet(Kind::Rr, 0x80, &[0; 4]);
     let cname = packet(Kind::Sdes, 0x81, &[0, 0, 0, 1, 1, 1, b'c', 0]);
     let unknown = [0x80, 195, 0, 0];
