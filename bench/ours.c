@@ -8,23 +8,24 @@ void setup(const struct Input *input) { (void)input; }
 
 const uint8_t *written(void) { return out; }
 
-/* The lists that the reading calls fill. */
+/* The lists that the reading calls fill, each long enough for every input. */
 static uint32_t blocks[7 * 31];
-static uint32_t rows[5 * 128];
+static uint32_t rows[ROOM / 2 * 5];
 static uint64_t packets[3 * 8];
 
 #define ROOM_OF(list) (sizeof list / sizeof list[0])
 
-static uint64_t numbers_sum(uint64_t n) {
+/* The seven numbers of each block. */
+static uint64_t blocks_sum(uint64_t n) {
     uint64_t sum = 0;
-    for (uint64_t i = 0; i < n; i++) sum += blocks[i];
+    for (const uint32_t *b = blocks; b < blocks + 7 * n; b += 7) sum += (uint64_t)b[0] + b[1] + b[2] + b[3] + b[4] + b[5] + b[6];
     return sum;
 }
 
 static uint64_t rr_sum(const uint8_t *packet, size_t len) {
-    struct RtcpRr rr = rtcp_rr_parse(packet, len);
+    struct RtcpRr rr = rtcp_rr_read(packet, len, blocks, ROOM_OF(blocks));
     if (rr.number != 0) return 0;
-    return rr.ssrc + numbers_sum(rtcp_rr_report_blocks(packet, len, blocks, ROOM_OF(blocks)).size);
+    return rr.ssrc + blocks_sum(rr.n_reports);
 }
 
 /* A row of type 0 ends a chunk. */
@@ -51,10 +52,9 @@ static uint64_t parse_rrsdes(void) {
 }
 
 static uint64_t parse_sr31(void) {
-    struct RtcpSr sr = rtcp_sr_parse(sr31.bytes, sr31.len);
+    struct RtcpSr sr = rtcp_sr_read(sr31.bytes, sr31.len, blocks, ROOM_OF(blocks));
     if (sr.number != 0) return 0;
-    return sr.ssrc + sr.ntp_timestamp + sr.rtp_timestamp + sr.packet_count + sr.octet_count +
-           numbers_sum(rtcp_sr_report_blocks(sr31.bytes, sr31.len, blocks, ROOM_OF(blocks)).size);
+    return sr.ssrc + sr.ntp_timestamp + sr.rtp_timestamp + sr.packet_count + sr.octet_count + blocks_sum(sr.n_reports);
 }
 
 static uint64_t parse_sdes31(void) { return sdes_sum(sdes31.bytes, sdes31.len); }

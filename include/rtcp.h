@@ -109,6 +109,17 @@ struct RtcpWritten rtcp_rr_report_blocks(const uint8_t *s, size_t len, uint32_t 
      struct RtcpWritten w = rtcp_sr_report_blocks(packet, len, blocks, 31 * 7); */
 struct RtcpWritten rtcp_sr_report_blocks(const uint8_t *s, size_t len, uint32_t *blocks, size_t blocks_len);
 
+/* A receiver report and all its blocks in one call, which reads the packet once: the answer of rtcp_rr_parse, and the list of
+   rtcp_rr_report_blocks, of which 7 * n_reports numbers are filled. Refusals: those of rtcp_rr_parse, then 10.
+     uint32_t blocks[31 * 7];
+     struct RtcpRr rr = rtcp_rr_read(packet, len, blocks, 31 * 7);
+     if (rr.number == 0) use(rr.ssrc, blocks, rr.n_reports); */
+struct RtcpRr rtcp_rr_read(const uint8_t *s, size_t len, uint32_t *blocks, size_t blocks_len);
+
+/* A sender report and all its blocks in one call. Refusals as rtcp_rr_read.
+     struct RtcpSr sr = rtcp_sr_read(packet, len, blocks, 31 * 7); */
+struct RtcpSr rtcp_sr_read(const uint8_t *s, size_t len, uint32_t *blocks, size_t blocks_len);
+
 /* ---- APP ---- */
 
 /* name is always 8 and name_len 4. */

@@ -26,6 +26,8 @@ static void reports(void) {
     CHECK(RtcpWritten, rtcp_rr_report_blocks(rr, sizeof rr, NULL, 0), 0, 0, 0, 0);
     CHECK(RtcpWritten, rtcp_rr_report_blocks(cname, sizeof cname, NULL, 0), 6, 202, 201, 0);
     CHECK(RtcpWritten, rtcp_sr_report_blocks(sr, sizeof sr, NULL, 0), 0, 0, 0, 0);
+    CHECK(RtcpRr, rtcp_rr_read(cname, sizeof cname, NULL, 0), 6, 202, 201, 0, 0, 0, 0, 0, 0);
+    CHECK(RtcpSr, rtcp_sr_read(sr, sizeof sr, NULL, 0), 0, 0, 0, 1, 0x200000003, 4, 5, 6, 0, 28, 0, 28, 0);
 }
 
 /* The blocks at once, into a list that is one number longer, just long enough, and too short. */
@@ -38,6 +40,10 @@ static void block_lists(void) {
     CHECK(RtcpWritten, rtcp_rr_report_blocks(one, sizeof one, list, 8), 0, 0, 0, 7);
     compare(__FILE__, "the list of blocks", list, numbers, sizeof numbers);
     CHECK(RtcpWritten, rtcp_rr_report_blocks(one, sizeof one, list, 7), 0, 0, 0, 7);
+    list[0] = 0;
+    CHECK(RtcpRr, rtcp_rr_read(one, sizeof one, list, 6), 10, 7, 0, 0, 0, 0, 0, 0, 0);
+    CHECK(RtcpRr, rtcp_rr_read(one, sizeof one, list, 8), 0, 0, 0, 1, 1, 32, 0, 32, 0);
+    compare(__FILE__, "the list of blocks", list, numbers, sizeof numbers);
 }
 
 static void descriptions(void) {

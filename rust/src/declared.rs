@@ -65,6 +65,8 @@ functions! {
     "rtcp_sr_report_block" rtcp_sr_report_block(s: &[u8], i: u64) -> RtcpBlock;
     "rtcp_rr_report_blocks" rtcp_rr_report_blocks(s: &[u8], blocks: &mut [u32]) -> RtcpWritten;
     "rtcp_sr_report_blocks" rtcp_sr_report_blocks(s: &[u8], blocks: &mut [u32]) -> RtcpWritten;
+    "rtcp_rr_read" rtcp_rr_read(s: &[u8], blocks: &mut [u32]) -> RtcpRr;
+    "rtcp_sr_read" rtcp_sr_read(s: &[u8], blocks: &mut [u32]) -> RtcpSr;
     "rtcp_app_parse" rtcp_app_parse(s: &[u8]) -> RtcpApp;
     "rtcp_bye_parse" rtcp_bye_parse(s: &[u8]) -> RtcpBye;
     "rtcp_bye_source" rtcp_bye_source(s: &[u8], i: u64) -> RtcpSource;

@@ -4,3 +4,4 @@ pub mod Compounds
 pub mod Listing
 pub mod Injective
 pub mod Rebuilt
+pub mod Plains

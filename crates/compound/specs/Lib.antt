@@ -2,3 +2,4 @@ pub mod Unknown
 pub mod Packet
 pub mod Compound
 pub mod Rebuilt
+pub mod Plain

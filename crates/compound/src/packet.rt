@@ -7,9 +7,11 @@ use bye::Bye;
 use bye::ParsedBye;
 use report::receiver::ParsedReceiverReport;
 use report::receiver::ReceiverReport;
+use report::report_block::ReportBlock;
 use report::sender::ParsedSenderReport;
 use report::sender::SenderReport;
 use sdes::sdes::ParsedSdes;
+use sdes::sdes::ScannedChunks;
 use sdes::sdes::Sdes;
 use utils::error::RtcpParseError;
 ghost use mathlib.Core.Path.{_≡_};
@@ -24,6 +26,7 @@ ghost use Rattle.sdes.specs.Sdes.{parsedSdesOf};
 ghost use Rattle.bye.specs.Bye.{parsedOf as byeOf};
 ghost use Rattle.app.specs.App.{parsedOf as appOf};
 ghost use Rattle.compound.specs.Unknown.{parsedUnknownOf};
+ghost use Rattle.compound.specs.Plain.{Told, Headed, PlainReport, PlainSdes};
 ghost use Rattle.compound.specs.Packet.{packetView, parsedOf, checkedOf, srPacket, rrPacket, sdesPacket, byePacket, appPacket, unknownPacket, named};
 
 pub enum Packet {
@@ -124,9 +127,54 @@ fn of_unknown(p: ParsedUnknown) -> ParsedPacket
     }
 }
 
+// A header of this type that is accepted, with no padding.
+fn plain_header(s: &[u8], packet_type: u8) -> bool
+    ensures { λ r. ⌜ Told r (Headed (now (s .entry)) «packet_type») ⌝ }
+{
+    if s.len() < 4 {
+        return false;
+    }
+    if s[0] / 32 != 4 {
+        return false;
+    }
+    if utils::parser::parse_packet_type(s) != packet_type {
+        return false;
+    }
+    utils::parser::parse_length(s) == s.len()
+}
+
+// A report that is accepted, with no padding.
+fn plain_report(s: &[u8], min_packet_len: usize, packet_type: u8) -> bool
+    requires { ⌜ «min_packet_len» ≤ 28 ⌝ }
+    ensures { λ r. ⌜ Told r (PlainReport (now (s .entry)) «min_packet_len» «packet_type») ⌝ }
+{
+    if !plain_header(s, packet_type) {
+        return false;
+    }
+    let n_reports = utils::parser::parse_count(s) as usize;
+    min_packet_len + ReportBlock::EXPECTED_SIZE * n_reports <= s.len()
+}
+
+// The chunks of a source description that is accepted, with no padding.
+fn plain_sdes(s: &[u8]) -> ScannedChunks
+    ensures { λ r. ⌜ Told (r .accepted) (PlainSdes (now (s .entry)) (r .«has_cname»)) ⌝ }
+{
+    if !plain_header(s, Sdes::PACKET_TYPE) {
+        return ScannedChunks {
+            accepted: false,
+            has_cname: false,
+        };
+    }
+    let n_chunks = utils::parser::parse_count(s) as usize;
+    sdes::sdes::scan_chunks_unchecked(s, n_chunks)
+}
+
 fn check_sr(s: &[u8]) -> CheckedKind
     ensures { λ r. ⌜ checkedOf r ≡ mapOk hasCname (readAs SR (now (s .entry))) ⌝ }
 {
+    if plain_report(s, SenderReport::MIN_PACKET_LEN, SenderReport::PACKET_TYPE) {
+        return CheckedKind::HasCname(false);
+    }
     match SenderReport::parse(s) {
         ParsedSenderReport::Report(_) => CheckedKind::HasCname(false),
         ParsedSenderReport::Refused(e) => CheckedKind::Refused(e),
@@ -136,6 +184,13 @@ fn check_sr(s: &[u8]) -> CheckedKind
 fn check_rr(s: &[u8]) -> CheckedKind
     ensures { λ r. ⌜ checkedOf r ≡ mapOk hasCname (readAs RR (now (s .entry))) ⌝ }
 {
+    if plain_report(
+        s,
+        ReceiverReport::MIN_PACKET_LEN,
+        ReceiverReport::PACKET_TYPE,
+    ) {
+        return CheckedKind::HasCname(false);
+    }
     match ReceiverReport::parse(s) {
         ParsedReceiverReport::Report(_) => CheckedKind::HasCname(false),
         ParsedReceiverReport::Refused(e) => CheckedKind::Refused(e),
@@ -145,6 +200,10 @@ fn check_rr(s: &[u8]) -> CheckedKind
 fn check_sdes(s: &[u8]) -> CheckedKind
     ensures { λ r. ⌜ checkedOf r ≡ mapOk hasCname (readAs SDES (now (s .entry))) ⌝ }
 {
+    let scanned = plain_sdes(s);
+    if scanned.accepted {
+        return CheckedKind::HasCname(scanned.has_cname);
+    }
     match Sdes::parse(s) {
         ParsedSdes::Sdes(sdes) => CheckedKind::HasCname(sdes.has_cname),
         ParsedSdes::Refused(e) => CheckedKind::Refused(e),

@@ -11,12 +11,18 @@ module _ {A R : Type 0} (result : Answer A → R) where
   pub coded : (c : Code) (e : RtcpParseError) → codeRefusal c ≡ parseRefusal e → result (refused (codeRefusal c)) ≡ result (refused (parseRefusal e))
   coded c e h = ap (λ (k : Refusal). result (refused k)) h
 
+  pub recoded : (c : Code) (e : RtcpParseError) (r : R) → r ≡ result (refused (codeRefusal c)) → codeRefusal c ≡ parseRefusal e → r ≡ result (refused (parseRefusal e))
+  recoded c e r p h = p ∙ coded c e h
+
   module _ {O : Type 0} (of : O → Answer A) where
     pub passed : (o : O) (x : Answer A) (r : R) → r ≡ result (of o) → of o ≡ x → r ≡ result x
     passed o x r p q = p ∙ ap result q
 
     pub handed : (value : A → O) → ((a : A) → of (value a) ≡ ok a) → (o : O) (a : A) (x : Answer A) → o ≡ value a → of o ≡ x → result (ok a) ≡ result x
     handed value h o a x p q = ap result (sym (h a) ∙ sym (ap of p) ∙ q)
+
+    pub given : (value : A → O) → ((a : A) → of (value a) ≡ ok a) → (o : O) (a : A) (x : Answer A) (r : R) → r ≡ result (ok a) → o ≡ value a → of o ≡ x → r ≡ result x
+    given value h o a x r k p q = k ∙ handed value h o a x p q
 
     pub turned : (refusing : RtcpParseError → O) → ((e : RtcpParseError) → of (refusing e) ≡ refused (parseRefusal e))
         → (o : O) (e : RtcpParseError) (x : Answer A) (r : R) → r ≡ result (refused (parseRefusal e)) → o ≡ refusing e → of o ≡ x → r ≡ result x

@@ -1,6 +1,7 @@
 -- Reports and their blocks as C gets them. A part is its offset in the caller's bytes and its length.
 use Prim.Native.Nat.{ℕ, _-_}
-use Rattle.rfc3550.specs.Answer.{Answer}
+use mathlib.Core.List.{List}
+use Rattle.rfc3550.specs.Answer.{Answer, ok, refused}
 use Rattle.report.specs.declared.report_block.ReportBlock.{ReportBlock}
 use Rattle.report.specs.declared.receiver.ReceiverReport.{ReceiverReport}
 use Rattle.report.specs.declared.sender.SenderReport.{SenderReport}
@@ -56,3 +57,13 @@ srResult a =
       padding = field (λ r. r .body) a;
       «padding_len» = field (λ r. r .padding) a;
     }
+
+-- ---- a report and its blocks in one call
+
+-- the report, or why its blocks are not handed over
+abbrev pub readOut : {A R : Type 0} → (Answer A → R) → Answer A → Answer ℕ → R
+readOut result a (ok n) = result a
+readOut result a (refused e) = result (refused e)
+
+abbrev pub readBoth : {A R : Type 0} → (Answer A → R) → Answer A → Answer ℕ × List ℕ → R × List ℕ
+readBoth result a w = (readOut result a (w .0), w .1)

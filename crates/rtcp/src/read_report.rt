@@ -4,17 +4,21 @@ use report::receiver::ParsedReceiverReport;
 use report::receiver::ReceiverReport;
 use report::report_block::ParsedReportBlock;
 use report::report_block::ReportBlock;
+use report::report_block::list_blocks_unchecked;
 use report::sender::ParsedSenderReport;
 use report::sender::SenderReport;
+use utils::error::Code;
 use utils::error::RtcpParseError;
+use utils::list::Listed;
 ghost use mathlib.Core.Path.{_≡_};
-ghost use Rattle.rfc3550.specs.Answer.{mapOk, refused};
+ghost use Prim.Native.Nat.{_≤_};
+ghost use Rattle.rfc3550.specs.Answer.{ok, refused, mapOk};
 ghost use Rattle.rfc3550.specs.Read.{RR, SR, readAs, readBlock, readBlockAt};
-ghost use Rattle.utils.specs.Error.{parseRefusal};
-ghost use Rattle.utils.specs.List.{layList};
+ghost use Rattle.utils.specs.Error.{parseRefusal, codeRefusal};
+ghost use Rattle.utils.specs.List.{listedOf, layList};
 ghost use Rattle.report.specs.Block.{parsedBlockOf, blockView};
 ghost use Rattle.report.specs.Report.{receiverView, senderView, reportNumbers};
-ghost use Rattle.rtcp.specs.Report.{blockResult, rrResult, srResult};
+ghost use Rattle.rtcp.specs.Report.{blockResult, rrResult, srResult, readOut, readBoth};
 ghost use Rattle.rtcp.specs.WriteResult.{handedOut};
 
 #[repr(C)]
@@ -108,7 +112,13 @@ impl RtcpRr {
     fn refused(e: RtcpParseError) -> RtcpRr
         ensures { λ r. ⌜ r ≡ rrResult (refused (parseRefusal e)) ⌝ }
     {
-        let code = e.code();
+        RtcpRr::coded(e.code())
+    }
+
+    // A refusal by its three numbers.
+    fn coded(code: Code) -> RtcpRr
+        ensures { λ r. ⌜ r ≡ rrResult (refused (codeRefusal code)) ⌝ }
+    {
         RtcpRr {
             number: code.number,
             first: code.first,
@@ -123,11 +133,89 @@ impl RtcpRr {
     }
 }
 
+impl RtcpRr {
+    fn from_report(rr: ReceiverReport) -> RtcpRr
+        requires { ⌜ rr .extension ≤ rr .body ⌝ }
+        ensures { λ r. ⌜ r ≡ rrResult (ok rr) ⌝ }
+    {
+        RtcpRr {
+            number: 0,
+            first: 0,
+            second: 0,
+            ssrc: rr.ssrc as u64,
+            n_reports: rr.n_reports as u64,
+            extension: rr.extension as u64,
+            extension_len: (rr.body - rr.extension) as u64,
+            padding: rr.body as u64,
+            padding_len: rr.padding as u64,
+        }
+    }
+
+    // A report whose blocks were handed over, or why they were not.
+    fn from_listed(rr: ReceiverReport, listed: Listed) -> RtcpRr
+        requires { ⌜ rr .extension ≤ rr .body ⌝ }
+        ensures { λ r. ⌜ r ≡ readOut rrResult (ok rr) (listedOf listed) ⌝ }
+    {
+        match listed {
+            Listed::Len(_) => RtcpRr::from_report(rr),
+            Listed::TooShort(needed) => RtcpRr::coded(Code {
+                number: 10,
+                first: needed as u64,
+                second: 0,
+            }),
+            Listed::Refused(e) => RtcpRr::refused(e),
+        }
+    }
+}
+
 impl RtcpSr {
+    fn from_report(sr: SenderReport) -> RtcpSr
+        requires { ⌜ sr .extension ≤ sr .body ⌝ }
+        ensures { λ r. ⌜ r ≡ srResult (ok sr) ⌝ }
+    {
+        RtcpSr {
+            number: 0,
+            first: 0,
+            second: 0,
+            ssrc: sr.ssrc as u64,
+            ntp_timestamp: sr.ntp_timestamp,
+            rtp_timestamp: sr.rtp_timestamp as u64,
+            packet_count: sr.packet_count as u64,
+            octet_count: sr.octet_count as u64,
+            n_reports: sr.n_reports as u64,
+            extension: sr.extension as u64,
+            extension_len: (sr.body - sr.extension) as u64,
+            padding: sr.body as u64,
+            padding_len: sr.padding as u64,
+        }
+    }
+
+    // A report whose blocks were handed over, or why they were not.
+    fn from_listed(sr: SenderReport, listed: Listed) -> RtcpSr
+        requires { ⌜ sr .extension ≤ sr .body ⌝ }
+        ensures { λ r. ⌜ r ≡ readOut srResult (ok sr) (listedOf listed) ⌝ }
+    {
+        match listed {
+            Listed::Len(_) => RtcpSr::from_report(sr),
+            Listed::TooShort(needed) => RtcpSr::coded(Code {
+                number: 10,
+                first: needed as u64,
+                second: 0,
+            }),
+            Listed::Refused(e) => RtcpSr::refused(e),
+        }
+    }
+
     fn refused(e: RtcpParseError) -> RtcpSr
         ensures { λ r. ⌜ r ≡ srResult (refused (parseRefusal e)) ⌝ }
     {
-        let code = e.code();
+        RtcpSr::coded(e.code())
+    }
+
+    // A refusal by its three numbers.
+    fn coded(code: Code) -> RtcpSr
+        ensures { λ r. ⌜ r ≡ srResult (refused (codeRefusal code)) ⌝ }
+    {
         RtcpSr {
             number: code.number,
             first: code.first,
@@ -158,17 +246,7 @@ pub extern "C" fn rtcp_rr_parse(s: &[u8]) -> RtcpRr
     ensures { λ r. ⌜ r ≡ rrResult (mapOk receiverView (readAs RR (now (s .entry)))) ⌝ }
 {
     match ReceiverReport::parse(s) {
-        ParsedReceiverReport::Report(rr) => RtcpRr {
-            number: 0,
-            first: 0,
-            second: 0,
-            ssrc: rr.ssrc as u64,
-            n_reports: rr.n_reports as u64,
-            extension: rr.extension as u64,
-            extension_len: (rr.body - rr.extension) as u64,
-            padding: rr.body as u64,
-            padding_len: rr.padding as u64,
-        },
+        ParsedReceiverReport::Report(rr) => RtcpRr::from_report(rr),
         ParsedReceiverReport::Refused(e) => RtcpRr::refused(e),
     }
 }
@@ -178,21 +256,7 @@ pub extern "C" fn rtcp_sr_parse(s: &[u8]) -> RtcpSr
     ensures { λ r. ⌜ r ≡ srResult (mapOk senderView (readAs SR (now (s .entry)))) ⌝ }
 {
     match SenderReport::parse(s) {
-        ParsedSenderReport::Report(sr) => RtcpSr {
-            number: 0,
-            first: 0,
-            second: 0,
-            ssrc: sr.ssrc as u64,
-            ntp_timestamp: sr.ntp_timestamp,
-            rtp_timestamp: sr.rtp_timestamp as u64,
-            packet_count: sr.packet_count as u64,
-            octet_count: sr.octet_count as u64,
-            n_reports: sr.n_reports as u64,
-            extension: sr.extension as u64,
-            extension_len: (sr.body - sr.extension) as u64,
-            padding: sr.body as u64,
-            padding_len: sr.padding as u64,
-        },
+        ParsedSenderReport::Report(sr) => RtcpSr::from_report(sr),
         ParsedSenderReport::Refused(e) => RtcpSr::refused(e),
     }
 }
@@ -225,4 +289,29 @@ pub extern "C" fn rtcp_sr_report_blocks(s: &[u8], blocks: &mut [u32]) -> RtcpWri
     ensures { λ r. ⌜ (r, now (blocks .exit)) ≡ handedOut (layList (mapOk reportNumbers (readAs SR (now (s .entry)))) (now (blocks .entry))) ⌝ }
 {
     RtcpWritten::from_listed(SenderReport::report_blocks(s, blocks))
+}
+
+// The report's own numbers, and its blocks as rtcp_rr_report_blocks lays them, in one reading of the packet.
+#[no_mangle]
+pub extern "C" fn rtcp_rr_read(s: &[u8], blocks: &mut [u32]) -> RtcpRr
+    ensures { λ r. ⌜ (r, now (blocks .exit)) ≡ readBoth rrResult (mapOk receiverView (readAs RR (now (s .entry)))) (layList (mapOk reportNumbers (readAs RR (now (s .entry)))) (now (blocks .entry))) ⌝ }
+{
+    let parsed = ReceiverReport::parse(s);
+    let ParsedReceiverReport::Report(rr) = parsed else {
+        return RtcpRr::refused(parsed.refusal());
+    };
+    let listed = list_blocks_unchecked(s, ReceiverReport::MIN_PACKET_LEN, rr.n_reports, blocks);
+    RtcpRr::from_listed(rr, listed)
+}
+
+#[no_mangle]
+pub extern "C" fn rtcp_sr_read(s: &[u8], blocks: &mut [u32]) -> RtcpSr
+    ensures { λ r. ⌜ (r, now (blocks .exit)) ≡ readBoth srResult (mapOk senderView (readAs SR (now (s .entry)))) (layList (mapOk reportNumbers (readAs SR (now (s .entry)))) (now (blocks .entry))) ⌝ }
+{
+    let parsed = SenderReport::parse(s);
+    let ParsedSenderReport::Report(sr) = parsed else {
+        return RtcpSr::refused(parsed.refusal());
+    };
+    let listed = list_blocks_unchecked(s, SenderReport::MIN_PACKET_LEN, sr.n_reports, blocks);
+    RtcpSr::from_listed(sr, listed)
 }

@@ -1,3 +1,4 @@
 pub mod Packets
 pub mod Walks
 pub mod Injective
+pub mod Scans

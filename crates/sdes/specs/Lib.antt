@@ -1,2 +1,3 @@
+pub mod Scan
 pub mod Sdes
 pub mod Walk

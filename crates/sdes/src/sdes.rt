@@ -1,20 +1,23 @@
 // A source description packet.
 use sdes_chunk::chunk::ParsedChunk;
 use sdes_chunk::chunk::SdesChunk;
+use sdes_chunk::item::SdesItem;
 use utils::error::RtcpParseError;
 use utils::parser;
 use utils::parser::CheckedPacket;
 ghost use mathlib.Core.Path.{_≡_};
 ghost use mathlib.Core.Bool.{_||_};
-ghost use Prim.Native.Nat.{_≤_};
-ghost use lib.Dec.{ltb};
-ghost use lib.ListN.{length, take, drop};
-ghost use Rattle.rfc3550.specs.Answer.{mapOk};
-ghost use Rattle.rfc3550.specs.Packet.{some, chunkHasCname};
-ghost use Rattle.rfc3550.specs.Read.{SDES, readChunks, readAs};
+ghost use Prim.Native.Nat.{_+_, _<_, _≤_};
+ghost use lib.Dec.{ltb, eqb};
+ghost use lib.ListN.{length, getD, take, drop};
+ghost use Rattle.rfc3550.specs.Answer.{ok, mapOk};
+ghost use Rattle.rfc3550.specs.Packet.{some, chunkHasCname, fill};
+ghost use Rattle.rfc3550.specs.Read.{SDES, readFill, readChunks, readAs};
 ghost use Rattle.rfc3550.specs.Walk.{openSdes, sdesStep};
 ghost use Rattle.utils.specs.Error.{parseRefusal, refusalIn};
 ghost use Rattle.utils.specs.Parts.{paddingIn};
+ghost use Rattle.sdes_chunk.specs.Chunk.{boundary};
+ghost use Rattle.sdes.specs.Scan.{Found, Skipped, ItemsEnded, ChunkEnded, Scanned};
 ghost use Rattle.sdes.specs.Sdes.{sdesView, parsedSdesOf, chunksReadOf};
 ghost use Rattle.sdes.specs.Walk.{chunkWalk, sdesWalk, chunkStepped, openedChunksOf, steppedChunkOf};
 
@@ -94,6 +97,175 @@ fn read_chunks(body: &[u8], n: usize) -> ReadChunks
     ReadChunks::HasCname(has_cname)
 }
 
+fn wide(b: u8) -> usize
+    ensures { λ r. ⌜ (r ≡ b) × (r < 256) ⌝ }
+{
+    b as usize
+}
+
+// The place after the item at a place; 0 where the item is refused, or nothing stands behind it.
+fn skip_item(chunk: &[u8], at: usize) -> usize
+    requires { ⌜ at + 1 < length (now chunk) ⌝ }
+    ensures { λ r. ⌜ Found r (Skipped (now (chunk .entry)) at r) ⌝ }
+{
+    let length = wide(chunk[at + 1]);
+    let end = at + 2 + length;
+    if chunk.len() <= end {
+        return 0;
+    }
+    if chunk[at] != SdesItem::PRIV {
+        return end;
+    }
+    if length == 0 {
+        return 0;
+    }
+    if length <= wide(chunk[at + 2]) {
+        return 0;
+    }
+    end
+}
+
+fn cname_seen(has_cname: bool, type_: u8) -> bool
+    ensures { λ r. ⌜ r ≡ («has_cname» || eqb «type_» 1) ⌝ }
+{
+    if has_cname {
+        true
+    } else {
+        type_ == SdesItem::CNAME
+    }
+}
+
+// Where the items of a chunk end, at a zero, and whether a CNAME is among them. The place is 0 where there is no such end.
+struct ScannedItems {
+    at: usize,
+    has_cname: bool,
+}
+
+fn scan_items(chunk: &[u8]) -> ScannedItems
+    requires { ⌜ 8 ≤ length (now chunk) ⌝ }
+    ensures { λ r. ⌜ Found (r .at) (ItemsEnded (now (chunk .entry)) (r .at) (r .«has_cname»)) ⌝ }
+{
+    let last = chunk.len() - 1;
+    let mut at = SdesChunk::MIN_LEN;
+    let mut has_cname = false;
+    while at < last {
+        let type_ = chunk[at];
+        if type_ == 0 {
+            return ScannedItems { at, has_cname };
+        }
+        let end = skip_item(chunk, at);
+        if end == 0 {
+            return ScannedItems { at: 0, has_cname };
+        }
+        has_cname = cname_seen(has_cname, type_);
+        at = end;
+    }
+    if chunk[at] != 0 {
+        return ScannedItems { at: 0, has_cname };
+    }
+    ScannedItems { at, has_cname }
+}
+
+// The word boundary above a zero, where zeros stand up to it; otherwise 0.
+fn skip_zeros(chunk: &[u8], from: usize) -> usize
+    requires { ⌜ (from < length (now chunk)) × (getD (now chunk) from 0 ≡ 0) ⌝ }
+    ensures { λ r. ⌜ Found r (ok r ≡ mapOk (boundary from) (readFill (fill from) from (drop from (now (chunk .entry))))) ⌝ }
+{
+    let end = from + (4 - from % 4);
+    if chunk.len() < end {
+        return 0;
+    }
+    let mut at = from + 1;
+    while at < end {
+        if chunk[at] != 0 {
+            return 0;
+        }
+        at += 1;
+    }
+    end
+}
+
+// The length of a chunk, 0 where it is refused, and whether it has a CNAME.
+struct ScannedChunk {
+    length: usize,
+    has_cname: bool,
+}
+
+fn scan_chunk(rest: &[u8]) -> ScannedChunk
+    ensures { λ r. ⌜ Found (r .length) (ChunkEnded (now (rest .entry)) (r .length) (r .«has_cname»)) ⌝ }
+{
+    if rest.len() < 8 {
+        return ScannedChunk {
+            length: 0,
+            has_cname: false,
+        };
+    }
+    let items = scan_items(rest);
+    let end = items.at;
+    let has_cname = items.has_cname;
+    if end == 0 {
+        return ScannedChunk {
+            length: 0,
+            has_cname,
+        };
+    }
+    let length = skip_zeros(rest, end);
+    ScannedChunk { length, has_cname }
+}
+
+// Whether the chunks of a body are accepted, and whether one of them has a CNAME.
+pub struct ScannedChunks {
+    pub accepted: bool,
+    pub has_cname: bool,
+}
+
+// Steps of numbers alone: a body that they do not accept is read by read_chunks, which says why it is refused.
+pub fn scan_chunks_unchecked(body: &[u8], n: usize) -> ScannedChunks
+    requires { ⌜ 4 ≤ length (now body) ⌝ }
+    ensures { λ r. ⌜ Scanned (now (body .entry)) n (r .accepted) (r .«has_cname») ⌝ }
+{
+    let mut at = Sdes::MIN_PACKET_LEN;
+    let mut left = n;
+    let mut has_cname = false;
+    while 0 < left {
+        let rest = &body[at..];
+        let scanned = scan_chunk(rest);
+        let length = scanned.length;
+        let cname = scanned.has_cname;
+        if length == 0 {
+            return ScannedChunks {
+                accepted: false,
+                has_cname,
+            };
+        }
+        has_cname = either(has_cname, cname);
+        at = at + length;
+        left = left - 1;
+    }
+    ScannedChunks {
+        accepted: body.len() <= at,
+        has_cname,
+    }
+}
+
+fn either(a: bool, b: bool) -> bool
+    ensures { λ r. ⌜ r ≡ (a || b) ⌝ }
+{
+    if a { true } else { b }
+}
+
+// The same as read_chunks, in fewer instructions where the chunks are accepted.
+fn check_chunks(body: &[u8], n: usize) -> ReadChunks
+    requires { ⌜ 4 ≤ length (now body) ⌝ }
+    ensures { λ r. ⌜ chunksReadOf r ≡ mapOk (some chunkHasCname) (readChunks n (length (now (body .entry))) (drop 4 (now (body .entry)))) ⌝ }
+{
+    let scanned = scan_chunks_unchecked(body, n);
+    if scanned.accepted {
+        return ReadChunks::HasCname(scanned.has_cname);
+    }
+    read_chunks(body, n)
+}
+
 impl Sdes {
     pub const MIN_PACKET_LEN: usize = 4;
 
@@ -107,7 +279,7 @@ impl Sdes {
             return ParsedSdes::Refused(checked.refusal());
         };
         let n_chunks = parser::parse_count(s) as usize;
-        let answer = read_chunks(&s[..body], n_chunks);
+        let answer = check_chunks(&s[..body], n_chunks);
         let ReadChunks::HasCname(has_cname) = answer else {
             return ParsedSdes::Refused(answer.refusal());
         };

@@ -23,7 +23,7 @@ use Rattle.sdes.specs.Sdes.{sdesView}
 use Rattle.sdes.proofs.Packets.{sdes-body, content-chunks}
 use Rattle.sdes_items.specs.declared.rows.Place.{Place}
 use Rattle.sdes_items.specs.Rows.{itemRow, itemRows, chunkRows, sdesRows}
-use Rattle.sdes_items.specs.Places.{chunkPlace, placeAfter, rowAt, Stands, RowsAt, rowsFrom}
+use Rattle.sdes_items.specs.Places.{chunkPlace, placeAfter, rowAt, Stands, ItemStands, RowsAt, rowsFrom}
 
 -- ---- one place
 
@@ -40,37 +40,46 @@ module _ (s : List ℕ) (p : Place) where
   pub after-item : (n : ℕ) → (getD s (p .at) 0 ≡ 0 → ⊥) → n ≡ getD s (p .at + 1) 0 → record { ssrc = p .ssrc; at = p .at + 2 + n } ≡ placeAfter s p
   after-item n z e = rw (ne-eqb _ _ z, e)
 
-  pub row-end : (t : ℕ) → t ≡ getD s (p .at) 0 → t ≡ 0 → p .ssrc ∷ 0 ∷ p .at ∷ 0 ∷ 0 ∷ [] ≡ rowAt s p
-  row-end t f z = rw (← f, z)
+  pub row-end : getD s (p .at) 0 ≡ 0 → p .ssrc ∷ 0 ∷ p .at ∷ 0 ∷ 0 ∷ [] ≡ rowAt s p
+  row-end z = rw z
 
   module _ (t n : ℕ) (f : t ≡ getD s (p .at) 0) (g : n ≡ getD s (p .at + 1) 0) (z : t ≡ 0 → ⊥) where
     pub row-plain : (t ≡ 8 → ⊥) → p .ssrc ∷ t ∷ (p .at + 2) ∷ 0 ∷ n ∷ [] ≡ rowAt s p
     row-plain h = rw (← f, ne-eqb _ _ z, ne-eqb _ _ h, g)
 
-    pub row-priv : (k : ℕ) → t ≡ 8 → k ≡ getD s (p .at + 2) 0 → p .ssrc ∷ t ∷ (p .at + 3 + k) ∷ k ∷ (n - 1 - k) ∷ [] ≡ rowAt s p
-    row-priv k h q = rw (← f, h, g, q)
+  pub row-priv : (n k : ℕ) → n ≡ getD s (p .at + 1) 0 → k ≡ getD s (p .at + 2) 0 → getD s (p .at) 0 ≡ 8 → p .ssrc ∷ 8 ∷ (p .at + 3 + k) ∷ k ∷ (n - 1 - k) ∷ [] ≡ rowAt s p
+  row-priv n k g q h = rw (h, g, q)
 
 -- the bytes that are read of an item are there, and its prefix fits
 module _ (s : List ℕ) (at : ℕ) (h : Stands s at) where
   pub stands-item : (getD s at 0 ≡ 0 → ⊥) → at + 1 < length s
   stands-item z = let w = h .whole z in omega arith
 
-  module _ (t : ℕ) (f : t ≡ getD s at 0) where
-    pub stands-type : (t ≡ 0 → ⊥) → at + 1 < length s
-    stands-type z = stands-item (λ e. z (f ∙ e))
+  module _ (e : getD s at 0 ≡ 8) where
+    pub priv-item : at + 1 < length s
+    priv-item = stands-item (λ z. absurd (omega arith))
 
-    module _ (n : ℕ) (e : t ≡ 8) (g : n ≡ getD s (at + 1) 0) where
-      fits : getD s (at + 2) 0 < n
-      fits = rw g (h .prefix (sym f ∙ e))
+    pub priv-prefix : at + 2 < length s
+    priv-prefix = let w = h .whole (λ z. absurd (omega arith)) in let k = h .prefix e in omega arith
 
-      pub stands-prefix : at + 2 < length s
-      stands-prefix = let w = h .whole (λ z. absurd (omega arith)) in let k = fits in omega arith
+    pub priv-one : (n : ℕ) → n ≡ getD s (at + 1) 0 → 1 ≤ n
+    priv-one n g = let k = h .prefix e in omega arith
 
-      pub stands-one : 1 ≤ n
-      stands-one = let k = fits in omega arith
+    pub priv-value : (n k : ℕ) → n ≡ getD s (at + 1) 0 → k ≡ getD s (at + 2) 0 → k ≤ n - 1
+    priv-value n k g q = let m = h .prefix e in omega arith
 
-      pub stands-value : (k : ℕ) → k ≡ getD s (at + 2) 0 → k ≤ n - 1
-      stands-value k q = let m = fits in omega arith
+module _ (s : List ℕ) (p : Place) (h : ItemStands s (p .at)) where
+  pub item-within : p .at < length s
+  item-within = h .stands .within
+
+  pub item-second : p .at + 1 < length s
+  item-second = stands-item s (p .at) (h .stands) (h .item)
+
+  pub item-after : (n : ℕ) → n ≡ getD s (p .at + 1) 0 → record { ssrc = p .ssrc; at = p .at + 2 + n } ≡ placeAfter s p
+  item-after n e = after-item s p n (h .item) e
+
+  pub item-row : (t n : ℕ) → t ≡ getD s (p .at) 0 → n ≡ getD s (p .at + 1) 0 → (t ≡ 8 → ⊥) → p .ssrc ∷ t ∷ (p .at + 2) ∷ 0 ∷ n ∷ [] ≡ rowAt s p
+  item-row t n f g z = row-plain s p t n f g (λ e. h .item (sym f ∙ e)) z
 
 -- behind an item something stands
 pub stands-next : (s : List ℕ) (p : Place) → Stands s (p .at) → (getD s (p .at) 0 ≡ 0 → ⊥) → placeAfter s p .at < length s
@@ -150,7 +159,7 @@ zero-here s p r e =
     let z : getD s (p .at) 0 ≡ 0 = first-at s (p .at) (0 ∷ r) e in
     record {
       stands = record { within = omega (arith, ap length e, length-drop (p .at) s); whole = λ h. absurd (h z); prefix = λ h. absurd (omega arith) };
-      is = sym (row-end s p _ refl z);
+      is = sym (row-end s p z);
       next = sym (after-zero s p _ z refl);
     }
 
@@ -177,7 +186,7 @@ item-here s p (priv q v) r e k z n =
     let m : p .at + length (itemBytes (priv q v)) ≡ p .at + 2 + suc (length (q ++ v)) = omega arith in
     record {
       stands = record { within = omega (arith, ap length e, length-drop (p .at) s); whole = λ b. rw g (omega (arith, ap length e, length-append (q ++ v) r, length-drop (p .at) s)); prefix = λ b. rw (g, h) (omega arith) };
-      is = sym (row-priv s p 8 (suc (length (q ++ v))) (sym f) (sym g) z (length q) refl (sym h)) ∙ rw d;
+      is = sym (row-priv s p (suc (length (q ++ v))) (length q) (sym g) (sym h) f) ∙ rw d;
       next = sym (after-item s p (suc (length (q ++ v))) y (sym g)) ∙ ap (λ (n : ℕ). record { ssrc = p .ssrc; at = n }) (sym m);
     }
 

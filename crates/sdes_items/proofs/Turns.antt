@@ -11,7 +11,7 @@ use lib.Seq.{length-take-le}
 use lib.Dec.{leb}
 use Rattle.rfc3550.specs.Answer.{Refusal, Answer, ok, refused, refusal, mapOk}
 use Rattle.rfc3550.specs.Bytes.{store}
-use Rattle.rfc3550.specs.Packet.{Packet}
+use Rattle.rfc3550.specs.Packet.{Packet, fill}
 use Rattle.rfc3550.specs.Read.{SDES, readAs}
 use Rattle.rfc3550.proofs.Answer.{mapOk-inv}
 use Rattle.rfc3550.proofs.Bytes.{length-store}
@@ -19,7 +19,7 @@ use Rattle.utils.specs.Error.{parseRefusal, refusalIn}
 use Rattle.utils.specs.List.{layIf, layList}
 use Rattle.utils.specs.declared.error.RtcpParseError.{RtcpParseError}
 use Rattle.utils.proofs.Reading.{mapOk-refused}
-use Rattle.utils.proofs.WriterStores.{store-nil, store-store, puts, store-puts}
+use Rattle.utils.proofs.WriterStores.{store-nil, store-store, store-over, puts, store-puts}
 use Rattle.sdes.specs.declared.sdes.Sdes.{Sdes}
 use Rattle.sdes.specs.declared.sdes.ParsedSdes.{ParsedSdes}
 use Rattle.sdes.specs.declared.sdes.ParsedSdes.the-variants as parsed
@@ -28,8 +28,8 @@ use Rattle.sdes.proofs.Packets.{padding-start}
 use Rattle.sdes_items.specs.declared.rows.Row.{Row}
 use Rattle.sdes_items.specs.declared.rows.Place.{Place}
 use Rattle.sdes_items.specs.Rows.{sdesRows}
-use Rattle.sdes_items.specs.Places.{rowOf, chunkPlace, placeAfter, rowAt, Stands, RowsAt, rowsFrom, Needed, Room, Laid, ItemsLaid, RowsLaid}
-use Rattle.sdes_items.proofs.Places.{chunk-none, chunk-some, after-zero, after-item, after-less, row-end, row-plain, row-priv, stands-item, stands-type, stands-prefix, stands-one, stands-value, stands-next, length-row, length-rows, after-more, rows-most, rows-one, Reads, packet-read, packet-most}
+use Rattle.sdes_items.specs.Places.{rowOf, chunkPlace, placeAfter, rowAt, Stands, ItemStands, RowsAt, rowsFrom, Needed, Room, Laid, ItemsLaid, RowsLaid}
+use Rattle.sdes_items.proofs.Places.{chunk-none, chunk-some, after-zero, after-item, after-less, row-end, row-priv, stands-item, priv-item, priv-prefix, priv-one, priv-value, item-within, item-second, item-after, item-row, stands-next, length-row, length-rows, after-more, rows-most, rows-one, Reads, packet-read, packet-most}
 
 -- ---- the count
 
@@ -89,6 +89,17 @@ row-laid r i l h = store-puts i (r .ssrc) (r .«type_» ∷ r .value ∷ r .pref
 
 pub row-stored : (r : Row) (s : List ℕ) (p : Place) (i : ℕ) (l l₁ : List ℕ) → rowOf r ≡ rowAt s p → l₁ ≡ store i (rowOf r) l → l₁ ≡ store i (rowAt s p) l
 row-stored r s p i l l₁ e q = q ∙ ap (λ (xs : List ℕ). store i xs l) e
+
+pub row-ended : (s : List ℕ) (p q : Place) (i : ℕ) (l l₁ : List ℕ) → getD s (p .at) 0 ≡ 0 → q ≡ chunkPlace s (p .at + fill (p .at)) → l₁ ≡ store i (p .ssrc ∷ 0 ∷ p .at ∷ 0 ∷ 0 ∷ []) l
+    → (q ≡ placeAfter s p) × (l₁ ≡ store i (rowAt s p) l)
+row-ended s p q i l l₁ z e h = (after-zero s p q z e, h ∙ ap (λ (xs : List ℕ). store i xs l) (row-end s p z))
+
+pub item-laid : (s : List ℕ) (p : Place) (t n i : ℕ) (l l₁ : List ℕ) → ItemStands s (p .at) → t ≡ getD s (p .at) 0 → n ≡ getD s (p .at + 1) 0 → (t ≡ 8 → ⊥)
+    → l₁ ≡ store i (p .ssrc ∷ t ∷ (p .at + 2) ∷ 0 ∷ n ∷ []) l → l₁ ≡ store i (rowAt s p) l
+item-laid s p t n i l l₁ h f g z q = q ∙ ap (λ (xs : List ℕ). store i xs l) (item-row s p h t n f g z)
+
+pub row-over : (r r₁ : Row) (s : List ℕ) (p : Place) (i : ℕ) (l l₁ l₂ : List ℕ) → i + 5 ≤ length l → rowOf r₁ ≡ rowAt s p → l₁ ≡ store i (rowOf r) l → l₂ ≡ store i (rowOf r₁) l₁ → l₂ ≡ store i (rowAt s p) l
+row-over r r₁ s p i l l₁ l₂ h e q q₁ = q₁ ∙ ap (store i (rowOf r₁)) q ∙ store-over i (rowOf r) (rowOf r₁) l (omega arith) h ∙ ap (λ (xs : List ℕ). store i xs l) e
 
 module _ (s : List ℕ) (p : Place) (i : ℕ) (l : List ℕ) where
   pub lay-start : Room s p l i → Laid s p i l p i l
@@ -152,6 +163,9 @@ items-start s p i l h r = record { within = h; on = omega arith; laid = lay-star
 module _ (s : List ℕ) (p : Place) (i : ℕ) (l : List ℕ) (q : Place) (j : ℕ) (l₁ : List ℕ) (g : ItemsLaid s p i l q j l₁) where
   pub items-stands : Stands s (q .at)
   items-stands = lay-stands s p i l q j l₁ (g .laid) (g .within)
+
+  pub items-item : (getD s (q .at) 0 ≡ 0 → ⊥) → ItemStands s (q .at)
+  items-item z = record { stands = items-stands; item = z }
 
   pub items-room : j + 5 ≤ length l₁
   items-room = lay-room s p i l q j l₁ (g .laid) (g .within)
@@ -242,4 +256,4 @@ module _ (s : List ℕ) (o : ParsedSdes) (h : parsedSdesOf o ≡ mapOk sdesView 
           let q = c .enough m in
           sym (laid ∙ in-room (sdesRows (found .0)) l r y (omega arith) ∙ ap (λ (xs : List ℕ). (ok r, store 0 xs l)) (sym (same (w .n) (w .rows))) ∙ ap (λ (k : List ℕ). (ok r, k)) (sym (w .laid)))
 
-pub ruleset rows = (needs, chunk-none, chunk-some, after-zero, after-item, after-less, row-end, row-plain, row-priv, stands-item, stands-type, stands-prefix, stands-one, stands-value, count-start, count-done, count-fits, count-stands, count-again, room-sure, room-counted, row-laid, row-stored, lay-left, lay-more, items-start, items-stands, items-room, items-within, items-again, chunk-laid, rows-start, rows-done, chunk-less, items-refused, padding-start, items-body, items-short, items-laid)
+pub ruleset rows = (needs, chunk-none, chunk-some, after-zero, after-item, after-less, row-end, row-priv, stands-item, priv-item, priv-prefix, priv-one, priv-value, item-within, item-second, item-after, item-row, count-start, count-done, count-fits, count-stands, count-again, room-sure, room-counted, row-laid, row-stored, row-ended, row-over, item-laid, items-item, lay-left, lay-more, items-start, items-stands, items-room, items-within, items-again, chunk-laid, rows-start, rows-done, chunk-less, items-refused, padding-start, items-body, items-short, items-laid)

@@ -36,6 +36,10 @@ pub record Stands (s : List ℕ) (at : ℕ) : Type 0 where
   pub whole : (getD s at 0 ≡ 0 → ⊥) → at + 2 + getD s (at + 1) 0 < length s
   pub prefix : getD s at 0 ≡ 8 → getD s (at + 2) 0 < getD s (at + 1) 0
 
+pub record ItemStands (s : List ℕ) (at : ℕ) : Type 0 where
+  pub stands : Stands s at
+  pub item : getD s at 0 ≡ 0 → ⊥
+
 -- n rows from a place on, and no more
 abbrev pub RowsAt : ℕ → List ℕ → Place → Type 0
 RowsAt zero s p = length s ≤ p .at

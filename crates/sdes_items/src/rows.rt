@@ -5,13 +5,13 @@ use utils::list::Listed;
 use utils::parser;
 ghost use mathlib.Core.Path.{_≡_};
 ghost use Prim.Native.Nat.{ℕ, _+_, _<_, _≤_};
-ghost use lib.ListN.{length};
+ghost use lib.ListN.{length, getD};
 ghost use Rattle.rfc3550.specs.Answer.{mapOk};
 ghost use Rattle.rfc3550.specs.Bytes.{store};
 ghost use Rattle.rfc3550.specs.Read.{SDES, readAs};
 ghost use Rattle.utils.specs.List.{listedOf, layList};
 ghost use Rattle.sdes_items.specs.Rows.{sdesRows};
-ghost use Rattle.sdes_items.specs.Places.{chunkPlace, Stands, RowsAt, placeAfter, rowAt, rowOf, Needed, Room, Laid, ItemsLaid, RowsLaid};
+ghost use Rattle.sdes_items.specs.Places.{chunkPlace, Stands, ItemStands, RowsAt, placeAfter, rowAt, rowOf, Needed, Room, Laid, ItemsLaid, RowsLaid};
 
 // The numbers of one row.
 struct Row {
@@ -63,36 +63,17 @@ fn after(body: &[u8], place: Place) -> Place
     }
 }
 
-fn read_row(body: &[u8], place: Place) -> Row
-    requires { ⌜ (length (now body) ≤ 262144) × Stands (now body) (place .at) ⌝ }
+// The row of a PRIV item.
+fn priv_row(body: &[u8], place: Place) -> Row
+    requires { ⌜ (length (now body) ≤ 262144) × Stands (now body) (place .at) × (getD (now body) (place .at) 0 ≡ 8) ⌝ }
     ensures { λ r. ⌜ rowOf r ≡ rowAt (now (body .entry)) place ⌝ }
 {
     let at = place.at;
-    let ssrc = place.ssrc;
-    let type_ = wide(body[at]);
-    if type_ == 0 {
-        return Row {
-            ssrc,
-            type_: 0,
-            value: at as u32,
-            prefix: 0,
-            length: 0,
-        };
-    }
     let length = wide(body[at + 1]);
-    if type_ != 8 {
-        return Row {
-            ssrc,
-            type_: type_ as u32,
-            value: (at + 2) as u32,
-            prefix: 0,
-            length: length as u32,
-        };
-    }
     let prefix = wide(body[at + 2]);
     Row {
-        ssrc,
-        type_: type_ as u32,
+        ssrc: place.ssrc,
+        type_: 8,
         value: (at + 3 + prefix) as u32,
         prefix: prefix as u32,
         length: (length - 1 - prefix) as u32,
@@ -110,15 +91,49 @@ fn write_row(rows: &mut [u32], i: usize, row: Row)
     rows[i + 4] = row.length;
 }
 
-// Lays the row of a place at index i, and gives the place of the next row.
-fn lay_row(body: &[u8], place: Place, rows: &mut [u32], i: usize) -> Place
-    requires { ⌜ (length (now body) ≤ 262144) × Stands (now body) (place .at) × (i + 5 ≤ length (now rows)) ⌝ }
+// Lays the row of an item at index i, and gives the place of the next row. A PRIV item's row is laid over a plain one, so that plain items
+// take no instruction for it.
+fn lay_item(body: &[u8], place: Place, rows: &mut [u32], i: usize) -> Place
+    requires { ⌜ (length (now body) ≤ 262144) × ItemStands (now body) (place .at) × (i + 5 ≤ length (now rows)) ⌝ }
     ensures { λ r. ⌜ (r ≡ placeAfter (now (body .entry)) place) × (now (rows .exit) ≡ store i (rowAt (now (body .entry)) place) (now (rows .entry))) ⌝ }
 {
-    let row = read_row(body, place);
-    let next = after(body, place);
+    let at = place.at;
+    let ssrc = place.ssrc;
+    let type_ = wide(body[at]);
+    let length = wide(body[at + 1]);
+    let end = at + 2 + length;
+    let next = Place { ssrc, at: end };
+    let plain = Row {
+        ssrc,
+        type_: type_ as u32,
+        value: (at + 2) as u32,
+        prefix: 0,
+        length: length as u32,
+    };
+    write_row(rows, i, plain);
+    if type_ != 8 {
+        return next;
+    }
+    let row = priv_row(body, place);
     write_row(rows, i, row);
     next
+}
+
+// Lays the row of a zero that ends a chunk's items, and gives the first place of the next chunk.
+fn lay_end(body: &[u8], place: Place, rows: &mut [u32], i: usize) -> Place
+    requires { ⌜ (length (now body) ≤ 262144) × Stands (now body) (place .at) × (getD (now body) (place .at) 0 ≡ 0) × (i + 5 ≤ length (now rows)) ⌝ }
+    ensures { λ r. ⌜ (r ≡ placeAfter (now (body .entry)) place) × (now (rows .exit) ≡ store i (rowAt (now (body .entry)) place) (now (rows .entry))) ⌝ }
+{
+    let at = place.at;
+    let row = Row {
+        ssrc: place.ssrc,
+        type_: 0,
+        value: at as u32,
+        prefix: 0,
+        length: 0,
+    };
+    write_row(rows, i, row);
+    chunk_place(body, at + (4 - at % 4))
 }
 
 // How many rows there are.
@@ -155,13 +170,13 @@ struct Spot {
 // Lays the rows of a chunk's items, up to the zero that ends them.
 fn lay_items(body: &[u8], first: Place, rows: &mut [u32], from: usize) -> Spot
     requires { ⌜ (length (now body) ≤ 262144) × (first .at < length (now body)) × Room (now body) first (now rows) from ⌝ }
-    ensures { λ r. ⌜ ItemsLaid (now (body .entry)) first from (now (rows .entry)) (r .place) (r .i) (now (rows .exit)) ⌝ }
+    ensures { λ r. ⌜ (getD (now (body .entry)) (r .place .at) 0 ≡ 0) × ItemsLaid (now (body .entry)) first from (now (rows .entry)) (r .place) (r .i) (now (rows .exit)) ⌝ }
 {
     let ssrc = first.ssrc;
     let mut at = first.at;
     let mut i = from;
     while body[at] != 0 {
-        let next = lay_row(body, Place { ssrc, at }, rows, i);
+        let next = lay_item(body, Place { ssrc, at }, rows, i);
         at = next.at;
         i += 5;
     }
@@ -177,7 +192,7 @@ fn lay_chunk(body: &[u8], first: Place, rows: &mut [u32], from: usize) -> Spot
     ensures { λ r. ⌜ (first .at < r .place .at) × Laid (now (body .entry)) first from (now (rows .entry)) (r .place) (r .i) (now (rows .exit)) ⌝ }
 {
     let end = lay_items(body, first, rows, from);
-    let place = lay_row(body, end.place, rows, end.i);
+    let place = lay_end(body, end.place, rows, end.i);
     Spot {
         place,
         i: end.i + 5,

@@ -2,33 +2,42 @@ use mathlib.Core.Path.{refl}
 use Rattle.report.specs.Report.{receiverOf}
 use Rattle.report.specs.declared.receiver.ParsedReceiverReport.the-variants as parsed
 use Rattle.rtcp.specs.Report.{rrResult}
-use Rattle.rtcp.proofs.Results.{handed, turned}
+use Rattle.rtcp.proofs.Results.{given, turned}
 use Rattle.rtcp.proofs.Reports.{reports}
 use borrow.Author.Needs.{needs}
 use Rattle.rtcp.proofs.read_report.rtcp_rr_parse.Statement.{statement}
 use Rattle.rtcp.proofs.read_report.rtcp_rr_parse.Tie as tie
+use Rattle.rtcp.proofs.read_report.rtcp_rr_parse.Reads as reads
+use Rattle.rtcp.proofs.read_report.rtcp_rr_parse.Lts as lts
+use Rattle.report.proofs.receiver.ReceiverReport.parse.Reads as parse-reads
+use Rattle.rtcp.proofs.read_report.RtcpRr.from_report.Reads as from-report-reads
+use Rattle.rtcp.proofs.read_report.RtcpRr.refused.Reads as refused-reads
 
+-- src/read_report.rt:265:11
 parse-requires : tie.Need-parse-requires
-parse-requires c κs = search needs
+parse-requires c κs = search reports
 
+-- src/read_report.rt:266:38
 enum-known-rr : tie.Need-enum-known-rr
-enum-known-rr c = search needs
+enum-known-rr c = search reports
 
-cast-t6 : tie.Need-cast-t6
-cast-t6 c = search needs
+-- src/read_report.rt:266:45
+from-report-requires : tie.Need-from-report-requires
+from-report-requires c κs = search reports
 
-sub-t9 : tie.Need-sub-t9
-sub-t9 c = search reports
-
+-- src/read_report.rt:267:39
 enum-known-e : tie.Need-enum-known-e
-enum-known-e c = search needs
+enum-known-e c = search reports
 
+-- src/read_report.rt:267:45
 refused-requires : tie.Need-refused-requires
-refused-requires c κs = search needs
+refused-requires c κs = search reports
 
+-- src/read_report.rt:261:1
 returns : tie.Need-returns
-returns c = search (needs, handed rrResult receiverOf parsed.Report (λ x. refl))
+returns c = search (needs, given rrResult receiverOf parsed.Report (λ x. refl))
 
+-- src/read_report.rt:261:1
 returns-2 : tie.Need-returns-2
 returns-2 c = search (needs, turned rrResult receiverOf parsed.Refused (λ e. refl))
 
@@ -38,8 +47,7 @@ rtcp-rr-parse-spec =
     (tie.spec
     parse-requires
     enum-known-rr
-    cast-t6
-    sub-t9
+    from-report-requires
     enum-known-e
     refused-requires
     returns

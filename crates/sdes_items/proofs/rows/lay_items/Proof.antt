@@ -7,7 +7,7 @@ use Rattle.sdes_items.proofs.rows.lay_items.Statement.{statement}
 use Rattle.sdes_items.proofs.rows.lay_items.Tie as tie
 use Rattle.sdes_items.proofs.rows.lay_items.Reads as reads
 use Rattle.sdes_items.proofs.rows.lay_items.Lts as lts
-use Rattle.sdes_items.proofs.rows.lay_row.Reads as lay-row-reads
+use Rattle.sdes_items.proofs.rows.lay_item.Reads as lay-item-reads
 
 abbrev Inv-loop : tie.InvT-loop
 Inv-loop body rows₀ from ssrc at₀ i₀ rows at i = ItemsLaid body (record { ssrc = ssrc; at = at₀ }) from rows₀ (record { ssrc = ssrc; at = at }) i rows
@@ -24,8 +24,8 @@ shared-slice-read-if1 : tie.Need-shared-slice-read-if1 Inv-loop μ-loop
 shared-slice-read-if1 c = search rows
 
 -- src/rows.rt:165:13
-lay-row-requires : tie.Need-lay-row-requires Inv-loop μ-loop
-lay-row-requires c κs = search rows
+lay-item-requires : tie.Need-lay-item-requires Inv-loop μ-loop
+lay-item-requires c κs = search rows
 
 -- src/rows.rt:167:9
 add-i : tie.Need-add-i Inv-loop μ-loop
@@ -36,11 +36,11 @@ loop-less : tie.Need-loop-less Inv-loop μ-loop
 loop-less c =
     let q = c .before .before .before .before .before .before in
     let a = q .before .before .before .args in
-    after-less (a .body .now) (record { ssrc = a .first .ssrc; at = q .loop .at }) _ (q .loop .inv .within) (c .before .before .lay-row .ensures .0)
+    after-less (a .body .now) (record { ssrc = a .first .ssrc; at = q .loop .at }) _ (q .loop .inv .within) (c .before .before .lay-item .ensures .0)
 
 -- src/rows.rt:164:5
 loop-again : tie.Need-loop-again Inv-loop μ-loop
-loop-again c = items-again _ _ _ _ _ _ _ (c .before .before .before .before .before .before .loop .inv) _ _ (c .before .before .lay-row .ensures) (c .before .before .before .before .if1 .taken)
+loop-again c = items-again _ _ _ _ _ _ _ (c .before .before .before .before .before .before .loop .inv) _ _ (c .before .before .lay-item .ensures) (c .before .before .before .before .if1 .taken)
 
 -- src/rows.rt:157:1
 same-length : tie.Need-same-length Inv-loop μ-loop
@@ -58,7 +58,7 @@ lay-items-spec =
     μ-loop
     loop-holds
     shared-slice-read-if1
-    lay-row-requires
+    lay-item-requires
     add-i
     loop-less
     loop-again

@@ -1,5 +1,5 @@
 use Rattle.rtcp.specs.Report.{rrResult}
-use Rattle.rtcp.proofs.Results.{coded}
+use Rattle.rtcp.proofs.Results.{recoded}
 use borrow.Author.Needs.{needs}
 use Rattle.rtcp.proofs.read_report.RtcpRr.refused.Statement.{statement}
 use Rattle.rtcp.proofs.read_report.RtcpRr.refused.Tie as tie
@@ -7,8 +7,11 @@ use Rattle.rtcp.proofs.read_report.RtcpRr.refused.Tie as tie
 code-requires : tie.Need-code-requires
 code-requires c κs = search needs
 
+coded-requires : tie.Need-coded-requires
+coded-requires c κs = search needs
+
 returns : tie.Need-returns
-returns c = coded rrResult (c .code .result) (c .before .args .e) (c .code .ensures)
+returns c = search (needs, recoded rrResult)
 
 pub refused-spec : {M : Type 1} → statement M
-refused-spec = tie.close (tie.spec code-requires returns)
+refused-spec = tie.close (tie.spec code-requires coded-requires returns)

@@ -23,11 +23,11 @@ parse-count-requires c κs = search packets
 cast-n-chunks : tie.Need-cast-n-chunks
 cast-n-chunks c = search packets
 
-slice-aggregate-read-chunks : tie.Need-slice-aggregate-read-chunks
-slice-aggregate-read-chunks c = search packets
+slice-aggregate-check-chunks : tie.Need-slice-aggregate-check-chunks
+slice-aggregate-check-chunks c = search packets
 
-read-chunks-requires : tie.Need-read-chunks-requires
-read-chunks-requires c κs = search packets
+check-chunks-requires : tie.Need-check-chunks-requires
+check-chunks-requires c κs = search packets
 
 enum-known-answer : tie.Need-enum-known-answer
 enum-known-answer c = search packets
@@ -58,8 +58,8 @@ parse-spec =
     returns
     parse-count-requires
     cast-n-chunks
-    slice-aggregate-read-chunks
-    read-chunks-requires
+    slice-aggregate-check-chunks
+    check-chunks-requires
     enum-known-answer
     enum-told-2
     refusal-requires-2
