@@ -1,6 +1,6 @@
 -- A packet with no padding that is accepted, from what was tested of it.
 use borrow.Author.Needs.{needs}
-use Prim.Native.Nat.{ℕ, _+_, _*_, _/_, _%_, _≤_}
+use Prim.Native.Nat.{ℕ, _+_, _*_, _/_, _≤_}
 use mathlib.Core.Path.{_≡_, refl, sym, ap, _∙_}
 use mathlib.Core.Bool.{Bool, true, false}
 use mathlib.Core.List.{List}
@@ -11,9 +11,9 @@ use lib.Dec.{leb, eqb}
 use lib.ListN.{length, getD, take, drop}
 use lib.Seq.{take-all}
 use Rattle.rfc3550.specs.Answer.{Answer, ok, refused, need, _>>_, mapOk}
-use Rattle.rfc3550.specs.Packet.{Content, sdes, some, chunkHasCname, Chunk, Reporter, Packet as Read, hasCname}
+use Rattle.rfc3550.specs.Packet.{sdes, some, chunkHasCname, Chunk, Reporter, hasCname}
 use Rattle.rfc3550.specs.Read.{Kind, SR, RR, SDES, least, ofKind, versionIn, padded, typeIn, lowIn, stated, paddingCount, paddingFits, checkHeader, checkPacket, readChunks, readAs}
-use Rattle.rfc3550.proofs.Answer.{true≢false, ok-injective, refused≢ok}
+use Rattle.rfc3550.proofs.Answer.{true≢false, refused≢ok}
 use Rattle.utils.proofs.Reading.{packetOf, contentIn, read-content}
 use Rattle.report.proofs.Reports.{Maker, sender-maker, receiver-maker, long}
 use Rattle.sdes.proofs.Packets.{content-chunks}

@@ -18,7 +18,7 @@ use Rattle.sdes_chunk.specs.declared.item.SdesItem.{SdesItem}
 use Rattle.sdes_chunk.specs.declared.item.ParsedItem.the-variants as parsed
 use Rattle.sdes_chunk.specs.declared.item.ItemEnd.the-variants as end
 use Rattle.sdes_chunk.specs.declared.chunk.ParsedChunk.the-variants as chunk
-use Rattle.sdes_chunk.specs.Item.{itemFirst, itemAt}
+use Rattle.sdes_chunk.specs.Item.{itemFirst}
 use Rattle.sdes_chunk.specs.Chunk.{boundary, closedAt, firstPlace, firstCname}
 use Rattle.sdes_chunk.proofs.Answers.{rest-is, map-ok}
 use Rattle.sdes_chunk.proofs.Items.{item-plain, priv-whole, end-read}
