@@ -98,7 +98,7 @@ module _ (w : Writer) (report : Bool) (checked : Written) (n : ℕ) where
 
 -- ---- an add, over the packet given
 
-abbrev unit : ℕ → Unit {0}
+abbrev pub unit : ℕ → Unit {0}
 unit k = tt
 
 room-tests : (x y : Bool) (d e k : ℕ) → (need x 10 d 0 >> need y 10 e 0) ≡ mapOk unit (need x 10 d 0 >> (need y 10 e 0 >> ok k))
@@ -117,27 +117,29 @@ all-tests true true true (refused r) rest f k e = refl
 all-tests true true true (ok u) rest f k e = e
 
 -- the definition's tests are those of the code
-add-tests : (w : Writer) (g : Given) (n : ℕ) → addTests w g n ≡ mapOk unit (admitted w (isReport (type (contentGiven g))) (calculateSize g) n)
+pub add-tests : (w : Writer) (g : Given) (n : ℕ) → addTests w g n ≡ mapOk unit (admitted w (isReport (type (contentGiven g))) (calculateSize g) n)
 unfolding addTests admitted fitted calculateSize
 add-tests w g n =
     all-tests (not (w .closed)) (not (w .padded)) (ltb 0 (w .len) || isReport (type (contentGiven g))) (tests g) _ _ (sizeGiven g)
     (room-tests (leb (w .len) n) (leb (w .len + sizeGiven g) n) (capped (w .len)) (capped (w .len + sizeGiven g)) (sizeGiven g))
 
--- what the code's tests leave known, of a check of any packet
+-- what the code's tests leave known, of a size of any packet
+pub admitted-known : (w : Writer) (report : Bool) (size : Answer ℕ) (n k : ℕ) → admitted w report size n ≡ ok k → (size ≡ ok k) × (w .len + k ≤ n)
+unfolding admitted fitted
+admitted-known w report size n k e =
+    let a = need-inv _ _ _ _ _ e in
+    let b = need-inv _ _ _ _ _ (a .1) in
+    let c = need-inv _ _ _ _ _ (b .1) in
+    bind-elim _ _ (c .1) (λ m z e₁.
+    let d = need-inv _ _ _ _ _ e₁ in
+    let f = need-inv _ _ _ _ _ (d .1) in
+    let i : m ≡ k = ok-injective (f .1) in
+    let h : w .len + m ≤ n = leb-true _ _ (f .0) in
+    (z ∙ ap ok i, omega arith))
+
 module _ (w : Writer) (report : Bool) (checked r : Written) (n k : ℕ) (tested : writtenOf r ≡ admitted w report (writtenOf checked) n) (q : r ≡ Size k) where
   room-known : (writtenOf checked ≡ ok k) × (w .len + k ≤ n)
-  unfolding admitted fitted
-  room-known =
-      let e : admitted w report (writtenOf checked) n ≡ ok k = sym tested ∙ ap writtenOf q in
-      let a = need-inv _ _ _ _ _ e in
-      let b = need-inv _ _ _ _ _ (a .1) in
-      let c = need-inv _ _ _ _ _ (b .1) in
-      bind-elim _ _ (c .1) (λ m z e₁.
-      let d = need-inv _ _ _ _ _ e₁ in
-      let f = need-inv _ _ _ _ _ (d .1) in
-      let i : m ≡ k = ok-injective (f .1) in
-      let h : w .len + m ≤ n = leb-true _ _ (f .0) in
-      (z ∙ ap ok i, omega arith))
+  room-known = admitted-known w report (writtenOf checked) n k (sym tested ∙ ap writtenOf q)
 
   pub checked-size : checked ≡ Size k
   checked-size = writtenOf-injective checked (Size k) (room-known .0)
@@ -179,13 +181,13 @@ module _ (g : Given) (w : Writer) (l : List ℕ) (report : Bool) (checked r : Wr
       rw (f, z) (store-part (w .len) (layout (packetGiven g)) l (omega arith)) in
       rw (t, s, i, c) (ap (λ (x : Answer (Unit {0}) × Writer). (x .0, x .1, store (w .len) (layout (packetGiven g)) l)) e)
 
+pub is-report : (r : Reporter) (bs : List Block) (k : ℕ) → isReport (type (contentGiven (giveReport r bs k))) ≡ true
+is-report (receiver ssrc) bs k = refl
+is-report (sender ssrc ntp rtp packets octets) bs k = refl
+
 -- a report whose blocks are lent as one flat list
 module _ (rep : Reporter) (xs : List ℕ) (p : ℕ) (w : Writer) (l : List ℕ) (checked r : Written)
     (own : writtenOf checked ≡ sizeBlocks rep (flatBlocks xs) p) (tested : writtenOf r ≡ admitted w true (writtenOf checked) (length l)) where
-  is-report : (s : Reporter) (bs : List Block) → isReport (type (contentGiven (giveReport s bs p))) ≡ true
-  is-report (receiver ssrc) bs = refl
-  is-report (sender ssrc ntp rtp packets octets) bs = refl
-
   or-true : (b : Bool) → (b || true) ≡ true
   or-true true = refl
   or-true false = refl
@@ -205,7 +207,7 @@ module _ (rep : Reporter) (xs : List ℕ) (p : ℕ) (w : Writer) (l : List ℕ) 
   flat-add-refused e o w₁ q h = go (flatBlocks xs) refl
     where
       go : (a : Answer (List Block)) → flatBlocks xs ≡ a → (o, w₁, l) ≡ addBlocks rep (flatBlocks xs) p w l
-      go (ok bs) f = rw f (add-refused (giveReport rep bs p) w l true checked r (is-report rep bs) (rw f at own) tested e o w₁ q h)
+      go (ok bs) f = rw f (add-refused (giveReport rep bs p) w l true checked r (is-report rep bs p) (rw f at own) tested e o w₁ q h)
       go (refused x) f =
           let c : writtenOf checked ≡ refused x = rw f at own in
           let d : turnedDown w x ≡ refused (writeRefusal e) = turned x e (sym (ap writtenOf q) ∙ tested ∙ ap (λ (a : Answer ℕ). admitted w true a (length l)) c) in
@@ -218,7 +220,7 @@ module _ (rep : Reporter) (xs : List ℕ) (p : ℕ) (w : Writer) (l : List ℕ) 
   flat-add-done k at o w₁ last q z e f =
       let c = checked-size w true checked r (length l) k tested q in
       let t : flatBlocks xs ≡ ok (blocksLent xs) = flat-ok xs (flat-accepted rep xs p checked k own c) in
-      rw t (add-done (giveReport rep (blocksLent xs) p) w l true checked r (is-report rep (blocksLent xs)) (rw t at own) tested k at false o w₁ last q z e refl f)
+      rw t (add-done (giveReport rep (blocksLent xs) p) w l true checked r (is-report rep (blocksLent xs) p) (rw t at own) tested k at false o w₁ last q z e refl f)
 
 -- an SDES that has a size: its lists agree, and it names what its items do
 module _ (l : Lists) (k n : ℕ) (checked : Written) (own : writtenOf checked ≡ calculateSize (giveSdes l k)) (q : checked ≡ Size n) where

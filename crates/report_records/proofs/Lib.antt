@@ -1,4 +1,4 @@
-pub mod Held
-pub mod Runs
-pub mod Records
+pub mod Again
+pub mod Laid
+pub mod Reports
 pub mod Injective
