@@ -12,6 +12,7 @@ use Rattle.rfc3550.specs.Packet.{blockWidths, blockFields, blocksBytes}
 use Rattle.rfc3550.proofs.Bytes.{length-be, length-store}
 use Rattle.utils.proofs.WriterStores.{store-nil, store-store, be-cons, be-one}
 use Rattle.report.specs.declared.«report_block».ReportBlock.{ReportBlock}
+use Rattle.report_write.proofs.Blocks.{length-block}
 use Rattle.report_records.specs.Records.{noBlock, blockOf, blocksLent, wordOf}
 
 -- ---- two stores
@@ -39,7 +40,7 @@ module _ (c : ℕ → List ℕ) (w at : ℕ) where
   laidUp (suc i) l = store (at + i * w) (c i) (laidUp i l)
 
 -- the first n pieces, as one
-pub joined : (ℕ → List ℕ) → ℕ → List ℕ
+joined : (ℕ → List ℕ) → ℕ → List ℕ
 joined c zero = []
 joined c (suc n) = joined c n ++ c n
 
@@ -55,7 +56,7 @@ module _ (c : ℕ → List ℕ) (w : ℕ) (wide : (i : ℕ) → length (c i) ≡
   length-joined (suc n) = length-append (joined c n) (c n) ∙ rw (length-joined n, wide n, suc-mul n w)
 
   module _ (at : ℕ) (l : List ℕ) where
-    pub laid-is : (n : ℕ) → at + n * w ≤ length l → laidUp c w at n l ≡ store at (joined c n) l
+    laid-is : (n : ℕ) → at + n * w ≤ length l → laidUp c w at n l ≡ store at (joined c n) l
     unfolding joined laidUp
     laid-is zero h = sym (store-nil at l)
     laid-is (suc n) h =
@@ -64,7 +65,7 @@ module _ (c : ℕ → List ℕ) (w : ℕ) (wide : (i : ℕ) → length (c i) ≡
         let m = suc-mul n w in
         ap (store (at + n * w) (c n)) (laid-is n (omega arith)) ∙ store-store at (at + n * w) (joined c n) (c n) l (omega arith) (omega arith)
 
-    pub laid-long : (n : ℕ) → at + n * w ≤ length l → length (laidUp c w at n l) ≡ length l
+    laid-long : (n : ℕ) → at + n * w ≤ length l → length (laidUp c w at n l) ≡ length l
     laid-long n h = let j = length-joined n in ap length (laid-is n h) ∙ length-store at (joined c n) l (omega arith)
 
 -- ---- the words of a block
@@ -93,10 +94,6 @@ words-joined b = words-apart b
 abbrev pub bytesAt : List ReportBlock → ℕ → List ℕ
 bytesAt bs i = blockBytes (getD bs i noBlock)
 
-length-block : (b : ReportBlock) → length (blockBytes b) ≡ 24
-unfolding put be
-length-block b = refl
-
 blocks-joined : (n : ℕ) (bs : List ReportBlock) → n ≤ length bs → joined (bytesAt bs) n ≡ blocksBytes (blocksLent (take n bs))
 unfolding joined blocksBytes
 blocks-joined zero bs h = refl
@@ -117,9 +114,9 @@ module _ (bs : List ReportBlock) (at : ℕ) (l : List ℕ) where
   pub blocks-laid : (n : ℕ) → n * 24 ≤ length l - at → n ≤ length bs → laidUp (bytesAt bs) 24 at n l ≡ store at (blocksBytes (blocksLent (take n bs))) l
   unfolding laidUp blocksBytes
   blocks-laid zero h f = sym (store-nil at l)
-  blocks-laid (suc n) h f = laid-is (bytesAt bs) 24 (λ i. length-block (getD bs i noBlock)) at l (suc n) (omega arith) ∙ ap (λ (r : List ℕ). store at r l) (blocks-joined (suc n) bs f)
+  blocks-laid (suc n) h f = laid-is (bytesAt bs) 24 (λ i. length-block (blockOf (getD bs i noBlock))) at l (suc n) (omega arith) ∙ ap (λ (r : List ℕ). store at r l) (blocks-joined (suc n) bs f)
 
   pub blocks-long : (n : ℕ) → n * 24 ≤ length l - at → (i : ℕ) → i ≤ n → length (laidUp (bytesAt bs) 24 at i l) ≡ length l
   unfolding laidUp
   blocks-long n h zero f = refl
-  blocks-long n h (suc i) f = laid-long (bytesAt bs) 24 (λ i. length-block (getD bs i noBlock)) at l (suc i) (omega arith)
+  blocks-long n h (suc i) f = laid-long (bytesAt bs) 24 (λ i. length-block (blockOf (getD bs i noBlock))) at l (suc i) (omega arith)

@@ -22,7 +22,7 @@ use Rattle.utils.specs.declared.error.RtcpWriteError.{RtcpWriteError}
 use Rattle.utils.specs.declared.writer.Written.{Written}
 use Rattle.utils.specs.declared.writer.Written.the-variants.{Size, Refused}
 use Rattle.utils.proofs.WriterStores.{store-nil}
-use Rattle.utils.proofs.WriterPackets.{writes, padding-most}
+use Rattle.utils.proofs.WriterPackets.{writes, refused-written, short-written, done-written, padding-most}
 use Rattle.report.specs.declared.«report_block».ReportBlock.{ReportBlock}
 use Rattle.report_write.specs.declared.sender.SenderInfo.{SenderInfo}
 use Rattle.report_write.specs.Report.{senderOf, countSize, lossesSize, reportSize, headLaid}
@@ -204,26 +204,25 @@ module _ (p : Reporter) where
     unfolding framed
     frame-done n l₁ e = e
 
-    module _ (w : Written) (c : Answer ℕ) (e : writtenOf w ≡ c) where
-      pub frame-refused : (x : RtcpWriteError) → w ≡ Refused x → l ≡ framed p count k (writtenOf w) l
-      unfolding framed
-      frame-refused x q = rw q
+    pub frame-refused : (w : Written) (x : RtcpWriteError) → w ≡ Refused x → l ≡ framed p count k (writtenOf w) l
+    unfolding framed
+    frame-refused w x q = rw q
 
 -- ---- 10
 
-module _ (w : Written) (c : Answer ℕ) (space : ℕ) (e : writtenOf w ≡ c) where
-  pub room-refused : (x : RtcpWriteError) → w ≡ Refused x → writtenOf w ≡ room c space
-  unfolding room _>>=_
-  room-refused x q = rw (← e, q)
+abbrev answered : Answer ℕ × List ℕ → Answer ℕ
+answered r = r .0
+
+module _ (w : Written) (c : Answer ℕ) (l : List ℕ) (e : writtenOf w ≡ c) where
+  pub room-refused : (x : RtcpWriteError) → w ≡ Refused x → writtenOf w ≡ room c (length l)
+  room-refused x q = ap answered (refused-written w c [] l e x q)
 
   module _ (n : ℕ) (q : w ≡ Size n) where
-    pub room-short : space < n → refused (refusal 10 n 0) ≡ room c space
-    unfolding room _>>=_ _>>_ need
-    room-short h = rw (← e, q, lt-leb _ _ h)
+    pub room-short : length l < n → refused (refusal 10 n 0) ≡ room c (length l)
+    room-short h = ap answered (short-written w c [] l e n q h)
 
-    pub room-sized : n ≤ space → ok n ≡ room c space
-    unfolding room _>>=_ _>>_ need
-    room-sized h = rw (← e, q, le-leb _ _ h)
+    pub room-sized : n ≤ length l → ok n ≡ room c (length l)
+    room-sized h = ap answered (done-written w c [] l e n (store 0 [] l) q h refl)
 
 room-ok : (c : Answer ℕ) (space n : ℕ) → room c space ≡ ok n → (c ≡ ok n) × (n ≤ space)
 unfolding room

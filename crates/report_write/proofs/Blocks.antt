@@ -20,7 +20,7 @@ use Rattle.report_write.specs.Report.{lossesSize}
 abbrev blockBytes : Block → List ℕ
 blockBytes b = put blockWidths (blockFields b)
 
-length-block : (b : Block) → length (put blockWidths (blockFields b)) ≡ 24
+pub length-block : (b : Block) → length (put blockWidths (blockFields b)) ≡ 24
 unfolding put be
 length-block b = refl
 

@@ -45,11 +45,6 @@ module _ (least n k : ℕ) where
     unfolding countSize need _>>_
     count-fine q = simp (le-leb _ _ h, ← e, q)
 
--- what has a size has at most 31
-pub count-known : (least n k : ℕ) (w : Written) (m : ℕ) → writtenOf w ≡ countSize least n k → w ≡ Size m → n ≤ 31
-unfolding countSize
-count-known least n k w m e q = leb-true _ _ (need-inv _ _ _ _ _ (sym e ∙ ap writtenOf q) .0)
-
 module _ (least : ℕ) (bs : List Block) (k : ℕ) (w : Written) (e : writtenOf w ≡ countSize least (length bs) k) where
   pub count-refused : (x : RtcpWriteError) → w ≡ Refused x → writtenOf w ≡ reportSize least bs k
   unfolding reportSize _>>=_
