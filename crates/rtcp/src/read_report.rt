@@ -131,9 +131,7 @@ impl RtcpRr {
             padding_len: 0,
         }
     }
-}
 
-impl RtcpRr {
     fn from_report(rr: ReceiverReport) -> RtcpRr
         requires { ⌜ rr .extension ≤ rr .body ⌝ }
         ensures { λ r. ⌜ r ≡ rrResult (ok rr) ⌝ }

@@ -8,10 +8,10 @@ use utils::parser::CheckedPacket;
 ghost use mathlib.Core.Path.{_≡_};
 ghost use mathlib.Core.Bool.{_||_};
 ghost use Prim.Native.Nat.{_+_, _<_, _≤_};
-ghost use lib.Dec.{ltb, eqb};
+ghost use lib.Dec.{ltb};
 ghost use lib.ListN.{length, getD, take, drop};
 ghost use Rattle.rfc3550.specs.Answer.{ok, mapOk};
-ghost use Rattle.rfc3550.specs.Packet.{some, chunkHasCname, fill};
+ghost use Rattle.rfc3550.specs.Packet.{some, isCname, chunkHasCname, fill};
 ghost use Rattle.rfc3550.specs.Read.{SDES, readFill, readChunks, readAs};
 ghost use Rattle.rfc3550.specs.Walk.{openSdes, sdesStep};
 ghost use Rattle.utils.specs.Error.{parseRefusal, refusalIn};
@@ -125,8 +125,9 @@ fn skip_item(chunk: &[u8], at: usize) -> usize
     end
 }
 
-fn cname_seen(has_cname: bool, type_: u8) -> bool
-    ensures { λ r. ⌜ r ≡ («has_cname» || eqb «type_» 1) ⌝ }
+// By an item's type and length, as `SdesItem::is_cname`.
+fn cname_seen(has_cname: bool, type_: u8, length: usize) -> bool
+    ensures { λ r. ⌜ r ≡ («has_cname» || isCname «type_» length) ⌝ }
 {
     if has_cname {
         true
@@ -157,7 +158,7 @@ fn scan_items(chunk: &[u8]) -> ScannedItems
         if end == 0 {
             return ScannedItems { at: 0, has_cname };
         }
-        has_cname = cname_seen(has_cname, type_);
+        has_cname = cname_seen(has_cname, type_, wide(chunk[at + 1]));
         at = end;
     }
     if chunk[at] != 0 {

@@ -195,7 +195,7 @@ impl ItemEnd {
     }
 }
 
-// The item step: every loop and every walk over items goes on by it.
+// The item step: whatever can refuse an item, and every walk over items, goes on by it.
 pub fn item_end(chunk: &[u8], at: usize) -> ItemEnd
     ensures { λ r. ⌜ itemEndOf r ≡ mapOk (itemAt at) (readItem (drop at (now (chunk .entry)))) ⌝ }
 {

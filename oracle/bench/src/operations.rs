@@ -62,9 +62,7 @@ pub fn main() -> u8 {
             let builder = compound(&fields);
             finish(count, || write(&builder, &mut out))
         }
-        ("build", "compound") => {
-            finish(count, || write(&compound(black_box(&fields)), &mut out))
-        }
+        ("build", "compound") => finish(count, || write(&compound(black_box(&fields)), &mut out)),
         ("build", "rrsdes") => finish(count, || {
             write_both(&rr(black_box(&fields)), &sdes(black_box(&fields)), &mut out)
         }),
