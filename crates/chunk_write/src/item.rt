@@ -57,7 +57,8 @@ fn write_priv(buf: &mut [u8], prefix: &[u8], value: &[u8])
     writer::write_bytes_unchecked(buf, 3 + p, value);
 }
 
-fn write_plain(buf: &mut [u8], item_type: u8, value: &[u8])
+// Lays an item that is not PRIV at the start of buf.
+pub fn write_plain_unchecked(buf: &mut [u8], item_type: u8, value: &[u8])
     requires { ⌜ (length (now value) ≤ 255) × (2 + length (now value) ≤ length (now buf)) ⌝ }
     ensures { λ _. ⌜ now (buf .exit) ≡ store 0 (itemBytes (item «item_type» (now (value .entry)))) (now (buf .entry)) ⌝ }
 {
@@ -75,7 +76,7 @@ pub fn write_into_unchecked(buf: &mut [u8], item_type: u8, prefix: &[u8], value:
         write_priv(buf, prefix, value);
         return 3 + prefix.len() + value.len();
     }
-    write_plain(buf, item_type, value);
+    write_plain_unchecked(buf, item_type, value);
     2 + value.len()
 }
 

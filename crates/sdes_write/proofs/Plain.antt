@@ -18,16 +18,16 @@ use Rattle.rfc3550.proofs.Answer.{then-inv, bind-elim, ok-injective}
 use Rattle.rfc3550.proofs.Bytes.{length-be, length-store}
 use Rattle.utils.specs.Writer.{writtenOf, header}
 use Rattle.utils.specs.declared.writer.Written.the-variants.{Size}
-use Rattle.utils.proofs.WriterStores.{store-nil, store-store, store-puts}
-use Rattle.utils.proofs.WriterPackets.{write-done, parts-laid, header-last}
+use Rattle.utils.proofs.WriterStores.{store-nil, store-part}
+use Rattle.utils.proofs.WriterPackets.{write-done, header-last}
 use Rattle.chunk_write.specs.Sizes.{lent, itemLength, sizeOf, sizesOf}
 use Rattle.chunk_write.specs.Lists.{part, Listed, Within, PartFits, lentAt, PartLaid, laidItems, ItemsFit, ItemsLaidAt, laidChunk, closed, ChunkFits}
 use Rattle.chunk_write.specs.declared.chunk.Laid.{Laid}
 use Rattle.chunk_write.proofs.Items.{plain-size}
-use Rattle.chunk_write.proofs.Chunks.{LayingPart, range-start, range-fits, range-again, range-done, length-chunk, sizes-are}
+use Rattle.chunk_write.proofs.Chunks.{LayingPart, range-start, range-fits, range-again, range-done, chunk-items, chunk-start, chunk-laid, sizes-are}
 use Rattle.sdes_write.specs.Packets.{lists, chunkFrom, chunksFrom, ChunkFitsAt, ChunkLaidAt, ChunksFit, laidChunks, SdesFits}
 use Rattle.sdes_write.specs.Plain.{Plain, PlainItems, ItemsIf, SdesIf, PlainSdes}
-use Rattle.sdes_write.proofs.Packets.{sdess, sum-split, chunk-most, chunks-are, AllAgreed, all-agreed, Chunking, chunking-start, chunking-add, chunking-fits, chunking-again, chunking-size, chunking-done, sdes-size, sdes-fits, sdes-chunks, sdes-laid}
+use Rattle.sdes_write.proofs.Packets.{sdess, sum-split, chunk-most, chunks-are, AllAgreed, all-agreed, chunking-size, sdes-size, sdes-fits, sdes-chunks, sdes-laid}
 
 -- ---- what a plain packet's sizes are
 
@@ -102,22 +102,29 @@ agreed-listed ss cs ts ps vs bs t e q = let a = all-agreed ss cs ts ps vs bs t e
 -- ---- one item
 
 module _ (t v from : ℕ) (bs : List ℕ) (at : ℕ) (l : List ℕ) (o : Plain t 0 v) (f : PartFits t 0 v from (length bs) at (length l)) where
+  abbrev value : List ℕ
+  value = take (from + v - from) (drop from bs)
+
   item-room : at + (2 + v) ≤ length l
   item-room = rw (ne-eqb t 8 (o .other)) at (f .room)
 
-  pub item-known : (from + v ≤ length bs) × (at + 2 + v ≤ length l) × (v ≤ 255)
-  item-known = (omega (arith, f .bytes), omega (arith, item-room), o .fits)
+  length-value : length value ≡ v
+  length-value = let z = add-sub-cancel-left from v in rw z (length-take-le v (drop from bs) (rw length-drop (omega (arith, f .bytes))))
 
-  pub item-laid : (l₁ : List ℕ) → l₁ ≡ store (at + 2) (take (from + v - from) (drop from bs)) (set (set l at t) (at + 1) v) → PartLaid t 0 v from bs at l (2 + v) l₁
-  item-laid l₁ e =
+  pub item-fits : (length value ≤ 255) × (2 + length value ≤ length (take (length l - at) (drop at l)))
+  item-fits =
       let n = item-room in
-      let lv : length (take v (drop from bs)) ≡ v = length-take-le v (drop from bs) (rw length-drop (omega (arith, f .bytes))) in
-      let z : from + v - from ≡ v = add-sub-cancel-left from v in
-      let p : from + 0 ≡ from = add-zero from in
-      let s : set (set l at t) (at + 1) v ≡ store at (t ∷ v ∷ []) l = store-puts at t (v ∷ []) l (omega arith) in
-      let b : l₁ ≡ store at (t ∷ v ∷ take v (drop from bs)) l = (rw z at e) ∙ rw s (store-store at (at + 2) (t ∷ v ∷ []) (take v (drop from bs)) l refl (omega arith)) in
-      let i : itemBytes (itemGiven (lentAt t 0 v from bs)) ≡ t ∷ v ∷ take v (drop from bs) = rw (ne-eqb t 8 (o .other), p) (ap (λ (x : ℕ). t ∷ x ∷ take v (drop from bs)) lv) in
-      record { size = rw (ne-eqb t 8 (o .other)); bytes = rw i b; ends = omega arith; taken = omega (arith, f .bytes) }
+      let k = length-value in
+      let m : length (take (length l - at) (drop at l)) ≡ length l - at = length-take-le (length l - at) (drop at l) (rw length-drop (omega arith)) in
+      (omega (arith, o .fits), omega arith)
+
+  pub item-laid : (last : List ℕ) → last ≡ store 0 (itemBytes (item t value)) (take (length l - at) (drop at l)) → PartLaid t 0 v from bs at l (2 + v) (take at l ++ (last ++ drop (length l - at) (drop at l)))
+  item-laid last e =
+      let n = item-room in
+      let k = length-value in
+      let z : value ≡ take v (drop (from + 0) bs) = rw (add-sub-cancel-left from v, add-zero from) in
+      let i : itemBytes (itemGiven (lentAt t 0 v from bs)) ≡ itemBytes (item t value) = rw (ne-eqb t 8 (o .other), z) in
+      record { size = rw (ne-eqb t 8 (o .other)); bytes = rw (i, e) (store-part at (itemBytes (item t value)) l (omega arith)); ends = omega arith; taken = omega (arith, f .bytes) }
 
 -- ---- items one after the other
 
@@ -136,88 +143,6 @@ module _ (o : ℕ) (ts ps vs bs l : List ℕ) (i₀ j from₀ : ℕ) (g : PlainI
     plain-again r l₂ y =
         let z : from + 0 + v ≡ from + v = omega arith in
         rw z at (range-again o ts ps vs bs l i₀ j from₀ b q f i at from l₁ w h 0 v (sym (here .none)) ev r l₂ y)
-
--- ---- one chunk among others
-
-module _ (ts ps vs bs : List ℕ) (i j from at : ℕ) (l : List ℕ) (f : ChunkFitsAt ts ps vs bs i j from at (length l)) where
-  abbrev ts₁ : List ℕ
-  ts₁ = take (j - i) (drop i ts)
-
-  abbrev ps₁ : List ℕ
-  ps₁ = take (j - i) (drop i ps)
-
-  abbrev vs₁ : List ℕ
-  vs₁ = take (j - i) (drop i vs)
-
-  pub chunk-within : Within ts ps vs bs i j from
-  chunk-within = record { order = f .order; within = f .within; lists = f .listed; bytes = f .bytes }
-
-  pub chunk-starts : at + 4 ≤ length l
-  chunk-starts = omega (arith, f .fits .room, f .start)
-
-  pub chunk-items-fit : (n : ℕ) → n ≡ length l → ItemsFit (part i j ts) (part i j ps) (part i j vs) (drop from bs) (n - (at + 4))
-  chunk-items-fit n e = record { listed = f .fits .listed; bytes = f .fits .bytes; tests = f .fits .tests; room = omega (arith, f .fits .room, f .start) }
-
-  module _ (d : at % 4 ≡ 0) (ssrc : ℕ) (l₁ l₂ : List ℕ) (r : Laid) (e₁ : l₁ ≡ store at (be 4 ssrc) l) (y : ItemsLaidAt (at + 4) (part i j ts) (part i j ps) (part i j vs) (drop from bs) l₁ r l₂) where
-    ends-at : r .size ≡ at + 4 + length (laidItems ts₁ ps₁ vs₁ (drop from bs))
-    ends-at = y .size
-
-    same-fill : 4 - r .size % 4 ≡ 4 - (r .size - at) % 4
-    same-fill = let e = ends-at in omega arith
-
-    pub fill-room : (n : ℕ) → n ≡ length l → (0 < 4 - r .size % 4) × (4 - r .size % 4 ≤ 4) × (r .size + (4 - r .size % 4) ≤ n)
-    fill-room n e = let z = ends-at in let g = f .fits .room in let s = f .start in (omega arith, omega arith, omega arith)
-
-    pub plain-chunk-laid : (l₃ : List ℕ) → l₃ ≡ store (r .size) (replicate (4 - r .size % 4) 0) l₂ → ChunkLaidAt ssrc ts ps vs bs i j from at l (record { size = r .size + (4 - r .size % 4) - at; used = r .used }) l₃
-    unfolding chunkBytes
-    plain-chunk-laid l₃ e₃ =
-        let g = f .fits .room in
-        let st = f .start in
-        let b = length-be 4 ssrc in
-        let n : length l₁ ≡ length l = ap length e₁ ∙ length-store at (be 4 ssrc) l (omega arith) in
-        let s = ends-at in
-        let z : length (replicate {A = ℕ} (4 - r .size % 4) 0) ≡ 4 - r .size % 4 = length-replicate _ _ in
-        let p₁ = parts-laid (at + 4) (r .size) (laidItems ts₁ ps₁ vs₁ (drop from bs)) (replicate (4 - r .size % 4) 0) l₁ l₂ l₃ (y .bytes) e₃ (omega arith) (omega arith) in
-        let k : length (laidItems ts₁ ps₁ vs₁ (drop from bs) ++ replicate (4 - r .size % 4) 0) ≡ r .size - at - 4 + (4 - r .size % 4) = length-append (laidItems ts₁ ps₁ vs₁ (drop from bs)) (replicate (4 - r .size % 4) 0) ∙ omega arith in
-        let p₂ = parts-laid at (at + 4) (be 4 ssrc) (laidItems ts₁ ps₁ vs₁ (drop from bs) ++ replicate (4 - r .size % 4) 0) l l₁ l₃ e₁ p₁ (omega arith) (omega arith) in
-        let m : 4 - r .size % 4 ≡ 4 - (4 + length (laidItems ts₁ ps₁ vs₁ (drop from bs))) % 4 = omega arith in
-        let lc = length-chunk ssrc ts₁ ps₁ vs₁ (drop from bs) in
-        let dr : length (drop from bs) ≡ length bs - from = length-drop from bs in
-        record {
-          size = omega arith;
-          used = y .used;
-          bytes = p₂ ∙ rw m;
-          ends = omega arith;
-          taken = omega (arith, f .fits .bytes, f .bytes, y .used);
-        }
-
--- ---- the chunks laid one after the other
-
-pub record PlainChunking (ss cs ts ps vs bs l : List ℕ) (k i at from : ℕ) (l₁ : List ℕ) : Type 0 where
-  pub is : Chunking ss cs ts ps vs bs l k i at from l₁
-  pub even : at % 4 ≡ 0
-
-module _ (ss cs ts ps vs bs l : List ℕ) (f : ChunksFit ss cs ts ps vs bs (length l)) where
-  pub plain-start : PlainChunking ss cs ts ps vs bs l 0 0 4 0 l
-  plain-start = record { is = chunking-start ss cs ts ps vs bs l f; even = refl }
-
-  module _ (k i at from : ℕ) (l₁ : List ℕ) (w : PlainChunking ss cs ts ps vs bs l k i at from l₁) where
-    module _ (h : k < length ss) (c : ℕ) (e : c ≡ getD cs k 0) where
-      pub plain-add : length ts < 2 ^ 64 → i + c < 2 ^ 64
-      plain-add = chunking-add ss cs ts ps vs bs l f k i at from l₁ (w .is) h c e
-
-      pub plain-chunk-fits : ChunkFitsAt ts ps vs bs i (i + c) from at (length l₁)
-      plain-chunk-fits = chunking-fits ss cs ts ps vs bs l f k i at from l₁ (w .is) h c e
-
-      pub plain-chunk-again : (r : Laid) (l₂ : List ℕ) → ChunkLaidAt (getD ss k 0) ts ps vs bs i (i + c) from at l₁ r l₂ → PlainChunking ss cs ts ps vs bs l (k + 1) (i + c) (at + r .size) (from + r .used) l₂
-      plain-chunk-again r l₂ y =
-          let z = y .size in
-          let n = length-chunk (getD ss k 0) (take (i + c - i) (drop i ts)) (take (i + c - i) (drop i ps)) (take (i + c - i) (drop i vs)) (drop from bs) in
-          let d = w .even in
-          record { is = chunking-again ss cs ts ps vs bs l f k i at from l₁ (w .is) h c e r l₂ y; even = omega arith }
-
-    pub plain-all : length ss ≤ k → (at ≡ 4 + length (laidChunks ss cs ts ps vs bs)) × (l₁ ≡ store 4 (laidChunks ss cs ts ps vs bs) l)
-    plain-all h = (chunking-size ss cs ts ps vs bs l f k i at from l₁ (w .is) h, chunking-done ss cs ts ps vs bs l f k i at from l₁ (w .is) h)
 
 -- ---- the packet
 
@@ -276,4 +201,4 @@ module _ (ss cs ts ps vs bs : List ℕ) (k : ℕ) (l : List ℕ) (t : Bool) (f :
   pub plain-written : (n : ℕ) (l₁ : List ℕ) → (ok n, l₁) ≡ write (giveSdes (lists ss cs ts ps vs bs) 0) l → (ok n, l₁) ≡ write (giveSdes (lists ss cs ts ps vs bs) k) l
   plain-written n l₁ e = rw (f .holds q .none) e
 
-pub ruleset plains = (sdess, items-not, telling-start, telling-again, telling-done, sdes-not, sdes-is, agreed-listed, item-known, item-laid, range-start, plain-item, plain-item-fits, plain-again, range-done, chunk-within, chunk-starts, chunk-items-fit, fill-room, plain-chunk-laid, plain-start, plain-add, plain-chunk-fits, plain-chunk-again, plain-all, plain-chunks, plain-header, plain-done, plain-asked, plain-written)
+pub ruleset plains = (sdess, items-not, telling-start, telling-again, telling-done, sdes-not, sdes-is, agreed-listed, item-fits, item-laid, range-start, plain-item, plain-item-fits, plain-again, range-done, chunk-items, chunk-start, chunk-laid, chunking-size, plain-chunks, plain-header, plain-done, plain-asked, plain-written)

@@ -2,14 +2,15 @@
 // their refusals, and laid down in one pass.
 use chunk_write::chunk;
 use chunk_write::chunk::Laid;
+use chunk_write::item;
 use utils::writer;
 ghost use mathlib.Core.Path.{_≡_};
-ghost use Prim.Native.Nat.{_+_, _-_, _%_, _≤_};
+ghost use Prim.Native.Nat.{_+_, _-_, _≤_};
 ghost use lib.ListN.{length, drop};
 ghost use Rattle.rfc3550.specs.Answer.{ok};
 ghost use Rattle.rfc3550.specs.Bytes.{store};
 ghost use Rattle.rfc3550.specs.Write.{giveSdes, write};
-ghost use Rattle.chunk_write.specs.Lists.{Listed, part, Within, PartFits, PartLaid, ItemsFit, ItemsLaidAt};
+ghost use Rattle.chunk_write.specs.Lists.{Listed, part, Within, PartFits, PartLaid, ItemsFit, ItemsLaidAt, ChunkFits, ChunkLaid};
 ghost use Rattle.sdes_write.specs.Packets.{lists, ChunkFitsAt, ChunkLaidAt, ChunksFit, laidChunks};
 ghost use Rattle.sdes_write.specs.Plain.{Plain, PlainItems, ItemsIf, SdesIf, PlainSdes};
 
@@ -91,9 +92,7 @@ fn write_item(
     ensures { λ r. ⌜ PartLaid «item_type» 0 «value_len» from (now (bytes .entry)) at (now (buf .entry)) r (now (buf .exit)) ⌝ }
 {
     let end = from + value_len;
-    buf[at] = item_type;
-    buf[at + 1] = value_len as u8;
-    writer::write_bytes_unchecked(buf, at + 2, &bytes[from..end]);
+    item::write_plain_unchecked(&mut buf[at..], item_type, &bytes[from..end]);
     2 + value_len
 }
 
@@ -127,7 +126,33 @@ fn write_items(
     }
 }
 
-// Lays the chunk of the items from the i-th up to the j-th, whose bytes start at index from, at index at, a multiple of 4.
+// Lays the chunk of such items at the start of buf.
+fn write_chunk(
+    buf: &mut [u8],
+    ssrc: u32,
+    types: &[u8],
+    prefixes: &[u64],
+    values: &[u64],
+    bytes: &[u8],
+    first: usize,
+    end: usize,
+    start: usize,
+) -> Laid
+    requires { ⌜ PlainItems (now types) (now prefixes) (now values) × Within (now types) (now prefixes) (now values) (now bytes) first end start × ChunkFits (part first end (now types)) (part first end (now prefixes)) (part first end (now values)) (drop start (now bytes)) (length (now buf)) ⌝ }
+    ensures { λ r. ⌜ ChunkLaid ssrc (part first end (now (types .entry))) (part first end (now (prefixes .entry))) (part first end (now (values .entry))) (drop start (now (bytes .entry))) (now (buf .entry)) r (now (buf .exit)) ⌝ }
+{
+    writer::write_u32_unchecked(buf, 0, ssrc);
+    let items = write_items(buf, 4, types, prefixes, values, bytes, first, end, start);
+    let at = items.size;
+    let n = 4 - at % 4;
+    writer::write_fill_unchecked(buf, at, n);
+    Laid {
+        size: at + n,
+        used: items.used,
+    }
+}
+
+// The same at index at.
 fn write_chunk_at(
     buf: &mut [u8],
     at: usize,
@@ -140,18 +165,20 @@ fn write_chunk_at(
     j: usize,
     from: usize,
 ) -> Laid
-    requires { ⌜ (at % 4 ≡ 0) × PlainItems (now types) (now prefixes) (now values) × ChunkFitsAt (now types) (now prefixes) (now values) (now bytes) i j from at (length (now buf)) ⌝ }
+    requires { ⌜ PlainItems (now types) (now prefixes) (now values) × ChunkFitsAt (now types) (now prefixes) (now values) (now bytes) i j from at (length (now buf)) ⌝ }
     ensures { λ r. ⌜ ChunkLaidAt ssrc (now (types .entry)) (now (prefixes .entry)) (now (values .entry)) (now (bytes .entry)) i j from at (now (buf .entry)) r (now (buf .exit)) ⌝ }
 {
-    writer::write_u32_unchecked(buf, at, ssrc);
-    let items = write_items(buf, at + 4, types, prefixes, values, bytes, i, j, from);
-    let end = items.size;
-    let n = 4 - end % 4;
-    writer::write_fill_unchecked(buf, end, n);
-    Laid {
-        size: end + n - at,
-        used: items.used,
-    }
+    write_chunk(
+        &mut buf[at..],
+        ssrc,
+        types,
+        prefixes,
+        values,
+        bytes,
+        i,
+        j,
+        from,
+    )
 }
 
 // Lays the chunks from index 4 on, and returns the index after them.

@@ -3,10 +3,10 @@ use mathlib.Core.Path.{_∙_}
 use native.Mathlib.Omega.{arith}
 use Rattle.chunk_write.proofs.Items.{items}
 use borrow.Author.Needs.{needs}
-use Rattle.chunk_write.proofs.item.write_plain.Statement.{statement}
-use Rattle.chunk_write.proofs.item.write_plain.Tie as tie
-use Rattle.chunk_write.proofs.item.write_plain.Reads as reads
-use Rattle.chunk_write.proofs.item.write_plain.Lts as lts
+use Rattle.chunk_write.proofs.item.write_plain_unchecked.Statement.{statement}
+use Rattle.chunk_write.proofs.item.write_plain_unchecked.Tie as tie
+use Rattle.chunk_write.proofs.item.write_plain_unchecked.Reads as reads
+use Rattle.chunk_write.proofs.item.write_plain_unchecked.Lts as lts
 use Rattle.utils.proofs.writer.write_bytes_unchecked.Reads as write-bytes-unchecked-reads
 
 -- src/item.rt:56:5
@@ -33,8 +33,8 @@ same-length c = c .before .before .write-bytes-unchecked .kept .0 ∙ simp lengt
 returns : tie.Need-returns
 returns c = search items
 
-pub write-plain-spec : {M : Type 1} → statement M
-write-plain-spec =
+pub write-plain-unchecked-spec : {M : Type 1} → statement M
+write-plain-unchecked-spec =
     tie.close
     (tie.spec
     slice-write-buf
