@@ -142,6 +142,8 @@ END {
     print "  made before the loop, so that only `write_into`, which checks and writes, is measured; 'with its builder' makes the builders in the loop."
     print "  'with LTO' has the whole program compiled as one, so that the crate's functions are merged into the loop that reads. None of the sides is"
     print "  compiled so by default, and the best peer below is taken without it."
+    print "- RR and SDES are written packet after packet, and once more by a compound writer: ours holds the rules of a compound, rtcp-types' own (its"
+    print "  compound builder, made before the loop) only that padding comes last. The other libraries have none."
     print "- GStreamer reads and writes buffers made before the loop. Beyond one chunk it writes wrong bytes."
     print "- libre and pion allocate what they read; pion also what it writes, libre writes into a buffer made before the loop."
     print ""

@@ -198,18 +198,7 @@ fn items_of(words: &[&str]) -> ItemLists {
 
 /// Blocks as the C functions take them: seven numbers each.
 pub fn flat(blocks: &[Block]) -> Vec<u32> {
-    let flat = |block: &Block| {
-        [
-            block.ssrc,
-            block.fraction_lost.into(),
-            block.cumulative_lost,
-            block.extended_sequence,
-            block.jitter,
-            block.last_sr,
-            block.delay,
-        ]
-    };
-    blocks.iter().flat_map(flat).collect()
+    blocks.iter().flat_map(Block::numbers).collect()
 }
 
 fn blocks_of(numbers: &[u64]) -> Vec<Block> {

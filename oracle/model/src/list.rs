@@ -37,7 +37,10 @@ impl Listing {
             _ => Kind::Sdes,
         };
         Ok(match read_as(kind, bytes)?.content {
-            Content::Report { blocks, .. } => blocks.iter().flat_map(block_row).collect(),
+            Content::Report { blocks, .. } => blocks
+                .iter()
+                .flat_map(|block| block.numbers().map(u64::from))
+                .collect(),
             Content::Sdes { chunks } => chunk_rows(&chunks),
             _ => Vec::new(),
         })
@@ -54,19 +57,6 @@ impl Listing {
         start.copy_from_slice(&numbers);
         Ok(count)
     }
-}
-
-fn block_row(block: &Block) -> [u64; 7] {
-    [
-        block.ssrc,
-        block.fraction_lost.into(),
-        block.cumulative_lost,
-        block.extended_sequence,
-        block.jitter,
-        block.last_sr,
-        block.delay,
-    ]
-    .map(u64::from)
 }
 
 /// A row for each item, and one for the closing zero of each chunk.

@@ -58,6 +58,21 @@ pub struct Block {
     pub delay: u32,
 }
 
+impl Block {
+    /// Its seven numbers, in the order of the wire.
+    pub fn numbers(&self) -> [u32; 7] {
+        [
+            self.ssrc,
+            self.fraction_lost.into(),
+            self.cumulative_lost,
+            self.extended_sequence,
+            self.jitter,
+            self.last_sr,
+            self.delay,
+        ]
+    }
+}
+
 /// What an SR has and an RR has not.
 #[derive(Clone, Copy, Debug, Default, PartialEq, Eq, Hash)]
 pub struct SenderInfo {
