@@ -345,10 +345,10 @@ fn fill_packets(visit: &mut dyn FnMut(Operation)) {
 
 // ---- writing
 
-/// A write into buffers around its size.
+/// A write into buffers around its size, and into one that is far longer.
 fn writes(size: Answer<u64>, operation: impl Fn(Vec<u8>) -> Operation) -> Vec<Operation> {
     let size = size.map_or(0, |size| size as usize);
-    [0, size.saturating_sub(1), size, size + 5]
+    [0, size.saturating_sub(1), size, size + 5, size + 1000]
         .map(|length| operation(vec![STALE; length]))
         .into()
 }
@@ -357,7 +357,14 @@ fn packet_writes(given: Given, visit: &mut dyn FnMut(Operation)) {
     let operations = writes(size(&given), |buffer| {
         Operation::Write(given.clone(), buffer)
     });
-    operations.into_iter().for_each(visit);
+    operations.into_iter().for_each(&mut *visit);
+    // From so many bytes on the library takes an SDES to fit however its items are spread.
+    if let Given::Sdes { lists, .. } = &given {
+        let ample = 252 + 3 * lists.items.types.len() + lists.items.bytes.len();
+        for length in [ample - 1, ample] {
+            visit(Operation::Write(given.clone(), vec![STALE; length]));
+        }
+    }
 }
 
 fn report_writes(visit: &mut dyn FnMut(Operation)) {

@@ -24,8 +24,9 @@ use std::process::ExitCode;
 /// Differences printed in full.
 const SHOWN: usize = 20;
 
-/// Bytes of the buffer after what is written.
-const AFTER: usize = 5;
+/// Bytes of the buffer after what is written: few, or enough for any packet of
+/// such lists, as most buffers have.
+const AFTER: [usize; 2] = [5, 1500];
 
 fn main() -> ExitCode {
     let mut arguments = std::env::args().skip(1);
@@ -69,8 +70,9 @@ fn valid(rng: &mut Rng) -> Operation {
         1 => Sort::WriteItem,
         _ => Sort::Write,
     };
+    let after = rng.pick(&AFTER);
     loop {
-        let buffer = |size: u64| vec![STALE; size as usize + AFTER];
+        let buffer = |size: u64| vec![STALE; size as usize + after];
         match operation(rng, sort) {
             Operation::Write(given, _) => {
                 if let Ok(size) = size(&given) {
@@ -159,6 +161,16 @@ fn reading(written: &Operation, bytes: Vec<u8>) -> (Operation, Outcome) {
     }
 }
 
+/// How long the buffer is.
+fn lent(written: &Operation) -> usize {
+    match written {
+        Operation::Write(_, buffer)
+        | Operation::WriteChunk(_, buffer)
+        | Operation::WriteItem(_, buffer) => buffer.len(),
+        _ => unreachable!("a write"),
+    }
+}
+
 fn read_back(written: &Operation) -> Result<(), String> {
     let side = Library(guard::Side::End);
     let view = side.view(written).ok_or("the library cannot write it")?;
@@ -169,7 +181,7 @@ fn read_back(written: &Operation) -> Result<(), String> {
     if view.verdict != Verdict::Accepted || *told != Value::Number(size as u64) {
         return Err(format!("written: {view}"));
     }
-    if buffer.len() != size + AFTER || buffer[size..] != [STALE; AFTER] {
+    if buffer.len() != lent(written) || buffer[size..].iter().any(|byte| *byte != STALE) {
         return Err(format!("bytes after it: {view}"));
     }
     let (reading, wanted) = reading(written, buffer[..size].to_vec());
