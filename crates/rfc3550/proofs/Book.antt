@@ -1,5 +1,5 @@
 -- The book's text and the writer's say the same of a packet's own order.
-use Prim.Native.Nat.{ℕ, zero, suc, _+_, _-_, _%_, _<_, _≤_}
+use Prim.Native.Nat.{ℕ, zero, suc, _+_, _-_, _*_, _%_, _<_, _≤_}
 use mathlib.Core.Path.{_≡_, refl, sym, ap, _∙_}
 use mathlib.Core.Bool.{Bool, true, false, _&&_, _||_, not}
 use mathlib.Core.List.{List, [], _∷_, _++_}
@@ -9,10 +9,10 @@ use lib.Dec.{leb, ltb, eqb}
 use borrow.Author.Tests.{le-leb, lt-leb, lt-ltb, le-ltb, ltb-true, ltb-false, eqb-true, eqb-false, eq-eqb, ne-eqb}
 use Rattle.rfc3550.specs.Answer.{Answer, ok, refuse, need, _>>_, pick}
 use Rattle.rfc3550.specs.Bytes.{sum}
-use Rattle.rfc3550.specs.Loss.{lossIn, lossOver, lossShown, lossMost}
-use Rattle.rfc3550.specs.Packet.{Block, layout}
-use Rattle.rfc3550.specs.Write.{Lists, LentItem, lentItems, Given, giveReport, giveSdes, giveBye, giveApp, packetGiven, paddingOk, lossTests, valueMost, itemTests, itemsTests, listsAgree, ascii, ownTests, tests}
-use Rattle.rfc3550.specs.Book.{Fault, fault, firstFault, badPadding, lossFaults, itemFaults, itemsFaults, disagree, notAscii, ownFaults}
+use Rattle.rfc3550.specs.Loss.{Loss, lossIn, lossOver, lossShown, lossMost}
+use Rattle.rfc3550.specs.Packet.{layout}
+use Rattle.rfc3550.specs.Write.{BlockLists, Lists, LentItem, lentItems, Given, giveReport, giveSdes, giveBye, giveApp, packetGiven, paddingOk, blocksAgree, lossTests, valueMost, itemTests, itemsTests, listsAgree, ascii, ownTests, tests}
+use Rattle.rfc3550.specs.Book.{Fault, fault, firstFault, badPadding, blocksDisagree, lossFaults, itemFaults, itemsFaults, disagree, notAscii, ownFaults}
 use Rattle.rfc3550.proofs.Answer.{not-not, leb-ltb}
 use Rattle.rfc3550.proofs.Loss.{lossIn-lossOver}
 
@@ -79,10 +79,19 @@ first-nil = refl
 padding-is : (k : ℕ) → paddingOk k ≡ not (badPadding k)
 padding-is k = and-or (eqb (k % 4) 0) (leb k 252) (not (eqb (k % 4) 0)) (ltb 252 k) (not-not _) (leb-ltb k 252)
 
-losses-first : (bs : List Block) → lossTests bs ≡ firstFault (lossFaults bs)
+losses-first : (xs : List Loss) → lossTests xs ≡ firstFault (lossFaults xs)
 unfolding lossTests
 losses-first [] = first-nil
-losses-first (b ∷ bs) = need-first (lossIn (b .lost)) (lossOver (b .lost)) 17 (lossShown (b .lost)) lossMost (lossFaults bs) (lossTests bs) (lossIn-lossOver (b .lost)) (losses-first bs)
+losses-first (x ∷ xs) = need-first (lossIn x) (lossOver x) 17 (lossShown x) lossMost (lossFaults xs) (lossTests xs) (lossIn-lossOver x) (losses-first xs)
+
+same-test : (a b c d : ℕ) → a ≡ d → b ≡ c → eqb a b ≡ not (not (eqb c d))
+same-test a b c d p q = rw (p, q) (eqb-comm d c ∙ not-not (eqb c d))
+
+blocks-agree-is : (l : BlockLists) → blocksAgree l ≡ not (blocksDisagree l)
+blocks-agree-is l =
+    and-or _ _ (not (eqb (length (l .fractions)) (length (l .losses)))) (not (eqb (length (l .fractions) * 5) (length (l .words))))
+    (same-test (length (l .losses)) (length (l .fractions)) _ _ refl refl)
+    (same-test (length (l .words)) (5 * length (l .fractions)) _ _ refl (omega arith))
 
 -- prefix and value of PRIV: once the prefix fits, the two texts measure the value alike
 priv-value : (p v : ℕ) → p ≤ 254 → leb v (254 - p) ≡ not (ltb 254 (p + v))
@@ -129,9 +138,10 @@ ascii-is (b ∷ bs) = and-or (leb b 127) (ascii bs) (ltb 127 b) (notAscii bs) (l
 
 own-first : (g : Given) → ownTests g ≡ firstFault (ownFaults g)
 unfolding ownTests
-own-first (giveReport r bs k) =
-    need-first _ (ltb 31 (length bs)) 18 (length bs) 31 _ _ (leb-ltb (length bs) 31)
-    (need-first _ (badPadding k) 11 k 0 _ _ (padding-is k) (losses-first bs))
+own-first (giveReport r l k) =
+    need-first _ (blocksDisagree l) 24 0 0 _ _ (blocks-agree-is l)
+    (need-first _ (ltb 31 (length (l .fractions))) 18 (length (l .fractions)) 31 _ _ (leb-ltb (length (l .fractions)) 31)
+    (need-first _ (badPadding k) 11 k 0 _ _ (padding-is k) (losses-first (l .losses))))
 own-first (giveSdes l k) =
     need-first _ (disagree l) 24 0 0 _ _ (agree-is l)
     (need-first _ (ltb 31 (length (l .ssrcs))) 19 (length (l .ssrcs)) 31 _ _ (leb-ltb (length (l .ssrcs)) 31)

@@ -111,8 +111,8 @@ pub record Agree (w : Writer) (d : List ℕ) (b : Book) : Type 0 where
   pub named : not (b .closed) || some hasCname (b .packets) ≡ true
 
 gives-report : (g : Given) → isReport (type (contentGiven g)) ≡ givesReport g
-gives-report (giveReport (receiver s) bs k) = refl
-gives-report (giveReport (sender s n r p o) bs k) = refl
+gives-report (giveReport (receiver s) l k) = refl
+gives-report (giveReport (sender s n r p o) l k) = refl
 gives-report (giveSdes l k) = refl
 gives-report (giveBye ss r k) = refl
 gives-report (giveApp subtype ssrc name d k) = refl

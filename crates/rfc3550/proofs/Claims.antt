@@ -6,7 +6,7 @@ use mathlib.Core.List.{List, [], _∷_, map}
 use lib.ListN.{length}
 use Rattle.rfc3550.specs.Answer.{Refusal, Answer, ok, refused, after}
 use Rattle.rfc3550.specs.Bytes.{Bytes}
-use Rattle.rfc3550.specs.Packet.{Chunk, chunkBytes, Packet, layout, layouts, chunksOf, Valid, Compound}
+use Rattle.rfc3550.specs.Packet.{Chunk, chunkBytes, Packet, layout, layouts, chunksOf, All, Valid, Compound}
 use Rattle.rfc3550.specs.Read.{Kind, SDES, kindFor, nth, readChunk, readAs}
 use Rattle.rfc3550.specs.Compound.{readCompound}
 use Rattle.rfc3550.specs.Walk.{openWalk, step, SdesWalk, openSdes, sdesStep, openItems, itemStep, gave, walked}
@@ -54,8 +54,9 @@ written-reads-back g l n t e = Packet.packet-complete (packetGiven g) (Writes.wr
 pub accepting : (s : List ℕ) (ps : List Packet) → Bytes s → (readCompound s ≡ ok ps) ↔ (Compound ps × (layouts ps ≡ s))
 accepting s ps h = C.compound-iff s ps h
 
-pub one-list : (ps qs : List Packet) → Compound ps → Compound qs → layouts ps ≡ layouts qs → ps ≡ qs
-one-list ps qs c d e = C.compound-unique ps qs c d e
+-- the other list need not meet the rules
+pub one-list : (ps qs : List Packet) → All Valid ps → All Valid qs → layouts ps ≡ layouts qs → ps ≡ qs
+one-list ps qs v w e = C.layouts-injective ps qs v w e
 
 -- for every number of steps from a walk just opened, step i gives packet i, and 25 once all are given
 pub walking : (s : List ℕ) (ps : List Packet) → Bytes s → readCompound s ≡ ok ps

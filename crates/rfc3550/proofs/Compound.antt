@@ -6,7 +6,7 @@ use mathlib.Core.Bool.{Bool, true, false, not, _||_}
 use mathlib.Core.List.{List, [], _∷_, _++_, append-nil}
 use native.Mathlib.Omega.{arith}
 use lib.ListN.{length, take, drop, length-append, length-drop, take-append-drop}
-use lib.Seq.{take-at, drop-length, drop-append-le, take-append-le, drop-append-seam, getD-take}
+use lib.Seq.{take-at, drop-at, drop-length, drop-append-le, take-append-le, drop-append-seam, getD-take}
 use lib.Dec.{leb, eqb}
 use borrow.Author.Tests.{le-leb, leb-true, eqb-true, eqb-false, eq-eqb, ne-eqb}
 use Rattle.rfc3550.specs.Answer.{Answer, ok, _>>=_, _>>_, need}
@@ -16,7 +16,7 @@ use Rattle.rfc3550.specs.Read.{Kind, kindFor, kindOf, versionIn, padded,
 use Rattle.rfc3550.specs.Compound.{readPacket, readPackets, readCompound}
 use Rattle.rfc3550.proofs.Answer.{need-inv, bind-elim, ok-injective, true≢false, or-inv, or-true}
 use Rattle.rfc3550.proofs.Bytes.{bytes-take, bytes-drop}
-use Rattle.rfc3550.proofs.Packet.{packet-complete, packet-sound, kind-is, type-is, low-is, version-is, stated-is, length-layout}
+use Rattle.rfc3550.proofs.Packet.{packet-complete, packet-sound, kind-is, type-is, low-is, version-is, stated-is, length-layout, layout-injective}
 
 -- ---- the header of a packet that bytes follow
 
@@ -189,9 +189,17 @@ compound-sound s ps h e =
 pub compound-iff : (s : List ℕ) (ps : List Packet) → Bytes s → (readCompound s ≡ ok ps) ↔ (Compound ps × (layouts ps ≡ s))
 compound-iff s ps h = (compound-sound s ps h, λ c. ap readCompound (sym (c .1)) ∙ compound-complete ps (c .0))
 
--- no two lists have the same bytes
-pub compound-unique : (ps qs : List Packet) → Compound ps → Compound qs → layouts ps ≡ layouts qs → ps ≡ qs
-compound-unique ps qs c d e = ok-injective (sym (compound-complete ps c) ∙ ap readCompound e ∙ compound-complete qs d)
+-- no two lists of valid packets have the same bytes, whether or not they meet the rules: a packet states its length
+pub layouts-injective : (ps qs : List Packet) → All Valid ps → All Valid qs → layouts ps ≡ layouts qs → ps ≡ qs
+unfolding layouts layout
+layouts-injective [] [] v w e = refl
+layouts-injective [] (q ∷ qs) v w e = absurd (let z : true ≡ false = cc in true≢false z)
+layouts-injective (p ∷ ps) [] v w e = absurd (let z : true ≡ false = cc in true≢false z)
+layouts-injective (p ∷ ps) (q ∷ qs) v w e =
+    let n : length (layout p) ≡ length (layout q) = sym (follow-stated p (v .0) (layouts ps)) ∙ ap stated e ∙ follow-stated q (w .0) (layouts qs) in
+    let one : p ≡ q = layout-injective p q (v .0) (w .0) (sym (take-at (layout p) (layouts ps) _ refl) ∙ ap (take (length (layout p))) e ∙ take-at (layout q) (layouts qs) _ (sym n)) in
+    let rest : ps ≡ qs = layouts-injective ps qs (v .1) (w .1) (sym (drop-at (layout p) (layouts ps) _ refl) ∙ ap (drop (length (layout p))) e ∙ drop-at (layout q) (layouts qs) _ (sym n)) in
+    rw (one, rest)
 
 -- ---- turns: as many as there are bytes are enough
 

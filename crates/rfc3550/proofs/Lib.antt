@@ -11,6 +11,8 @@ pub mod Walk
 pub mod Write
 pub mod Book
 pub mod Claim
+pub mod Returned
+pub mod Places
 pub mod Rows
 pub mod Computes
 pub mod Claims

@@ -2,20 +2,20 @@
 use Prim.Native.Nat.{ℕ, zero, suc, _+_, _-_, _*_, _%_, _^_, _<_, _≤_}
 use mathlib.Core.Path.{_≡_, refl, sym, ap, _∙_, subst}
 use mathlib.Core.Bool.{Bool, true, false, _&&_, _||_, not}
-use mathlib.Core.List.{List, [], _∷_, _++_, append-nil}
+use mathlib.Core.List.{List, [], _∷_, _++_, append-nil, map}
 use native.Mathlib.Omega.{arith}
-use lib.ListN.{length, take, drop, getD, replicate, length-append, length-replicate}
+use lib.ListN.{length, take, drop, getD, replicate, length-append, length-drop, length-map, length-replicate}
 use lib.Seq.{getD-at}
 use lib.Dec.{leb, eqb}
-use borrow.Author.Tests.{leb-true, eqb-true, eqb-false, not-true}
+use borrow.Author.Tests.{leb-true, eqb-true, eqb-false, eq-eqb, not-true}
 use Rattle.rfc3550.specs.Answer.{Refusal, Answer, ok, refused, _>>=_, _>>_, need, after, pick}
 use Rattle.rfc3550.specs.Bytes.{Bytes, be, put, Fits, sum, store}
-use Rattle.rfc3550.specs.Loss.{LossFits}
+use Rattle.rfc3550.specs.Loss.{Loss, noLoss, LossFits}
 use Rattle.rfc3550.specs.Packet.{Block, Reporter, receiver, sender, Item, item, priv, Chunk, Leaving, no-reason, reason, Content, report, sdes, bye, app, Packet, All, receiverWidths, senderWidths, reporterWidths, reporterFields, itemBytes, itemsBytes, chunkBytes, chunksBytes, leavingBytes, contentBytes, lowBits, layout, BlockValid, ItemValid, ChunkValid, LeavingValid, ContentValid, PaddingValid, Valid}
-use Rattle.rfc3550.specs.Write.{Lists, LentItem, LentChunk, lentItems, lentChunks, chunksLent, Given, giveReport, giveSdes, giveBye, giveApp, BlockTyped, Typed, paddingBytes, leavingOf, itemGiven, itemsGiven, chunkGiven, chunksGiven, nameGiven, contentGiven, paddingGiven, packetGiven, paddingOk, lossTests, valueMost, itemTests, itemsTests, ascii, ownTests, sizeGiven, tests, calculateSize, itemSize, chunkSize, room, written, write, writeItem, writeChunk}
+use Rattle.rfc3550.specs.Write.{BlockLists, lentBlocks, blocksLent, wordsOf, listsOf, Lists, LentItem, LentChunk, lentItems, lentChunks, chunksLent, Given, giveReport, giveSdes, giveBye, giveApp, Typed, paddingBytes, leavingOf, itemGiven, itemsGiven, chunkGiven, chunksGiven, nameGiven, contentGiven, paddingGiven, packetGiven, paddingOk, blocksAgree, lossTests, valueMost, itemTests, itemsTests, ascii, ownTests, sizeGiven, tests, calculateSize, itemSize, chunkSize, room, written, write, writeItem, writeChunk}
 use Rattle.rfc3550.proofs.Answer.{need-inv, need-ok, then-inv, bind-elim, ok-injective, refused≢ok, and-inv}
 use Rattle.rfc3550.proofs.Bytes.{bytes-take, bytes-drop, bytes-append, bytes-zeros, length-be, length-put, sum-replicate, store-front}
-use Rattle.rfc3550.proofs.Loss.{lossIn-fits}
+use Rattle.rfc3550.proofs.Loss.{lossBits-lt, lossIn-fits}
 use Rattle.rfc3550.proofs.Blocks.{length-blocksBytes}
 use Rattle.rfc3550.proofs.Packet.{length-layout}
 
@@ -36,12 +36,90 @@ padding-valid (suc k) o =
 
 -- ---- reports
 
-losses-valid : (bs : List Block) → All BlockTyped bs → lossTests bs ≡ ok tt → All BlockValid bs
+-- a loss that passed, or that was not lent
+loss-fits : (xs : List Loss) → lossTests xs ≡ ok tt → LossFits (getD xs 0 noLoss) × (lossTests (drop 1 xs) ≡ ok tt)
 unfolding lossTests
-losses-valid [] h e = tt
-losses-valid (b ∷ bs) h e =
-    let a = need-inv _ _ _ _ _ e in
-    ((h .0 .0, lossIn-fits (b .lost) (a .0)), losses-valid bs (h .1) (a .1))
+loss-fits [] e = (omega arith, refl)
+loss-fits (x ∷ xs) e = let a = need-inv _ _ _ _ _ e in (lossIn-fits x (a .0), a .1)
+
+word-fits : (ws : List ℕ) (i : ℕ) → Fits (replicate (length ws) 4) ws → getD ws i 0 < 256 ^ 4
+word-fits [] i h = omega arith
+word-fits (w ∷ ws) zero h = h .0
+word-fits (w ∷ ws) (suc i) h = word-fits ws i (h .1)
+
+words-drop : (n : ℕ) (ws : List ℕ) → Fits (replicate (length ws) 4) ws → Fits (replicate (length (drop n ws)) 4) (drop n ws)
+words-drop zero ws h = h
+words-drop (suc n) [] h = tt
+words-drop (suc n) (w ∷ ws) h = words-drop n ws (h .1)
+
+pub length-lentBlocks : (fs : List ℕ) (ls : List Loss) (ws : List ℕ) → length (lentBlocks fs ls ws) ≡ length fs
+unfolding lentBlocks
+length-lentBlocks [] ls ws = refl
+length-lentBlocks (f ∷ fs) ls ws = ap suc (length-lentBlocks fs (drop 1 ls) (drop 5 ws))
+
+blocks-valid : (fs : List ℕ) (ls : List Loss) (ws : List ℕ) → Bytes fs → Fits (replicate (length ws) 4) ws → lossTests ls ≡ ok tt → All BlockValid (lentBlocks fs ls ws)
+unfolding lentBlocks
+blocks-valid [] ls ws hf hw e = tt
+blocks-valid (f ∷ fs) ls ws hf hw e =
+    let a = loss-fits ls e in (
+      ((word-fits ws 0 hw, (hf .0, (lossBits-lt (getD ls 0 noLoss), (word-fits ws 1 hw, (word-fits ws 2 hw, (word-fits ws 3 hw, (word-fits ws 4 hw, tt))))))), a .0),
+      blocks-valid fs (drop 1 ls) (drop 5 ws) (hf .1) (words-drop 5 ws hw) (a .1),
+    )
+
+-- blocks lent as records give lists that agree, and these give the blocks back
+length-wordsOf : (bs : List Block) → length (wordsOf bs) ≡ 5 * length bs
+unfolding wordsOf
+length-wordsOf [] = refl
+length-wordsOf (b ∷ bs) = rw (length-wordsOf bs) (omega arith)
+
+pub blocksLent-listsOf : (bs : List Block) → blocksLent (listsOf bs) ≡ bs
+unfolding lentBlocks wordsOf
+blocksLent-listsOf [] = refl
+blocksLent-listsOf (b ∷ bs) = ap (λ (bs : List Block). b ∷ bs) (blocksLent-listsOf bs)
+
+pub blocksAgree-listsOf : (bs : List Block) → blocksAgree (listsOf bs) ≡ true
+blocksAgree-listsOf bs =
+    rw (length-map bs (λ (b : Block). b .lost), length-map bs (λ (b : Block). b .fraction), length-wordsOf bs, eq-eqb (length bs) (length bs) refl, eq-eqb (5 * length bs) (5 * length bs) refl)
+
+-- from records 24 never comes: their order is 18, 11, 17
+pub ownTests-listsOf : (r : Reporter) (bs : List Block) (k : ℕ)
+    → ownTests (giveReport r (listsOf bs) k) ≡ (need (leb (length bs) 31) 18 (length bs) 31 >> need (paddingOk k) 11 k 0 >> lossTests (map (λ (b : Block). b .lost) bs))
+unfolding ownTests need _>>_
+ownTests-listsOf r bs k = rw (blocksAgree-listsOf bs, length-map bs (λ (b : Block). b .fraction))
+
+-- lists that agree are those of their blocks
+five : (ws : List ℕ) → 5 ≤ length ws → ws ≡ getD ws 0 0 ∷ getD ws 1 0 ∷ getD ws 2 0 ∷ getD ws 3 0 ∷ getD ws 4 0 ∷ drop 5 ws
+five [] h = absurd (omega arith)
+five (a ∷ []) h = absurd (omega arith)
+five (a ∷ b ∷ []) h = absurd (omega arith)
+five (a ∷ b ∷ c ∷ []) h = absurd (omega arith)
+five (a ∷ b ∷ c ∷ d ∷ []) h = absurd (omega arith)
+five (a ∷ b ∷ c ∷ d ∷ e ∷ ws) h = refl
+
+fractions-back : (fs : List ℕ) (ls : List Loss) (ws : List ℕ) → map (λ (b : Block). b .fraction) (lentBlocks fs ls ws) ≡ fs
+unfolding lentBlocks
+fractions-back [] ls ws = refl
+fractions-back (f ∷ fs) ls ws = ap (λ (l : List ℕ). f ∷ l) (fractions-back fs (drop 1 ls) (drop 5 ws))
+
+losses-back : (fs : List ℕ) (ls : List Loss) (ws : List ℕ) → length ls ≡ length fs → map (λ (b : Block). b .lost) (lentBlocks fs ls ws) ≡ ls
+unfolding lentBlocks
+losses-back [] [] ws h = refl
+losses-back [] (x ∷ ls) ws h = absurd (omega arith)
+losses-back (f ∷ fs) [] ws h = absurd (omega arith)
+losses-back (f ∷ fs) (x ∷ ls) ws h = ap (λ (l : List Loss). x ∷ l) (losses-back fs ls (drop 5 ws) (omega arith))
+
+words-back : (fs : List ℕ) (ls : List Loss) (ws : List ℕ) → length ws ≡ 5 * length fs → wordsOf (lentBlocks fs ls ws) ≡ ws
+unfolding lentBlocks wordsOf
+words-back [] ls [] h = refl
+words-back [] ls (w ∷ ws) h = absurd (omega arith)
+words-back (f ∷ fs) ls ws h =
+    ap (λ (l : List ℕ). getD ws 0 0 ∷ getD ws 1 0 ∷ getD ws 2 0 ∷ getD ws 3 0 ∷ getD ws 4 0 ∷ l) (words-back fs (drop 1 ls) (drop 5 ws) (rw length-drop (omega arith)))
+    ∙ sym (five ws (omega arith))
+
+pub listsOf-blocksLent : (l : BlockLists) → blocksAgree l ≡ true → listsOf (blocksLent l) ≡ l
+listsOf-blocksLent l h =
+    let a = and-inv _ _ h in
+    rw (fractions-back (l .fractions) (l .losses) (l .words), losses-back (l .fractions) (l .losses) (l .words) (eqb-true _ _ (a .0)), words-back (l .fractions) (l .losses) (l .words) (eqb-true _ _ (a .1)))
 
 reporter-words : (r : Reporter) → Fits (reporterWidths r) (reporterFields r) → length (put (reporterWidths r) (reporterFields r)) % 4 ≡ 0
 unfolding sum
@@ -136,12 +214,18 @@ record Content-given (g : Given) : Type 0 where
 
 content-given : (g : Given) → Typed g → ownTests g ≡ ok tt → Content-given g
 unfolding ownTests contentBytes
-content-given (giveReport r bs k) t e =
+content-given (giveReport r l k) t e =
     let a = need-inv _ _ _ _ _ e in
     let b = need-inv _ _ _ _ _ (a .1) in
-    let v = losses-valid bs (t .1) (b .1) in
-    let n : length bs ≤ 31 = leb-true _ _ (a .0) in
-    record { content = (t .0, v, tt); low = omega arith; words = simp (length-append, append-nil) (omega (arith, reporter-words r (t .0), length-blocksBytes bs v)); padding = b .0 }
+    let c = need-inv _ _ _ _ _ (b .1) in
+    let v = blocks-valid (l .fractions) (l .losses) (l .words) (t .1) (t .3) (c .1) in
+    let n : length (l .fractions) ≤ 31 = leb-true _ _ (b .0) in
+    record {
+      content = (t .0, v, tt);
+      low = rw (length-lentBlocks (l .fractions) (l .losses) (l .words)) (omega arith);
+      words = simp (length-append, append-nil) (omega (arith, reporter-words r (t .0), length-blocksBytes (blocksLent l) v));
+      padding = c .0;
+    }
 content-given (giveSdes l k) t e =
     let a = need-inv _ _ _ _ _ e in
     let b = need-inv _ _ _ _ _ (a .1) in

@@ -1,15 +1,15 @@
 -- Document 01, "What demand 3 compares", The book: a text of its own on purpose. It shares no test with the writer, and is fed a call's
 -- arguments and the buffer's length, never an answer. An order is a list of faults, and the first that holds is the answer.
-use Prim.Native.Nat.{ℕ, _+_, _-_, _%_}
+use Prim.Native.Nat.{ℕ, _+_, _-_, _*_, _%_}
 use mathlib.Core.Bool.{Bool, true, false, _&&_, _||_, not}
 use mathlib.Core.List.{List, [], _∷_, _++_}
 use lib.ListN.{length}
 use lib.Dec.{ltb, eqb}
 use Rattle.rfc3550.specs.Answer.{Answer, ok, refuse, after, capped, pick}
 use Rattle.rfc3550.specs.Bytes.{sum}
-use Rattle.rfc3550.specs.Loss.{lossOver, lossShown, lossMost}
-use Rattle.rfc3550.specs.Packet.{Block, Packet, layout, type, some, hasCname}
-use Rattle.rfc3550.specs.Write.{Lists, LentItem, lentItems, Given, giveReport, giveSdes, giveBye, giveApp, packetGiven, contentGiven}
+use Rattle.rfc3550.specs.Loss.{Loss, lossOver, lossShown, lossMost}
+use Rattle.rfc3550.specs.Packet.{Packet, layout, type, some, hasCname}
+use Rattle.rfc3550.specs.Write.{BlockLists, Lists, LentItem, lentItems, Given, giveReport, giveSdes, giveBye, giveApp, packetGiven, contentGiven}
 use Rattle.rfc3550.specs.Writer.{Request, add, close}
 
 pub record Fault : Type 0 where
@@ -31,9 +31,13 @@ firstFault (f ∷ fs) = pick (f .holds) (refuse (f .number) (f .first) (f .secon
 abbrev pub badPadding : ℕ → Bool
 badPadding k = not (eqb (k % 4) 0) || ltb 252 k
 
-abbrev pub lossFaults : List Block → List Fault
+-- a fraction lacks its loss or its five words, or there are more of these
+abbrev pub blocksDisagree : BlockLists → Bool
+blocksDisagree l = not (eqb (length (l .fractions)) (length (l .losses))) || not (eqb (length (l .fractions) * 5) (length (l .words)))
+
+abbrev pub lossFaults : List Loss → List Fault
 lossFaults [] = []
-lossFaults (b ∷ bs) = fault (lossOver (b .lost)) 17 (lossShown (b .lost)) lossMost ∷ lossFaults bs
+lossFaults (x ∷ xs) = fault (lossOver x) 17 (lossShown x) lossMost ∷ lossFaults xs
 
 -- PRIV: a prefix of at most 254 bytes, with the value at most 254; other types a value of at most 255
 abbrev pub itemFaults : LentItem → List Fault
@@ -62,7 +66,11 @@ notAscii [] = false
 notAscii (b ∷ bs) = ltb 127 b || notAscii bs
 
 abbrev pub ownFaults : Given → List Fault
-ownFaults (giveReport r bs k) = fault (ltb 31 (length bs)) 18 (length bs) 31 ∷ fault (badPadding k) 11 k 0 ∷ lossFaults bs
+ownFaults (giveReport r l k) =
+    fault (blocksDisagree l) 24 0 0
+    ∷ fault (ltb 31 (length (l .fractions))) 18 (length (l .fractions)) 31
+    ∷ fault (badPadding k) 11 k 0
+    ∷ lossFaults (l .losses)
 ownFaults (giveSdes l k) =
     fault (disagree l) 24 0 0
     ∷ fault (ltb 31 (length (l .ssrcs))) 19 (length (l .ssrcs)) 31
@@ -106,7 +114,7 @@ roomFaults before size n = fault (ltb n before) 10 (capped before) 0 ∷ fault (
 
 -- a report is given
 abbrev pub givesReport : Given → Bool
-givesReport (giveReport r bs k) = true
+givesReport (giveReport r l k) = true
 givesReport (giveSdes l k) = false
 givesReport (giveBye ss r k) = false
 givesReport (giveApp subtype ssrc name d k) = false

@@ -10,3 +10,4 @@ pub mod Walk
 pub mod Writer
 pub mod Book
 pub mod Claim
+pub mod Returned

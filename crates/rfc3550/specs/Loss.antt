@@ -6,6 +6,10 @@ use lib.Dec.{leb, ltb}
 abbrev pub Loss : Type 0
 Loss = ℕ
 
+-- what stands for a loss that was not lent
+abbrev pub noLoss : Loss
+noLoss = 0
+
 -- the field of 24 bits, and the number that it is read as
 unfoldable pub lossBits : Loss → ℕ
 lossBits l = l % 16777216

@@ -1,15 +1,39 @@
 -- Document 01, "Writing one packet": what a call is given, its order of refusals, the packet that it writes, the buffer afterwards.
-use Prim.Native.Nat.{ℕ, zero, suc, _+_, _-_, _%_, _^_, _<_}
+use Prim.Native.Nat.{ℕ, zero, suc, _+_, _-_, _*_, _%_, _^_, _<_}
 use mathlib.Core.Bool.{Bool, true, false, _&&_, _||_, not}
-use mathlib.Core.List.{List, [], _∷_, _++_}
+use mathlib.Core.List.{List, [], _∷_, _++_, map}
 use lib.ListN.{length, replicate, getD, take, drop}
 use lib.Dec.{leb, eqb}
 use Rattle.rfc3550.specs.Answer.{Answer, ok, refuse, _>>=_, _>>_, need, after, pick}
 use Rattle.rfc3550.specs.Bytes.{Bytes, Fits, sum, store}
-use Rattle.rfc3550.specs.Loss.{LossTyped, lossIn, lossShown, lossMost}
-use Rattle.rfc3550.specs.Packet.{Block, Reporter, Item, item, priv, Chunk, Leaving, no-reason, reason, Content, report, sdes, bye, app, Packet, All, blockWidths, blockFields, reporterWidths, reporterFields, itemBytes, chunkBytes, layout}
+use Rattle.rfc3550.specs.Loss.{Loss, noLoss, LossTyped, lossIn, lossShown, lossMost}
+use Rattle.rfc3550.specs.Packet.{Block, Reporter, Item, item, priv, Chunk, Leaving, no-reason, reason, Content, report, sdes, bye, app, Packet, All, reporterWidths, reporterFields, itemBytes, chunkBytes, layout}
 
 -- ---- what is given
+
+-- a report's blocks: one fraction lost and one cumulative lost for each, and five words: SSRC, highest sequence number, jitter, last SR, delay
+-- since last SR
+pub record BlockLists : Type 0 where
+  pub fractions : List ℕ
+  pub losses : List Loss
+  pub words : List ℕ
+
+unfoldable pub lentBlocks : List ℕ → List Loss → List ℕ → List Block
+lentBlocks [] ls ws = []
+lentBlocks (f ∷ fs) ls ws =
+    record { ssrc = getD ws 0 0; fraction = f; lost = getD ls 0 noLoss; sequence = getD ws 1 0; jitter = getD ws 2 0; lsr = getD ws 3 0; dlsr = getD ws 4 0 }
+    ∷ lentBlocks fs (drop 1 ls) (drop 5 ws)
+
+abbrev pub blocksLent : BlockLists → List Block
+blocksLent l = lentBlocks (l .fractions) (l .losses) (l .words)
+
+-- the lists of blocks lent as records
+unfoldable pub wordsOf : List Block → List ℕ
+wordsOf [] = []
+wordsOf (b ∷ bs) = b .ssrc ∷ b .sequence ∷ b .jitter ∷ b .lsr ∷ b .dlsr ∷ wordsOf bs
+
+abbrev pub listsOf : List Block → BlockLists
+listsOf bs = record { fractions = map (λ (b : Block). b .fraction) bs; losses = map (λ (b : Block). b .lost) bs; words = wordsOf bs }
 
 -- SDES lists: one SSRC and one item count for each chunk; for each item a type, a prefix length and a value length; one run of bytes
 pub record Lists : Type 0 where
@@ -46,17 +70,14 @@ chunksLent l = lentChunks (l .ssrcs) (l .counts) (lentItems (l .types) (l .prefi
 
 -- what a packet's call is given; the padding last. An APP: subtype, SSRC, name, data
 pub data Given : Type 0 where
-  giveReport : Reporter → List Block → ℕ → Given
+  giveReport : Reporter → BlockLists → ℕ → Given
   giveSdes : Lists → ℕ → Given
   giveBye : List ℕ → List ℕ → ℕ → Given
   giveApp : ℕ → ℕ → List ℕ → List ℕ → ℕ → Given
 
 -- what the types of a call's arguments say of them
-abbrev pub BlockTyped : Block → Type 0
-BlockTyped b = Fits blockWidths (blockFields b) × LossTyped (b .lost)
-
 abbrev pub Typed : Given → Type 0
-Typed (giveReport r bs k) = Fits (reporterWidths r) (reporterFields r) × All BlockTyped bs
+Typed (giveReport r l k) = Fits (reporterWidths r) (reporterFields r) × Bytes (l .fractions) × All LossTyped (l .losses) × Fits (replicate (length (l .words)) 4) (l .words)
 Typed (giveSdes l k) = Fits (replicate (length (l .ssrcs)) 4) (l .ssrcs) × Bytes (l .types) × Bytes (l .bytes)
 Typed (giveBye ss r k) = Fits (replicate (length ss) 4) ss × Bytes r
 Typed (giveApp subtype ssrc name d k) = (ssrc < 256 ^ 4) × Bytes name × Bytes d
@@ -93,13 +114,13 @@ abbrev pub nameGiven : List ℕ → List ℕ
 nameGiven name = name ++ replicate (4 - length name) 0
 
 abbrev pub contentGiven : Given → Content
-contentGiven (giveReport r bs k) = report r bs []
+contentGiven (giveReport r l k) = report r (blocksLent l) []
 contentGiven (giveSdes l k) = sdes (chunksGiven (chunksLent l))
 contentGiven (giveBye ss r k) = bye ss (leavingOf r)
 contentGiven (giveApp subtype ssrc name d k) = app subtype ssrc (nameGiven name) d
 
 abbrev pub paddingGiven : Given → ℕ
-paddingGiven (giveReport r bs k) = k
+paddingGiven (giveReport r l k) = k
 paddingGiven (giveSdes l k) = k
 paddingGiven (giveBye ss r k) = k
 paddingGiven (giveApp subtype ssrc name d k) = k
@@ -112,11 +133,15 @@ packetGiven g = record { content = contentGiven g; padding = paddingBytes (paddi
 abbrev pub paddingOk : ℕ → Bool
 paddingOk k = eqb (k % 4) 0 && leb k 252
 
-unfoldable pub lossTests : List Block → Answer (Unit {0})
+-- 24: not one loss and five words for each fraction
+abbrev pub blocksAgree : BlockLists → Bool
+blocksAgree l = eqb (length (l .losses)) (length (l .fractions)) && eqb (length (l .words)) (5 * length (l .fractions))
+
+unfoldable pub lossTests : List Loss → Answer (Unit {0})
 lossTests [] = ok tt
-lossTests (b ∷ bs) = do
-  need (lossIn (b .lost)) 17 (lossShown (b .lost)) lossMost
-  lossTests bs
+lossTests (x ∷ xs) = do
+  need (lossIn x) 17 (lossShown x) lossMost
+  lossTests xs
 
 -- the most bytes that a value may have: PRIV's prefix and value share 254
 abbrev pub valueMost : LentItem → ℕ
@@ -146,10 +171,11 @@ ascii [] = true
 ascii (b ∷ bs) = leb b 127 && ascii bs
 
 unfoldable pub ownTests : Given → Answer (Unit {0})
-ownTests (giveReport r bs k) = do
-  need (leb (length bs) 31) 18 (length bs) 31
+ownTests (giveReport r l k) = do
+  need (blocksAgree l) 24 0 0
+  need (leb (length (l .fractions)) 31) 18 (length (l .fractions)) 31
   need (paddingOk k) 11 k 0
-  lossTests bs
+  lossTests (l .losses)
 ownTests (giveSdes l k) = do
   need (listsAgree l) 24 0 0
   need (leb (length (l .ssrcs)) 31) 19 (length (l .ssrcs)) 31
