@@ -1,2 +1,3 @@
 pub mod Apps
 pub mod Injective
+pub mod Writes

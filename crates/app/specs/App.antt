@@ -1,11 +1,10 @@
--- An APP packet's fields and parts, as functions of the packet.
+-- An APP packet's fields, as functions of the packet.
 use Prim.Native.Nat.{ℕ, _+_}
 use mathlib.Core.List.{List, []}
 use lib.ListN.{length}
 use Rattle.rfc3550.specs.Answer.{Answer, ok, refused}
 use Rattle.rfc3550.specs.Packet.{Content, report, sdes, bye, app, unknown, Packet, lowBits}
 use Rattle.utils.specs.Error.{parseRefusal}
-use Rattle.utils.specs.Parts.{partIn}
 use Rattle.app.specs.declared.App.{App}
 use Rattle.app.specs.declared.ParsedApp.{ParsedApp}
 use Rattle.app.specs.declared.ParsedApp.the-variants as parsed
@@ -35,18 +34,16 @@ dataOf (bye ss l) = []
 dataOf (app subtype ssrc name d) = d
 dataOf (unknown t low b) = []
 
--- the data starts at 12
+-- the data start at 12
 abbrev pub appView : Packet → App
 appView p =
     record {
       ssrc = ssrcOf (p .content);
       subtype = lowBits (p .content);
       body = 12 + length (dataOf (p .content));
-      padding = length (p .padding);
+      «padding_len» = length (p .padding);
     }
 
-abbrev pub nameIn : Answer Packet → List ℕ
-nameIn a = partIn (λ p. nameOf (p .content)) a
-
-abbrev pub dataIn : Answer Packet → List ℕ
-dataIn a = partIn (λ p. dataOf (p .content)) a
+-- what stands for a packet that is refused
+abbrev pub noApp : App
+noApp = record { ssrc = 0; subtype = 0; body = 0; «padding_len» = 0 }

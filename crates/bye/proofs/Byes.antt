@@ -1,34 +1,29 @@
--- Reading a BYE packet, from what a reader has tested, and what an accepted one tells.
+-- Reading a BYE packet, from what a reader has tested, its sources, and its parts by place.
 use borrow.Author.Needs.{needs}
-use mathlib.Core.Path.{_≡_, ap, _∙_, sym, subst}
+use mathlib.Core.Path.{_≡_, refl, ap, _∙_, sym, subst}
 use mathlib.Core.Bool.{true, false}
 use mathlib.Core.List.{List, [], _∷_}
 use mathlib.Core.Logic.{⊎-elim}
 use Prim.Native.Nat.{ℕ, _+_, _-_, _*_, _<_, _≤_, _^_}
-use native.Mathlib.Nat.{mod-lt, add-zero, add-sub-cancel-left}
+use native.Mathlib.Nat.{mod-lt, add-zero}
 use native.Mathlib.Numerals.{add-one}
 use native.Mathlib.Omega.{arith}
 use borrow.Author.Tests.{le-leb, lt-leb}
 use lib.ListN.{length, getD, take, drop, replicate, length-drop, length-replicate}
 use lib.Seq.{drop-drop, length-take-le, take-all, slice-empty, slice-cons}
-use Rattle.rfc3550.specs.Answer.{Refusal, ok, refused, refuse, need, _>>_, _>>=_, mapOk}
+use Rattle.rfc3550.specs.Answer.{Refusal, refusal, Answer, ok, refused, refuse, need, _>>_, _>>=_, mapOk}
 use Rattle.rfc3550.specs.Bytes.{val, get}
-use Rattle.rfc3550.specs.Packet.{Leaving, no-reason, reason, bye, Packet}
+use Rattle.rfc3550.specs.Packet.{Leaving, no-reason, reason, bye, Content, Packet}
 use Rattle.rfc3550.specs.Read.{BYE, lowIn, checkPacket, readLeaving, readContent, readAs, readSourceAt}
-use Rattle.rfc3550.proofs.Answer.{mapOk-inv, refused≢ok}
+use Rattle.rfc3550.proofs.Answer.{refused≢ok}
 use Rattle.rfc3550.proofs.Bytes.{length-get, sum-replicate}
-use Rattle.utils.specs.Error.{parseRefusal, refusalIn}
-use Rattle.utils.specs.Parser.{checkedOf}
-use Rattle.utils.specs.Parts.{partIn, paddingIn}
-use Rattle.utils.specs.declared.error.RtcpParseError.{RtcpParseError}
-use Rattle.utils.specs.declared.parser.CheckedPacket.{CheckedPacket}
-use Rattle.utils.specs.declared.parser.CheckedPacket.the-variants.{Body}
-use Rattle.utils.proofs.Reading.{packetOf, contentIn, got, got-is, mapOk-refused, header-refused, header-passed, header-accepted, header-long, part-refused}
-use Rattle.utils.proofs.Parts.{drop-take, take-drop-take, length-drop-take, get-take, nth-past, nth-get, split}
+use Rattle.utils.specs.Error.{refusalIn, valueOr, orZero}
+use Rattle.utils.proofs.Headers.{Accepted}
+use Rattle.utils.proofs.Values.{value-came, value-is, none-came, none-is}
+use Rattle.utils.proofs.Reading.{packetOf, contentIn, got, got-is, none-at-header, why-at-header, body-accepted, body-content}
+use Rattle.utils.proofs.Parts.{drop-take, take-drop-take, length-drop-take, get-take, nth-past, nth-get, split, lent-again}
 use Rattle.bye.specs.declared.Bye.{Bye}
-use Rattle.bye.specs.declared.ParsedBye.{ParsedBye}
-use Rattle.bye.specs.declared.ParsedBye.the-variants as parsed
-use Rattle.bye.specs.Bye.{parsedOf, byeView, reasonIn, tailIn}
+use Rattle.bye.specs.Bye.{leaving, reasonBytes, tailBytes, byeView, noBye}
 
 -- ---- the content by places in the packet
 
@@ -97,10 +92,10 @@ length-sources : (s : List ℕ) → length (sources s) ≡ lowIn s
 length-sources s = length-get (replicate (lowIn s) 4) (drop 4 s) ∙ length-replicate (lowIn s) 4
 
 abbrev viewNone : List ℕ → ℕ → Bye
-viewNone s b = record { «n_sources» = lowIn s; «has_reason» = false; reason = end s; «reason_len» = 0; body = b; padding = length s - b }
+viewNone s b = record { «n_sources» = lowIn s; «has_reason» = false; reason = end s; «reason_len» = 0; body = b; «padding_len» = length s - b }
 
 abbrev viewThere : List ℕ → ℕ → Bye
-viewThere s b = record { «n_sources» = lowIn s; «has_reason» = true; reason = end s + 1; «reason_len» = len s; body = b; padding = length s - b }
+viewThere s b = record { «n_sources» = lowIn s; «has_reason» = true; reason = end s + 1; «reason_len» = len s; body = b; «padding_len» = length s - b }
 
 view-none : (s : List ℕ) (b : ℕ) → b ≡ end s → byeView (packetOf s b (bye (sources s) no-reason)) ≡ viewNone s b
 view-none s b q = rw (length-sources s, length-drop b s, q, add-zero (end s), add-zero (end s), add-zero (end s))
@@ -116,61 +111,102 @@ view-there s b l q =
       m,
     )
 
-module _ (s : List ℕ) (o : CheckedPacket) (b : ℕ) (e : o ≡ Body b) (h : checkedOf o ≡ checkPacket BYE s) where
+seen-none : (m : Answer Packet) (k : Refusal) → m ≡ refused k → (noBye ≡ valueOr noBye byeView m) × (k ≡ refusalIn m)
+seen-none m k e = (sym (ap (valueOr noBye byeView) e), sym (ap refusalIn e))
+
+seen-read : (m : Answer Packet) (p : Packet) (b : Bye) → m ≡ ok p → byeView p ≡ b → (b ≡ valueOr noBye byeView m) × (refusal 25 0 0 ≡ refusalIn m)
+seen-read m p b e v = (sym (ap (valueOr noBye byeView) e ∙ v), sym (ap refusalIn e))
+
+pub none-header : (s : List ℕ) (b : ℕ) (r : Bye) → b ≡ orZero (checkPacket BYE s) → b ≡ 0 → r ≡ noBye → r ≡ valueOr noBye byeView (readAs BYE s)
+none-header s b r h z q = q ∙ none-at-header BYE s b h noBye byeView z
+
+pub why-header : (s : List ℕ) (b : ℕ) (r : Refusal) → b ≡ orZero (checkPacket BYE s) → b ≡ 0 → r ≡ refusalIn (checkPacket BYE s) → r ≡ refusalIn (readAs BYE s)
+why-header s b r h z q = why-at-header BYE s b h r z q
+
+module _ (s : List ℕ) (b : ℕ) (h : b ≡ orZero (checkPacket BYE s)) (y : b ≡ 0 → ⊥) where
+  body : Accepted 4 s b
+  body = body-accepted BYE s b h y
+
   pub bye-header : (n : ℕ) → n ≤ 4 → n ≤ length s
-  bye-header = header-long BYE s o b e h
+  bye-header n l = let a = body in omega arith
 
   pub bye-body : b ≤ length s
-  bye-body = header-accepted BYE s o b e h .within
+  bye-body = body .within
+
+  content-refused : (k : Refusal) → contentIn BYE s b ≡ refused k → readAs BYE s ≡ refused k
+  unfolding mapOk
+  content-refused k e = body-content BYE s b h y ∙ rw e
+
+  content-read : (c : Content) → contentIn BYE s b ≡ ok c → readAs BYE s ≡ ok (packetOf s b c)
+  unfolding mapOk
+  content-read c e = body-content BYE s b h y ∙ rw e
 
   module _ (n : ℕ) (c : n ≡ lowIn s) where
-    pub sources-short : b < 4 + 4 * n → refuse 2 (4 + 4 * n) b ≡ mapOk byeView (readAs BYE s)
-    unfolding mapOk
-    sources-short q = let a = header-accepted BYE s o b e h in rw (← header-passed BYE s byeView o h b e, short s b (a .enough) (a .within) (omega arith), c)
+    cut : b < 4 + 4 * n → readAs BYE s ≡ refuse 2 (4 + 4 * n) b
+    cut q = content-refused _ (rw c (short s b (body .enough) (body .within) (omega arith)))
 
-    pub reason-none : b ≡ 4 + 4 * n → ok (record { «n_sources» = n; «has_reason» = false; reason = 4 + 4 * n; «reason_len» = 0; body = b; padding = length s - b }) ≡ mapOk byeView (readAs BYE s)
-    unfolding mapOk
-    reason-none q =
-        let a = header-accepted BYE s o b e h in
+    pub none-cut : (r : Bye) → r ≡ noBye → b < 4 + 4 * n → r ≡ valueOr noBye byeView (readAs BYE s)
+    none-cut r e q = e ∙ seen-none (readAs BYE s) _ (cut q) .0
+
+    pub why-cut : b < 4 + 4 * n → refusal 2 (4 + 4 * n) b ≡ refusalIn (readAs BYE s)
+    why-cut q = seen-none (readAs BYE s) _ (cut q) .1
+
+    bare : b ≡ 4 + 4 * n → (viewNone s b ≡ valueOr noBye byeView (readAs BYE s)) × (refusal 25 0 0 ≡ refusalIn (readAs BYE s))
+    bare q =
         let f : b ≡ end s = omega arith in
-        rw (← header-passed BYE s byeView o h b e, none s b (a .enough) (a .within) f, c) (ap ok (sym (view-none s b f)))
+        seen-read (readAs BYE s) _ _ (content-read _ (none s b (body .enough) (body .within) f)) (view-none s b f)
+
+    pub reason-none : b ≡ 4 + 4 * n → record { «n_sources» = n; «has_reason» = false; reason = 4 + 4 * n; «reason_len» = 0; body = b; «padding_len» = length s - b } ≡ valueOr noBye byeView (readAs BYE s)
+    reason-none q = rw c (bare q .0)
+
+    pub why-bare : b ≡ 4 + 4 * n → refusal 25 0 0 ≡ refusalIn (readAs BYE s)
+    why-bare q = bare q .1
 
     -- the place of the reason's length
     pub length-there : 4 + 4 * n ≤ b → (b ≡ 4 + 4 * n → ⊥) → 4 + 4 * n < length s
-    length-there q m = let a = header-accepted BYE s o b e h in omega arith
+    length-there q m = let a = body in omega arith
 
     module _ (x : ℕ) (q : 4 + 4 * n ≤ b) (m : b ≡ 4 + 4 * n → ⊥) (f : x ≡ getD s (4 + 4 * n) 0) where
       len-is : x ≡ len s
       len-is = rw c at f
 
-      pub reason-past : b < 4 + 4 * n + 1 + x → refuse 2 (4 + 4 * n + 1 + x) b ≡ mapOk byeView (readAs BYE s)
-      unfolding mapOk
-      reason-past z =
-          let a = header-accepted BYE s o b e h in
-          let w = len-is in
-          rw (← header-passed BYE s byeView o h b e, past s b (a .enough) (a .within) (omega arith) (omega arith), w, c)
+      over : b < 4 + 4 * n + 1 + x → readAs BYE s ≡ refuse 2 (4 + 4 * n + 1 + x) b
+      over z = let w = len-is in content-refused _ (rw (w, c) (past s b (body .enough) (body .within) (omega arith) (omega arith)))
 
-      pub reason-there : 4 + 4 * n + 1 + x ≤ b
-          → ok (record { «n_sources» = n; «has_reason» = true; reason = 4 + 4 * n + 1; «reason_len» = x; body = b; padding = length s - b }) ≡ mapOk byeView (readAs BYE s)
-      unfolding mapOk
-      reason-there z =
-          let a = header-accepted BYE s o b e h in
+      pub none-over : (r : Bye) → r ≡ noBye → b < 4 + 4 * n + 1 + x → r ≡ valueOr noBye byeView (readAs BYE s)
+      none-over r e z = e ∙ seen-none (readAs BYE s) _ (over z) .0
+
+      pub why-over : b < 4 + 4 * n + 1 + x → refusal 2 (4 + 4 * n + 1 + x) b ≡ refusalIn (readAs BYE s)
+      why-over z = seen-none (readAs BYE s) _ (over z) .1
+
+      said : 4 + 4 * n + 1 + x ≤ b → (viewThere s b ≡ valueOr noBye byeView (readAs BYE s)) × (refusal 25 0 0 ≡ refusalIn (readAs BYE s))
+      said z =
           let w = len-is in
           let r : end s + 1 + len s ≤ b = omega arith in
-          rw (← header-passed BYE s byeView o h b e, there s b (a .enough) (a .within) (omega arith) r, w, c) (ap ok (sym (view-there s b (a .within) r)))
+          seen-read (readAs BYE s) _ _ (content-read _ (there s b (body .enough) (body .within) (omega arith) r)) (view-there s b (body .within) r)
+
+      pub reason-there : 4 + 4 * n + 1 + x ≤ b
+          → record { «n_sources» = n; «has_reason» = true; reason = 4 + 4 * n + 1; «reason_len» = x; body = b; «padding_len» = length s - b } ≡ valueOr noBye byeView (readAs BYE s)
+      reason-there z = let w = len-is in rw (w, c) (said z .0)
+
+      pub why-said : 4 + 4 * n + 1 + x ≤ b → refusal 25 0 0 ≡ refusalIn (readAs BYE s)
+      why-said z = said z .1
 
 -- ---- what an accepted packet tells
 
-pub record Held (s : List ℕ) (a : Bye) : Type 0 where
-  pub few : a .«n_sources» < 32
-  pub sources : 4 + 4 * a .«n_sources» ≤ a .body
-  pub said : a .reason + a .«reason_len» ≤ a .body
-  pub within : a .body ≤ length s
-  pub because : take (a .reason + a .«reason_len» - a .reason) (drop (a .reason) s) ≡ reasonIn (readAs BYE s)
-  pub tail : take (a .body - (a .reason + a .«reason_len»)) (drop (a .reason + a .«reason_len») s) ≡ tailIn (readAs BYE s)
-  pub padding : take (length s - a .body) (drop (a .body) s) ≡ paddingIn (readAs BYE s)
-  pub source : (i : ℕ) → i < a .«n_sources» → readSourceAt s i ≡ ok (val (take 4 (drop (4 + 4 * i) s)))
-  pub none : (i : ℕ) → a .«n_sources» ≤ i → readSourceAt s i ≡ refuse 25 0 0
+-- the parts of the bytes that were read are the packet's fields
+pub record Parts (s : List ℕ) (p : Packet) (a : Bye) : Type 0 where
+  pub because : take (a .«reason_len») (drop (a .reason) s) ≡ reasonBytes (leaving (p .content))
+  pub tail : take (a .body - (a .reason + a .«reason_len»)) (drop (a .reason + a .«reason_len») s) ≡ tailBytes (leaving (p .content))
+  pub padding : take (a .«padding_len») (drop (a .body) s) ≡ p .padding
+
+record Held (s : List ℕ) (p : Packet) (a : Bye) : Type 0 where
+  few : a .«n_sources» < 32
+  sources : 4 + 4 * a .«n_sources» ≤ a .body
+  within : a .body ≤ length s
+  parts : Parts s p a
+  source : (i : ℕ) → i < a .«n_sources» → readSourceAt s i ≡ ok (val (take 4 (drop (4 + 4 * i) s)))
+  none : (i : ℕ) → a .«n_sources» ≤ i → readSourceAt s i ≡ refuse 25 0 0
 
 few-sources : (s : List ℕ) → lowIn s < 32
 unfolding lowIn
@@ -184,39 +220,34 @@ source-past : (s : List ℕ) (b : ℕ) (l : Leaving) → readAs BYE s ≡ ok (pa
 unfolding readSourceAt _>>=_
 source-past s b l e i q = rw e (nth-past i (sources s) (rw (length-sources s) q))
 
-held-none : (s : List ℕ) (b : ℕ) → 4 ≤ b → b ≤ length s → b ≡ end s → readAs BYE s ≡ ok (packetOf s b (bye (sources s) no-reason)) → Held s (viewNone s b)
-unfolding partIn
-held-none s b h l q e =
-    let z : end s + 0 - end s ≡ 0 = omega arith in
-    let y : b - (end s + 0) ≡ 0 = omega arith in
-    record {
-      few = few-sources s;
-      sources = omega arith;
-      said = omega arith;
-      within = l;
-      because = rw (e, z);
-      tail = rw (e, y);
-      padding = rw e (take-all (length s - b) (drop b s) (rw length-drop (omega arith)));
-      source = source-is s b no-reason e;
-      none = source-past s b no-reason e;
-    }
+module _ (s : List ℕ) (b : ℕ) (l : b ≤ length s) where
+  padding-there : take (length s - b) (drop b s) ≡ drop b s
+  padding-there = take-all (length s - b) (drop b s) (rw length-drop (omega arith))
 
-held-there : (s : List ℕ) (b : ℕ) → 4 ≤ b → b ≤ length s → end s + 1 + len s ≤ b → readAs BYE s ≡ ok (packetOf s b (bye (sources s) (left s b))) → Held s (viewThere s b)
-unfolding partIn
-held-there s b h l q e =
-    record {
-      few = few-sources s;
-      sources = omega arith;
-      said = q;
-      within = l;
-      because = rw (e, add-sub-cancel-left (end s + 1) (len s));
-      tail = rw e;
-      padding = rw e (take-all (length s - b) (drop b s) (rw length-drop (omega arith)));
-      source = source-is s b (left s b) e;
-      none = source-past s b (left s b) e;
-    }
+  held-none : b ≡ end s → readAs BYE s ≡ ok (packetOf s b (bye (sources s) no-reason)) → Held s (packetOf s b (bye (sources s) no-reason)) (viewNone s b)
+  held-none q e =
+      let z : b - (end s + 0) ≡ 0 = omega arith in
+      record {
+        few = few-sources s;
+        sources = omega arith;
+        within = l;
+        parts = record { because = refl; tail = rw z; padding = padding-there };
+        source = source-is s b no-reason e;
+        none = source-past s b no-reason e;
+      }
 
-held : (s : List ℕ) (p : Packet) → readAs BYE s ≡ ok p → Held s (byeView p)
+  held-there : end s + 1 + len s ≤ b → readAs BYE s ≡ ok (packetOf s b (bye (sources s) (left s b))) → Held s (packetOf s b (bye (sources s) (left s b))) (viewThere s b)
+  held-there q e =
+      record {
+        few = few-sources s;
+        sources = omega arith;
+        within = l;
+        parts = record { because = refl; tail = refl; padding = padding-there };
+        source = source-is s b (left s b) e;
+        none = source-past s b (left s b) e;
+      }
+
+held : (s : List ℕ) (p : Packet) → readAs BYE s ≡ ok p → Held s p (byeView p)
 held s p e =
     let g = got BYE s p e in
     let b = g .body in
@@ -231,62 +262,66 @@ held s p e =
     (λ y. absurd (refused≢ok (sym (past s b h l z y) ∙ g .content)))
     (λ y.
     let w = got-is BYE s p g (bye (sources s) (left s b)) (there s b h l z y) in
-    subst (Held s) (sym (view-there s b l y) ∙ ap byeView w) (held-there s b h l y (e ∙ ap ok (sym w))))
+    subst (λ (p : Packet). Held s p (byeView p)) w (subst (Held s _) (sym (view-there s b l y)) (held-there s b l y (e ∙ ap ok (sym w)))))
     (split b (end s + 1 + len s)))
     (λ z.
     let f : b ≡ end s = omega arith in
     let w = got-is BYE s p g (bye (sources s) no-reason) (none s b h l f) in
-    subst (Held s) (sym (view-none s b f) ∙ ap byeView w) (held-none s b h l f (e ∙ ap ok (sym w))))
+    subst (λ (p : Packet). Held s p (byeView p)) w (subst (Held s _) (sym (view-none s b f)) (held-none s b l f (e ∙ ap ok (sym w)))))
     (split (end s) b))
     (split b (end s))
 
-module _ (s : List ℕ) (o : ParsedBye) (h : parsedOf o ≡ mapOk byeView (readAs BYE s)) where
-  pub bye-refused : (part : Packet → List ℕ) (v : RtcpParseError) → o ≡ parsed.Refused v → [] ≡ partIn part (readAs BYE s)
-  bye-refused part v e = part-refused byeView (parsedOf o) (parseRefusal v) part (readAs BYE s) (ap parsedOf e) h
+-- ---- by what was read
 
-  pub source-refused : (i : ℕ) (v : RtcpParseError) (r : Refusal) → o ≡ parsed.Refused v → r ≡ refusalIn (parsedOf o) → refused r ≡ readSourceAt s i
-  unfolding readSourceAt _>>=_
-  source-refused i v r e q = rw (mapOk-refused byeView (readAs BYE s) (sym h ∙ ap parsedOf e), q, e)
+module _ (s : List ℕ) (o : Bye) (h : o ≡ valueOr noBye byeView (readAs BYE s)) where
+  module _ (k : Refusal) (z : o .body ≡ 0) (q : k ≡ refusalIn (readAs BYE (take (length s - 0) (drop 0 s)))) where
+    why-whole : k ≡ refusalIn (readAs BYE s)
+    why-whole = q ∙ ap (λ (s : List ℕ). refusalIn (readAs BYE s)) (lent-again s)
 
-  module _ (a : Bye) (e : o ≡ parsed.Bye a) where
-    bye-held : Held s a
-    bye-held = let m = mapOk-inv byeView (readAs BYE s) (sym h ∙ ap parsedOf e) in subst (Held s) (m .2) (held s (m .0) (m .1))
+    pub bye-refused : refused k ≡ mapOk byeView (readAs BYE s)
+    bye-refused = none-is noBye byeView (λ o. o .body) refl (λ p. omega arith) byeView (readAs BYE s) o k h z why-whole
 
-    pub bye-within : a .body ≤ length s
-    bye-within = bye-held .within
+    pub source-refused : (i : ℕ) → refused k ≡ readSourceAt s i
+    unfolding readSourceAt _>>=_
+    source-refused i = rw (none-came noBye byeView (λ o. o .body) refl (λ p. omega arith) (readAs BYE s) o h z, why-whole)
 
-    pub reason-within : a .reason + a .«reason_len» ≤ length s
-    reason-within = let w = bye-held in omega arith
+  module _ (y : o .body ≡ 0 → ⊥) where
+    pub bye-parsed : ok o ≡ mapOk byeView (readAs BYE s)
+    bye-parsed = value-is noBye byeView (λ o. o .body) refl (readAs BYE s) o h y
 
-    pub reason-fits : length s < 2 ^ 64 → a .reason + a .«reason_len» < 2 ^ 64
-    reason-fits l = let w = bye-held in omega arith
-
-    pub reason-said : a .reason + a .«reason_len» ≤ a .body
-    reason-said = bye-held .said
-
-    pub reason-part : take (a .reason + a .«reason_len» - a .reason) (drop (a .reason) s) ≡ reasonIn (readAs BYE s)
-    reason-part = bye-held .because
-
-    pub tail-part : take (a .body - (a .reason + a .«reason_len»)) (drop (a .reason + a .«reason_len») s) ≡ tailIn (readAs BYE s)
-    tail-part = bye-held .tail
-
-    pub padding-part : take (length s - a .body) (drop (a .body) s) ≡ paddingIn (readAs BYE s)
-    padding-part = bye-held .padding
+    bye-held : (p : Packet) × Held s p o
+    bye-held = let m = value-came noBye byeView (λ o. o .body) refl (readAs BYE s) o h y in (m .0, subst (Held s (m .0)) (m .2) (held s (m .0) (m .1)))
 
     module _ (i : ℕ) where
-      pub source-none : a .«n_sources» ≤ i → refuse 25 0 0 ≡ readSourceAt s i
-      source-none l = sym (bye-held .none i l)
+      pub source-none : o .«n_sources» ≤ i → refuse 25 0 0 ≡ readSourceAt s i
+      source-none l = sym (bye-held .1 .none i l)
 
-      pub source-there : (x : ℕ) → i < a .«n_sources» → x ≡ val (take 4 (drop (4 + 4 * i) s)) → ok x ≡ readSourceAt s i
-      source-there x l q = ap ok q ∙ sym (bye-held .source i l)
+      pub source-there : (x : ℕ) → i < o .«n_sources» → x ≡ val (take 4 (drop (4 + 4 * i) s)) → ok x ≡ readSourceAt s i
+      source-there x l q = ap ok q ∙ sym (bye-held .1 .source i l)
 
-      pub source-scaled : i < a .«n_sources» → 4 * i < 2 ^ 64
-      source-scaled l = let w = bye-held in omega arith
+      pub source-scaled : i < o .«n_sources» → 4 * i < 2 ^ 64
+      source-scaled l = let w = bye-held .1 in omega arith
 
-      pub source-fits : i < a .«n_sources» → 4 + 4 * i < 2 ^ 64
-      source-fits l = let w = bye-held in omega arith
+      pub source-fits : i < o .«n_sources» → 4 + 4 * i < 2 ^ 64
+      source-fits l = let w = bye-held .1 in omega arith
 
-      pub source-within : i < a .«n_sources» → 4 + 4 * i + 4 ≤ length s
-      source-within l = let w = bye-held in omega arith
+      pub source-within : i < o .«n_sources» → 4 + 4 * i + 4 ≤ length s
+      source-within l = let w = bye-held .1 in omega arith
 
-pub ruleset byes = (needs, header-refused, bye-header, bye-body, sources-short, reason-none, length-there, reason-past, reason-there, bye-refused, source-refused, bye-within, reason-within, reason-fits, reason-said, reason-part, tail-part, padding-part, source-none, source-there, source-scaled, source-fits, source-within)
+-- ---- parts
+
+pub parts : (s : List ℕ) (p : Packet) → readAs BYE s ≡ ok p → Parts s p (byeView p)
+parts s p e = held s p e .parts
+
+-- where the body ends ahead of the reason's end there is no tail
+module _ (b r n : ℕ) (s : List ℕ) where
+  pub tail-before : b < r → take 0 s ≡ take (b - (r + n)) (drop (r + n) s)
+  tail-before h = let z : b - (r + n) ≡ 0 = omega arith in rw z
+
+  pub tail-within : b - r < n → take 0 s ≡ take (b - (r + n)) (drop (r + n) s)
+  tail-within h = let z : b - (r + n) ≡ 0 = omega arith in rw z
+
+  pub tail-is : (l : List ℕ) → n ≤ b - r → l ≡ take (b - r - n) (drop (r + n) s) → l ≡ take (b - (r + n)) (drop (r + n) s)
+  tail-is l h e = let z : b - r - n ≡ b - (r + n) = omega arith in e ∙ rw z
+
+pub ruleset byes = (needs, none-header, why-header, bye-header, bye-body, none-cut, why-cut, reason-none, why-bare, length-there, none-over, why-over, reason-there, why-said, bye-refused, bye-parsed, source-refused, source-none, source-there, source-scaled, source-fits, source-within, tail-before, tail-within, tail-is)

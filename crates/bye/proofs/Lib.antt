@@ -1,2 +1,3 @@
 pub mod Byes
 pub mod Injective
+pub mod Writes

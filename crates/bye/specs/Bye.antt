@@ -1,4 +1,4 @@
--- A BYE packet's fields and parts, as functions of the packet.
+-- A BYE packet's fields, as functions of the packet.
 use Prim.Native.Nat.{ℕ, _+_, _*_}
 use mathlib.Core.Bool.{Bool, true, false}
 use mathlib.Core.List.{List, []}
@@ -7,7 +7,6 @@ use Rattle.rfc3550.specs.Answer.{Answer, ok, refused}
 use Rattle.rfc3550.specs.Packet.{Leaving, no-reason, reason, Content, report, sdes, bye, app, unknown, Packet}
 use Rattle.rfc3550.specs.Read.{sourcesOf}
 use Rattle.utils.specs.Error.{parseRefusal}
-use Rattle.utils.specs.Parts.{partIn}
 use Rattle.bye.specs.declared.Bye.{Bye}
 use Rattle.bye.specs.declared.ParsedBye.{ParsedBye}
 use Rattle.bye.specs.declared.ParsedBye.the-variants as parsed
@@ -59,11 +58,9 @@ byeView p =
       reason = reasonAt (p .content);
       «reason_len» = length (reasonBytes (leaving (p .content)));
       body = reasonAt (p .content) + length (reasonBytes (leaving (p .content))) + length (tailBytes (leaving (p .content)));
-      padding = length (p .padding);
+      «padding_len» = length (p .padding);
     }
 
-abbrev pub reasonIn : Answer Packet → List ℕ
-reasonIn a = partIn (λ p. reasonBytes (leaving (p .content))) a
-
-abbrev pub tailIn : Answer Packet → List ℕ
-tailIn a = partIn (λ p. tailBytes (leaving (p .content))) a
+-- what stands for a packet that is refused
+abbrev pub noBye : Bye
+noBye = record { «n_sources» = 0; «has_reason» = false; reason = 0; «reason_len» = 0; body = 0; «padding_len» = 0 }

@@ -1,1 +1,2 @@
 pub mod Bye
+pub mod Write

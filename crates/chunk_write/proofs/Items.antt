@@ -8,20 +8,23 @@ use native.Mathlib.Omega.{arith}
 use borrow.Author.Tests.{le-leb, lt-leb, leb-true, eq-eqb, ne-eqb, eqb-true, eqb-false, not-true, not-false}
 use lib.ListN.{length, take, drop, set, length-append, length-set}
 use lib.Dec.{leb, eqb}
-use Rattle.rfc3550.specs.Answer.{Answer, ok, refused, refusal, need, _>>_, pick}
+use Rattle.rfc3550.specs.Answer.{Refusal, Answer, ok, refused, refusal, need, _>>_, _>>=_, pick}
 use Rattle.rfc3550.specs.Bytes.{store}
 use Rattle.rfc3550.specs.Packet.{item, priv, itemBytes}
-use Rattle.rfc3550.specs.Write.{LentItem, itemGiven, itemTests, itemSize, writeItem}
+use Rattle.rfc3550.specs.Write.{LentItem, itemGiven, itemTests, itemSize, room, written, writeItem}
 use Rattle.rfc3550.proofs.Answer.{need-inv, need-ok, then-inv, then-assoc, ok-injective}
 use Rattle.rfc3550.proofs.Bytes.{length-store}
-use Rattle.utils.specs.Writer.{writtenOf}
+use Rattle.utils.specs.Error.{writeRefusal, orZero}
+use Rattle.utils.specs.Writer.{writtenOf, sizeRefusal}
 use Rattle.utils.specs.declared.error.RtcpWriteError.{RtcpWriteError}
 use Rattle.utils.specs.declared.writer.Written.{Written}
 use Rattle.utils.specs.declared.writer.Written.the-variants.{Size, Refused}
 use Rattle.utils.proofs.WriterCases.{writer}
 use Rattle.utils.proofs.WriterStores.{store-puts, store-store, store-part}
-use Rattle.utils.proofs.WriterPackets.{refused-written, short-written, done-written}
-use Rattle.chunk_write.specs.Sizes.{lent, itemLength, sizeOf, ItemFits, headBytes, TextFits, HeadLaid, TextLaid}
+use Rattle.utils.proofs.Parts.{lent-again}
+use Rattle.utils.proofs.Values.{number-came}
+use Rattle.utils.proofs.WriterPackets.{short-written, done-written}
+use Rattle.chunk_write.specs.Sizes.{lent, itemLength, sizeOf, ItemFits}
 
 -- ---- the size
 
@@ -53,10 +56,51 @@ module _ (t p v : ℕ) where
       unfolding sizeOf need _>>_
       plain-size f = simp (ne-eqb _ _ z, ne-eqb _ _ n, le-leb _ _ f)
 
+  -- in numbers, and why
+  pub type-zero-number : t ≡ 0 → 0 ≡ orZero (sizeOf t p v)
+  type-zero-number h = ap orZero (type-zero h)
+
+  pub type-zero-why : t ≡ 0 → refusal 23 0 0 ≡ sizeRefusal (sizeOf t p v)
+  type-zero-why h = ap sizeRefusal (type-zero h)
+
+  module _ (z : t ≡ 0 → ⊥) where
+    module _ (e : t ≡ 8) where
+      pub prefix-over-number : 254 < p → 0 ≡ orZero (sizeOf t p v)
+      prefix-over-number h = ap orZero (prefix-over z e h)
+
+      pub prefix-over-why : 254 < p → refusal 21 p 254 ≡ sizeRefusal (sizeOf t p v)
+      prefix-over-why h = ap sizeRefusal (prefix-over z e h)
+
+      pub priv-over-number : p ≤ 254 → 254 - p < v → 0 ≡ orZero (sizeOf t p v)
+      priv-over-number h f = ap orZero (priv-over z e h f)
+
+      pub priv-over-why : p ≤ 254 → 254 - p < v → refusal 20 v (254 - p) ≡ sizeRefusal (sizeOf t p v)
+      priv-over-why h f = ap sizeRefusal (priv-over z e h f)
+
+      pub priv-size-number : p ≤ 254 → v ≤ 254 - p → 3 + p + v ≡ orZero (sizeOf t p v)
+      priv-size-number h f = ap orZero (priv-size z e h f)
+
+      pub priv-size-why : p ≤ 254 → v ≤ 254 - p → refusal 22 0 0 ≡ sizeRefusal (sizeOf t p v)
+      priv-size-why h f = ap sizeRefusal (priv-size z e h f)
+
+    module _ (n : t ≡ 8 → ⊥) where
+      pub other-over-number : 255 < v → 0 ≡ orZero (sizeOf t p v)
+      other-over-number f = ap orZero (plain-over z n f)
+
+      pub other-over-why : 255 < v → refusal 20 v 255 ≡ sizeRefusal (sizeOf t p v)
+      other-over-why f = ap sizeRefusal (plain-over z n f)
+
+      pub other-size-number : v ≤ 255 → 2 + v ≡ orZero (sizeOf t p v)
+      other-size-number f = ap orZero (plain-size z n f)
+
+      pub other-size-why : v ≤ 255 → refusal 22 0 0 ≡ sizeRefusal (sizeOf t p v)
+      other-size-why f = ap sizeRefusal (plain-size z n f)
+
 -- what a size says
 pub record SizeKnown (t p v n : ℕ) : Type 0 where
   pub is : n ≡ itemLength t p v
   pub most : n ≤ 3 + p + v
+  pub least : 2 ≤ n
   pub priv : t ≡ 8 → p + v ≤ 254
   pub plain : (t ≡ 8 → ⊥) → v ≤ 255
 
@@ -72,10 +116,27 @@ size-known t p v n e =
     go true q b c d =
         let m : p ≤ 254 = leb-true _ _ b in
         let k : v ≤ 254 - p = leb-true _ _ c in
-        record { is = rw q (sym d); most = omega arith; priv = λ f. omega arith; plain = λ f. absurd (f (eqb-true _ _ q)) }
+        record { is = rw q (sym d); most = omega arith; least = omega arith; priv = λ f. omega arith; plain = λ f. absurd (f (eqb-true _ _ q)) }
     go false q b c d =
         let k : v ≤ 255 = leb-true _ _ c in
-        record { is = rw q (sym d); most = omega arith; priv = λ f. absurd (eqb-false _ _ q f); plain = λ f. k }
+        record { is = rw q (sym d); most = omega arith; least = omega arith; priv = λ f. absurd (eqb-false _ _ q f); plain = λ f. k }
+
+pub size-most : (t p v : ℕ) → orZero (sizeOf t p v) ≤ 3 + p + v
+size-most t p v = go (sizeOf t p v) refl
+  where
+    go : (m : Answer ℕ) → sizeOf t p v ≡ m → orZero m ≤ 3 + p + v
+    go (ok n) q = size-known t p v n q .most
+    go (refused r) q = omega arith
+
+-- ---- an answer's number and why
+
+pub size-why-of : (m : Answer ℕ) → ((x : ℕ) → m ≡ ok x → 0 < x) → (n : ℕ) → n ≡ orZero m → (k : Refusal) → n ≡ 0 → k ≡ sizeRefusal m → refused k ≡ m
+size-why-of (ok x) f n h k z q = absurd (omega (arith, f x refl))
+size-why-of (refused r) f n h k z q = ap refused q
+
+pub not-written : (m : Answer ℕ) (bs l : List ℕ) (k : Refusal) → refused k ≡ m → (refused k, l) ≡ written m bs l
+unfolding room _>>=_
+not-written m bs l k e = simp (← e)
 
 -- ---- the definition of an item's size goes by the lengths
 
@@ -96,8 +157,11 @@ pub item-is : (t : ℕ) (p v : List ℕ) → itemSize (lent t p v) ≡ sizeOf t 
 unfolding sizeOf itemSize itemTests
 item-is t p v = rw (length-item t p v) (then-assoc₃ _ _ _ _)
 
-pub item-size : (t : ℕ) (p v : List ℕ) (w : Written) → writtenOf w ≡ sizeOf t (length p) (length v) → writtenOf w ≡ itemSize (lent t p v)
-item-size t p v w e = e ∙ sym (item-is t p v)
+pub item-number : (t : ℕ) (p v : List ℕ) (n : ℕ) → n ≡ orZero (sizeOf t (length p) (length v)) → n ≡ orZero (itemSize (lent t p v))
+item-number t p v n e = e ∙ sym (ap orZero (item-is t p v))
+
+pub item-why : (t : ℕ) (p v : List ℕ) (k : Refusal) → k ≡ sizeRefusal (sizeOf t (length p) (length v)) → k ≡ sizeRefusal (itemSize (lent t p v))
+item-why t p v k e = e ∙ sym (ap sizeRefusal (item-is t p v))
 
 -- ---- the bytes
 
@@ -132,41 +196,37 @@ module _ (t : ℕ) (p v : List ℕ) where
 
   -- ---- a lone item
 
-  module _ (w : Written) (h : writtenOf w ≡ itemSize (lent t p v)) where
-    pub item-fits : (n space : ℕ) → w ≡ Size n → n ≤ space → ItemFits t (length p) (length v) space
-    item-fits n space q f =
-        let z : sizeOf t (length p) (length v) ≡ ok n = sym (item-is t p v) ∙ sym h ∙ ap writtenOf q in
-        let k = size-known t (length p) (length v) n z in
-        record { passed = z ∙ ap (λ (x : ℕ). ok x) (k .is); room = rw (k .is) at f }
+  item-some : (n : ℕ) → itemSize (lent t p v) ≡ ok n → 0 < n
+  item-some n e = let k = size-known t (length p) (length v) n (sym (item-is t p v) ∙ e) in omega (arith, k .least)
 
-    pub item-refused : (l : List ℕ) (e : RtcpWriteError) → w ≡ Refused e → (writtenOf w, l) ≡ writeItem (lent t p v) l
+  module _ (n : ℕ) (h : n ≡ orZero (itemSize (lent t p v))) where
+    pub item-refused : (k : Refusal) → n ≡ 0 → k ≡ sizeRefusal (itemSize (lent t p v)) → refused k ≡ itemSize (lent t p v)
+    item-refused k z q = size-why-of (itemSize (lent t p v)) item-some n h k z q
+
+    pub item-not-written : (k : Refusal) (l : List ℕ) → n ≡ 0 → k ≡ sizeRefusal (itemSize (lent t p v)) → (refused k, l) ≡ writeItem (lent t p v) l
     unfolding writeItem
-    item-refused l e q = refused-written w _ _ l h e q
+    item-not-written k l z q = not-written (itemSize (lent t p v)) _ l k (item-refused k z q)
 
-    pub item-short : (l : List ℕ) (n : ℕ) → w ≡ Size n → length l < n → (refused (refusal 10 n 0), l) ≡ writeItem (lent t p v) l
-    unfolding writeItem
-    item-short l n q f = short-written w _ _ l h n q f
+    module _ (z : n ≡ 0 → ⊥) where
+      pub item-sized : ok n ≡ itemSize (lent t p v)
+      item-sized = sym (number-came (itemSize (lent t p v)) n h z)
 
-    pub item-done : (l l₁ : List ℕ) (n : ℕ) → w ≡ Size n → n ≤ length l → l₁ ≡ store 0 (itemBytes (itemGiven (lent t p v))) l → (ok n, l₁) ≡ writeItem (lent t p v) l
-    unfolding writeItem
-    item-done l l₁ n q f e = done-written w _ _ l h n l₁ q f e
+      pub item-fits : (space : ℕ) → n ≤ space → ItemFits t (length p) (length v) space
+      item-fits space f =
+          let e : sizeOf t (length p) (length v) ≡ ok n = sym (item-is t p v) ∙ sym item-sized in
+          let k = size-known t (length p) (length v) n e in
+          record { passed = e ∙ ap (λ (x : ℕ). ok x) (k .is); room = rw (k .is) at f }
 
--- ---- an item by its text
+      pub item-short : (l : List ℕ) → length l < n → (refused (refusal 10 n 0), l) ≡ writeItem (lent t p v) l
+      unfolding writeItem
+      item-short l f = short-written (Size n) _ _ l item-sized n refl f
 
-module _ (t p n : ℕ) (l : List ℕ) (f : TextFits t p n (length l)) where
-  pub head-priv : t ≡ 8 → HeadLaid t p n l 3 (set (set (set l 0 t) 1 (1 + n)) 2 p)
-  head-priv e = let h = f .priv e in record { size = rw (eq-eqb t 8 e); bytes = rw (eq-eqb t 8 e) (store-puts 0 t ((1 + n) ∷ p ∷ []) l (omega arith)); ends = omega arith }
+      pub item-done : (l l₁ : List ℕ) → n ≤ length l → l₁ ≡ store 0 (itemBytes (itemGiven (lent t p v))) l → (ok n, l₁) ≡ writeItem (lent t p v) l
+      unfolding writeItem
+      item-done l l₁ f e = done-written (Size n) _ _ l item-sized n l₁ refl f e
 
-  pub head-plain : (t ≡ 8 → ⊥) → HeadLaid t p n l 2 (set (set l 0 t) 1 n)
-  head-plain e = record { size = rw (ne-eqb t 8 e); bytes = rw (ne-eqb t 8 e) (store-puts 0 t (n ∷ []) l (omega (arith, f .room))); ends = f .room }
+-- the lists lent again
+pub item-why-lent : (t : ℕ) (p v : List ℕ) (k : Refusal) → k ≡ sizeRefusal (itemSize (lent t (take (length p - 0) p) (take (length v - 0) v))) → k ≡ sizeRefusal (itemSize (lent t p v))
+item-why-lent t p v k e = rw (lent-again p, lent-again v) at e
 
-pub text-laid : (t p : ℕ) (text l : List ℕ) (r : ℕ) (l₁ last : List ℕ) → HeadLaid t p (length text) l r l₁ → last ≡ store 0 text (take (length l₁ - r) (drop r l₁))
-    → TextLaid t p text l (r + length text) (take r l₁ ++ (last ++ drop (length l₁ - r) (drop r l₁)))
-text-laid t p text l r l₁ last y e =
-    let z = y .ends in
-    let s = y .size in
-    let n : length l₁ ≡ length l = ap length (y .bytes) ∙ length-store 0 (headBytes t p (length text)) l (omega arith) in
-    let b : take r l₁ ++ (last ++ drop (length l₁ - r) (drop r l₁)) ≡ store r text l₁ = rw e (store-part r text l₁ (omega arith)) in
-    record { size = rw s; bytes = b ∙ rw (y .bytes) (store-store 0 r (headBytes t p (length text)) text l (omega arith) (omega arith)) }
-
-pub ruleset items = (writer, type-zero, prefix-over, priv-over, priv-size, plain-over, plain-size, item-size, plain-laid, priv-laid, head-priv, head-plain, text-laid, priv-fits, plain-fits, priv-done, plain-done, item-fits, item-refused, item-short, item-done)
+pub ruleset items = (item-why-lent, writer, type-zero-number, type-zero-why, prefix-over-number, prefix-over-why, priv-over-number, priv-over-why, priv-size-number, priv-size-why, other-over-number, other-over-why, other-size-number, other-size-why, item-number, item-why, plain-laid, priv-laid, priv-fits, plain-fits, priv-done, plain-done, item-refused, item-not-written, item-sized, item-fits, item-short, item-done)

@@ -1,2 +1,3 @@
 pub mod Items
-pub mod Chunks
+pub mod Sizes
+pub mod Laying

@@ -1,36 +1,14 @@
--- The lent lists: what their checks leave known, and what laying them down ensures.
-use Prim.Native.Nat.{ℕ, _+_, _-_, _%_, _≤_}
+-- The bytes of the lent lists: what their sizes leave known, and what laying them down ensures.
+use Prim.Native.Nat.{ℕ, _+_, _-_, _≤_}
 use mathlib.Core.Path.{_≡_}
-use mathlib.Core.List.{List, [], _∷_}
-use lib.ListN.{length, take, drop, getD}
-use lib.Dec.{ltb}
-use Rattle.rfc3550.specs.Answer.{ok, pick}
+use mathlib.Core.List.{List}
+use lib.ListN.{length, take, drop}
+use Rattle.rfc3550.specs.Answer.{ok}
 use Rattle.rfc3550.specs.Bytes.{sum, store}
-use Rattle.rfc3550.specs.Packet.{itemBytes, itemsBytes, chunkBytes, fill}
-use Rattle.rfc3550.specs.Write.{LentItem, LentChunk, lentItems, itemGiven, itemsGiven, chunkGiven, itemsTests}
-use Rattle.chunk_write.specs.Sizes.{lent, itemLength, sizeOf}
-use Rattle.chunk_write.specs.declared.chunk.Rest.{Rest}
-use Rattle.chunk_write.specs.declared.chunk.Rest.the-variants.{Left, Over}
-use Rattle.chunk_write.specs.declared.chunk.Laid.{Laid}
-
--- what is left of n once the numbers are taken off it, one after the other
-abbrev pub leftOf : List ℕ → ℕ → Rest
-leftOf [] n = Left n
-leftOf (x ∷ xs) n = pick (ltb n x) Over (leftOf xs (n - x))
-
--- two lists as one, element by element
-abbrev pub paired : List ℕ → List ℕ → List ℕ
-paired [] vs = []
-paired (p ∷ ps) [] = []
-paired (p ∷ ps) (v ∷ vs) = p ∷ v ∷ paired ps vs
-
-pub record Listed (ts ps vs : List ℕ) : Type 0 where
-  pub prefixes : length ps ≡ length ts
-  pub values : length vs ≡ length ts
-
--- the elements from index i up to index j
-abbrev pub part : ℕ → ℕ → List ℕ → List ℕ
-part i j xs = take (j - i) (drop i xs)
+use Rattle.rfc3550.specs.Packet.{itemBytes, itemsBytes, chunkBytes, chunksBytes}
+use Rattle.rfc3550.specs.Write.{LentItem, LentChunk, lentItems, lentChunks, itemGiven, itemsGiven, chunkGiven, chunksGiven, itemsTests}
+use Rattle.chunk_write.specs.Sizes.{lent, itemLength, sizeOf, Listed, part, closed}
+use Rattle.chunk_write.specs.declared.chunks.LaidEnd.{LaidEnd}
 
 pub record Within (ts ps vs bs : List ℕ) (i j from : ℕ) : Type 0 where
   pub order : i ≤ j
@@ -63,24 +41,15 @@ pub record ItemsFit (ts ps vs bs : List ℕ) (space : ℕ) : Type 0 where
   pub tests : itemsTests (lentItems ts ps vs bs) ≡ ok tt
   pub room : length (laidItems ts ps vs bs) ≤ space
 
-pub record ItemsLaid (ts ps vs bs l : List ℕ) (r : Laid) (l₁ : List ℕ) : Type 0 where
-  pub size : r .size ≡ length (laidItems ts ps vs bs)
-  pub used : r .used ≡ sum ps + sum vs
-  pub bytes : l₁ ≡ store 0 (laidItems ts ps vs bs) l
-
--- the same from index o on, with the index after them as size
-pub record ItemsLaidAt (o : ℕ) (ts ps vs bs l : List ℕ) (r : Laid) (l₁ : List ℕ) : Type 0 where
-  pub size : r .size ≡ o + length (laidItems ts ps vs bs)
-  pub used : r .used ≡ sum ps + sum vs
+-- the items from index o on, their bytes from `from` on
+pub record ItemsLaid (o from : ℕ) (ts ps vs bs l : List ℕ) (r : LaidEnd) (l₁ : List ℕ) : Type 0 where
+  pub size : r .end ≡ o + length (laidItems ts ps vs bs)
+  pub used : r .taken ≡ from + (sum ps + sum vs)
   pub bytes : l₁ ≡ store o (laidItems ts ps vs bs) l
 
 -- the bytes of the chunk of them
 abbrev pub laidChunk : ℕ → List ℕ → List ℕ → List ℕ → List ℕ → List ℕ
 laidChunk ssrc ts ps vs bs = chunkBytes (chunkGiven (record { ssrc = ssrc; items = lentItems ts ps vs bs }))
-
--- from the end of the items to the chunk's end
-abbrev pub closed : ℕ → ℕ
-closed at = at + (4 - at % 4)
 
 pub record ChunkFits (ts ps vs bs : List ℕ) (space : ℕ) : Type 0 where
   pub listed : Listed ts ps vs
@@ -88,7 +57,34 @@ pub record ChunkFits (ts ps vs bs : List ℕ) (space : ℕ) : Type 0 where
   pub tests : itemsTests (lentItems ts ps vs bs) ≡ ok tt
   pub room : closed (4 + length (laidItems ts ps vs bs)) ≤ space
 
-pub record ChunkLaid (ssrc : ℕ) (ts ps vs bs l : List ℕ) (r : Laid) (l₁ : List ℕ) : Type 0 where
-  pub size : r .size ≡ length (laidChunk ssrc ts ps vs bs)
-  pub used : r .used ≡ sum ps + sum vs
+pub record ChunkLaid (ssrc from : ℕ) (ts ps vs bs l : List ℕ) (r : LaidEnd) (l₁ : List ℕ) : Type 0 where
+  pub size : r .end ≡ length (laidChunk ssrc ts ps vs bs)
+  pub used : r .taken ≡ from + (sum ps + sum vs)
   pub bytes : l₁ ≡ store 0 (laidChunk ssrc ts ps vs bs) l
+
+pub record ChunkFitsAt (ts ps vs bs : List ℕ) (i j from at space : ℕ) : Type 0 where
+  pub order : i ≤ j
+  pub within : j ≤ length ts
+  pub listed : Listed ts ps vs
+  pub start : at ≤ space
+  pub bytes : from ≤ length bs
+  pub fits : ChunkFits (part i j ts) (part i j ps) (part i j vs) (drop from bs) (space - at)
+
+pub record ChunkLaidAt (ssrc : ℕ) (ts ps vs bs : List ℕ) (i j from at : ℕ) (l : List ℕ) (r : LaidEnd) (l₁ : List ℕ) : Type 0 where
+  pub size : r .end ≡ length (laidChunk ssrc (part i j ts) (part i j ps) (part i j vs) (drop from bs))
+  pub used : r .taken ≡ from + (sum (part i j ps) + sum (part i j vs))
+  pub bytes : l₁ ≡ store at (laidChunk ssrc (part i j ts) (part i j ps) (part i j vs) (drop from bs)) l
+  pub ends : at + r .end ≤ length l
+  pub taken : r .taken ≤ length bs
+
+-- the bytes of the lent chunks
+abbrev pub laidChunks : List ℕ → List ℕ → List ℕ → List ℕ → List ℕ → List ℕ → List ℕ
+laidChunks ss cs ts ps vs bs = chunksBytes (chunksGiven (lentChunks ss cs (lentItems ts ps vs bs)))
+
+pub record ChunksFit (o : ℕ) (ss cs ts ps vs bs : List ℕ) (space : ℕ) : Type 0 where
+  pub counts : length cs ≡ length ss
+  pub items : sum cs ≡ length ts
+  pub listed : Listed ts ps vs
+  pub bytes : sum ps + sum vs ≤ length bs
+  pub tests : itemsTests (lentItems ts ps vs bs) ≡ ok tt
+  pub room : o + length (laidChunks ss cs ts ps vs bs) ≤ space

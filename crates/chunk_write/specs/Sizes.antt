@@ -1,14 +1,15 @@
--- The sizes of items and chunks from their lengths alone, and what the checks leave known.
-use Prim.Native.Nat.{ℕ, _+_, _-_, _≤_}
+-- The sizes of items and chunks from their lengths alone.
+use Prim.Native.Nat.{ℕ, _+_, _-_, _*_, _%_, _<_, _≤_, _^_}
 use mathlib.Core.Path.{_≡_}
 use mathlib.Core.Bool.{Bool, _||_, not}
-use mathlib.Core.List.{List, [], _∷_, _++_}
+use mathlib.Core.List.{List, [], _∷_}
 use lib.ListN.{length, take, drop, getD}
-use lib.Dec.{leb, eqb}
-use Rattle.rfc3550.specs.Answer.{Answer, ok, need, _>>_, _>>=_, pick}
-use Rattle.rfc3550.specs.Bytes.{store}
-use Rattle.rfc3550.specs.Packet.{fill}
+use lib.Dec.{leb, ltb, eqb}
+use Rattle.rfc3550.specs.Answer.{Refusal, refusal, Answer, ok, need, _>>_, _>>=_, mapOk, pick}
 use Rattle.rfc3550.specs.Write.{LentItem}
+use Rattle.utils.specs.Error.{orZero}
+use Rattle.utils.specs.Writer.{sizeRefusal}
+use Rattle.chunk_write.specs.declared.chunks.ItemsEnd.{ItemsEnd}
 
 abbrev pub lent : ℕ → List ℕ → List ℕ → LentItem
 lent t p v = record { type = t; prefix = p; value = v }
@@ -29,26 +30,18 @@ pub record ItemFits (t p v space : ℕ) : Type 0 where
   pub passed : sizeOf t p v ≡ ok (itemLength t p v)
   pub room : itemLength t p v ≤ space
 
--- an item by its text, which is the value, and for PRIV the prefix and the value
-abbrev pub headBytes : ℕ → ℕ → ℕ → List ℕ
-headBytes t p n = pick (eqb t 8) (t ∷ (1 + n) ∷ p ∷ []) (t ∷ n ∷ [])
+pub record Listed (ts ps vs : List ℕ) : Type 0 where
+  pub prefixes : length ps ≡ length ts
+  pub values : length vs ≡ length ts
 
-abbrev pub textStart : ℕ → ℕ → ℕ → ℕ
-textStart t from middle = pick (eqb t 8) from middle
+-- the elements from index i up to index j
+abbrev pub part : ℕ → ℕ → List ℕ → List ℕ
+part i j xs = take (j - i) (drop i xs)
 
-pub record TextFits (t p n space : ℕ) : Type 0 where
-  pub priv : t ≡ 8 → (p ≤ n) × (n ≤ 254) × (3 + n ≤ space)
-  pub most : n ≤ 255
-  pub room : 2 + n ≤ space
-
-pub record HeadLaid (t p n : ℕ) (l : List ℕ) (r : ℕ) (l₁ : List ℕ) : Type 0 where
-  pub size : r ≡ length (headBytes t p n)
-  pub bytes : l₁ ≡ store 0 (headBytes t p n) l
-  pub ends : r + n ≤ length l
-
-pub record TextLaid (t p : ℕ) (text l : List ℕ) (r : ℕ) (l₁ : List ℕ) : Type 0 where
-  pub size : r ≡ length (headBytes t p (length text)) + length text
-  pub bytes : l₁ ≡ store 0 (headBytes t p (length text) ++ text) l
+-- why the first refused item is refused; 22 where none is
+unfoldable pub itemsRefusal : List ℕ → List ℕ → List ℕ → Refusal
+itemsRefusal [] ps vs = refusal 22 0 0
+itemsRefusal (t ∷ ts) ps vs = pick (eqb (orZero (sizeOf t (getD ps 0 0) (getD vs 0 0))) 0) (sizeRefusal (sizeOf t (getD ps 0 0) (getD vs 0 0))) (itemsRefusal ts (drop 1 ps) (drop 1 vs))
 
 -- the sizes of the items of the lent lists, added to n
 unfoldable pub sizesOf : ℕ → List ℕ → List ℕ → List ℕ → Answer ℕ
@@ -56,3 +49,50 @@ sizesOf n [] ps vs = ok n
 sizesOf n (t ∷ ts) ps vs = do
   m ← sizeOf t (getD ps 0 0) (getD vs 0 0)
   sizesOf (n + m) ts (drop 1 ps) (drop 1 vs)
+
+-- the word boundary after an index
+abbrev pub closed : ℕ → ℕ
+closed at = at + (4 - at % 4)
+
+-- the end of chunks of so many items, the first at `at`
+unfoldable pub chunksFrom : ℕ → List ℕ → List ℕ → List ℕ → List ℕ → Answer ℕ
+chunksFrom at [] ts ps vs = ok at
+chunksFrom at (c ∷ cs) ts ps vs = do
+  end ← mapOk closed (sizesOf (at + 4) (take c ts) (take c ps) (take c vs))
+  chunksFrom end cs (drop c ts) (drop c ps) (drop c vs)
+
+-- ---- in numbers, the bytes counted along
+
+abbrev pub nowhere : ItemsEnd
+nowhere = record { end = 0; left = 0 }
+
+unfoldable pub itemsEnd : ℕ → ℕ → List ℕ → List ℕ → List ℕ → ItemsEnd
+itemsEnd at left [] ps vs = record { end = at; left = left }
+itemsEnd at left (t ∷ ts) ps vs =
+    pick (eqb (orZero (sizeOf t (getD ps 0 0) (getD vs 0 0))) 0) nowhere
+    (pick (ltb left (getD ps 0 0)) nowhere
+    (pick (ltb (left - getD ps 0 0) (getD vs 0 0)) nowhere
+    (itemsEnd (at + orZero (sizeOf t (getD ps 0 0) (getD vs 0 0))) (left - getD ps 0 0 - getD vs 0 0) ts (drop 1 ps) (drop 1 vs))))
+
+unfoldable pub chunksEnd : ℕ → ℕ → List ℕ → List ℕ → List ℕ → List ℕ → ℕ
+chunksEnd at left [] ts ps vs = pick (eqb 0 (length ts)) (pick (eqb 0 left) at 0) 0
+chunksEnd at left (c ∷ cs) ts ps vs =
+    pick (ltb (length ts) c) 0
+    (pick (eqb (itemsEnd (at + 4) left (take c ts) (take c ps) (take c vs) .end) 0) 0
+    (chunksEnd (closed (itemsEnd (at + 4) left (take c ts) (take c ps) (take c vs) .end)) (itemsEnd (at + 4) left (take c ts) (take c ps) (take c vs) .left) cs (drop c ts) (drop c ps) (drop c vs)))
+
+-- ---- what the code is given and gives
+
+pub record ItemsMeasured (at left : ℕ) (ts ps vs : List ℕ) (i j : ℕ) : Type 0 where
+  pub order : i ≤ j
+  pub within : j ≤ length ts
+  pub listed : Listed ts ps vs
+  pub room : at + left + 3 * (j - i) < 2 ^ 64
+
+pub record ItemsEnded (at left : ℕ) (ts ps vs : List ℕ) (i j : ℕ) (r : ItemsEnd) : Type 0 where
+  pub is : r ≡ itemsEnd at left (part i j ts) (part i j ps) (part i j vs)
+  pub most : r .end + r .left ≤ at + left + 3 * (j - i)
+
+pub record ChunksMeasured (at : ℕ) (cs ts ps vs : List ℕ) (left : ℕ) : Type 0 where
+  pub listed : Listed ts ps vs
+  pub room : at + left + 3 * length ts + 8 * length cs < 2 ^ 64

@@ -1,3 +1,4 @@
 // SDES items and chunks, written.
 pub mod chunk;
+pub mod chunks;
 pub mod item;

@@ -10,29 +10,26 @@ use borrow.Author.Tests.{lt-leb, le-leb, lt-ltb, le-ltb, eq-eqb, ne-eqb, eqb-tru
 use lib.ListN.{length, take, drop, getD, length-drop, drop-of-length-le}
 use lib.Seq.{length-take-le, take-all, drop-drop, getD-take, drop-cons}
 use lib.Dec.{eqb}
-use Rattle.rfc3550.specs.Answer.{Refusal, Answer, ok, refused, refuse, need, _>>_, _>>=_, mapOk, pick}
+use Rattle.rfc3550.specs.Answer.{Refusal, refusal, Answer, ok, refused, refuse, need, _>>_, _>>=_, mapOk, pick}
 use Rattle.rfc3550.specs.Packet.{Packet as Read, hasCname, some}
 use Rattle.rfc3550.specs.Read.{kindOf, versionIn, padded, typeIn, lowIn, stated, readAs}
 use Rattle.rfc3550.specs.Compound.{readPacket, readPackets, readCompound}
 use Rattle.rfc3550.specs.Walk.{openWalk, step}
 use Rattle.rfc3550.proofs.Answer.{need-inv, ok-injective, refused≢ok, mapOk-inv, or-assoc}
 use Rattle.rfc3550.proofs.Compound.{packet-span, packets-turns}
-use Rattle.utils.specs.Error.{refusalIn}
+use Rattle.utils.specs.Error.{refusalIn, valueOr, orZero}
 use Rattle.utils.specs.declared.error.RtcpParseError.{RtcpParseError}
 use Rattle.utils.proofs.Reading.{mapOk-refused}
-use Rattle.compound.specs.Packet.{packetView, parsedOf, checkedOf}
-use Rattle.compound.specs.Compound.{paddingLast, reportFirst, frame, spanOf, readOf, passedOf, spanned, compoundView, parsedCompoundOf, walkAt, stepView}
+use Rattle.utils.proofs.Values.{value-came, none-came, number-came}
+use Rattle.compound.specs.Packet.{packetView, parsedOf, verdictOf, verdict}
+use Rattle.compound.specs.Compound.{paddingLast, reportFirst, frame, readOf, checkedOf, withLength, compoundView, parsedCompoundOf, walkAt, stepView}
 use Rattle.compound.specs.declared.packet.Packet.{Packet}
 use Rattle.compound.specs.declared.packet.ParsedPacket.{ParsedPacket}
 use Rattle.compound.specs.declared.packet.ParsedPacket.the-variants as parsed
-use Rattle.compound.specs.declared.packet.CheckedKind.{CheckedKind}
-use Rattle.compound.specs.declared.packet.CheckedKind.the-variants as checked
-use Rattle.compound.specs.declared.compound.Span.{Span}
-use Rattle.compound.specs.declared.compound.Span.the-variants as span
+use Rattle.compound.specs.declared.compound.CheckedPacket.{CheckedPacket}
+use Rattle.compound.specs.declared.compound.CheckedPacket.the-variants as checked
 use Rattle.compound.specs.declared.compound.ReadPacket.{ReadPacket}
 use Rattle.compound.specs.declared.compound.ReadPacket.the-variants as read
-use Rattle.compound.specs.declared.compound.Passed.{Passed}
-use Rattle.compound.specs.declared.compound.Passed.the-variants as passed
 use Rattle.compound.specs.declared.compound.Compound.{Compound}
 use Rattle.compound.specs.declared.compound.ParsedCompound.{ParsedCompound}
 use Rattle.compound.specs.declared.compound.ParsedCompound.the-variants as compound
@@ -60,33 +57,69 @@ module _ (t : ℕ) where
 -- ---- the frame
 
 module _ (first : Bool) (s : List ℕ) where
-  pub frame-short : length s < 4 → refuse 2 4 (length s) ≡ frame first s
+  frame-short : length s < 4 → refuse 2 4 (length s) ≡ frame first s
   unfolding frame need _>>_
   frame-short h = simp (lt-leb _ _ h)
 
+  pub frame-short-len : length s < 4 → 0 ≡ orZero (frame first s)
+  frame-short-len h = ap orZero (frame-short h)
+
+  pub frame-short-why : length s < 4 → refusal 2 4 (length s) ≡ refusalIn (frame first s)
+  frame-short-why h = ap refusalIn (frame-short h)
+
   module _ (v : ℕ) (h : 4 ≤ length s) (e : v ≡ versionIn s) where
-    pub frame-version : (v ≡ 2 → ⊥) → refuse 1 v 0 ≡ frame first s
+    frame-version : (v ≡ 2 → ⊥) → refuse 1 v 0 ≡ frame first s
     unfolding frame need _>>_
     frame-version w = simp (le-leb _ _ h, ← e, ne-eqb _ _ w)
 
+    pub frame-version-len : (v ≡ 2 → ⊥) → 0 ≡ orZero (frame first s)
+    frame-version-len w = ap orZero (frame-version w)
+
+    pub frame-version-why : (v ≡ 2 → ⊥) → refusal 1 v 0 ≡ refusalIn (frame first s)
+    frame-version-why w = ap refusalIn (frame-version w)
+
     module _ (n : ℕ) (w : v ≡ 2) (g : n ≡ stated s) where
-      pub frame-past : length s < n → refuse 2 n (length s) ≡ frame first s
+      frame-past : length s < n → refuse 2 n (length s) ≡ frame first s
       unfolding frame need _>>_
       frame-past l = simp (le-leb _ _ h, ← e, eq-eqb _ _ w, ← g, lt-leb _ _ l)
 
+      pub frame-past-len : length s < n → 0 ≡ orZero (frame first s)
+      frame-past-len l = ap orZero (frame-past l)
+
+      pub frame-past-why : length s < n → refusal 2 n (length s) ≡ refusalIn (frame first s)
+      frame-past-why l = ap refusalIn (frame-past l)
+
       module _ (p : Bool) (l : n ≤ length s) (q : p ≡ paddingLast s n) where
-        pub frame-padding : p ≡ false → refuse 9 0 0 ≡ frame first s
+        frame-padding : p ≡ false → refuse 9 0 0 ≡ frame first s
         unfolding frame need _>>_
         frame-padding z = simp (le-leb _ _ h, ← e, eq-eqb _ _ w, ← g, le-leb _ _ l, ← q, z)
 
+        pub frame-padding-len : p ≡ false → 0 ≡ orZero (frame first s)
+        frame-padding-len z = ap orZero (frame-padding z)
+
+        pub frame-padding-why : p ≡ false → refusal 9 0 0 ≡ refusalIn (frame first s)
+        frame-padding-why z = ap refusalIn (frame-padding z)
+
         module _ (t : ℕ) (r : Bool) (y : p ≡ true) (f : t ≡ typeIn s) (o : r ≡ reportFirst first t) where
-          pub frame-report : r ≡ false → refuse 7 t 0 ≡ frame first s
+          frame-report : r ≡ false → refuse 7 t 0 ≡ frame first s
           unfolding frame need _>>_
           frame-report z = simp (le-leb _ _ h, ← e, eq-eqb _ _ w, ← g, le-leb _ _ l, ← q, y, ← f, ← o, z)
 
-          pub frame-passed : r ≡ true → ok n ≡ frame first s
+          pub frame-report-len : r ≡ false → 0 ≡ orZero (frame first s)
+          frame-report-len z = ap orZero (frame-report z)
+
+          pub frame-report-why : r ≡ false → refusal 7 t 0 ≡ refusalIn (frame first s)
+          frame-report-why z = ap refusalIn (frame-report z)
+
+          frame-passed : r ≡ true → ok n ≡ frame first s
           unfolding frame need _>>_
           frame-passed z = simp (le-leb _ _ h, ← e, eq-eqb _ _ w, ← g, le-leb _ _ l, ← q, y, ← f, ← o, z)
+
+          pub frame-passed-len : r ≡ true → n ≡ orZero (frame first s)
+          frame-passed-len z = ap orZero (frame-passed z)
+
+          pub frame-passed-why : r ≡ true → refusal 25 0 0 ≡ refusalIn (frame first s)
+          frame-passed-why z = ap refusalIn (frame-passed z)
 
 -- ---- the packet behind the frame
 
@@ -124,64 +157,79 @@ kind-cut : (n : ℕ) (s : List ℕ) → 4 ≤ n → kindOf (typeIn (take n s)) (
 unfolding typeIn lowIn
 kind-cut n s h = rw (getD-take n s 0 0 (omega arith), getD-take n s 1 0 (omega arith))
 
-module _ (first : Bool) (s : List ℕ) (o : Span) (h : spanOf o ≡ frame first s) where
-  unframed : {B : Type 0} (f : Read → B) (v : RtcpParseError) (r : Refusal) → o ≡ span.Refused v → r ≡ refusalIn (spanOf o) → refused r ≡ mapOk (spanned f s) (readPacket first s)
-  unfolding mapOk _>>=_
-  unframed f v r e q = rw (framed first s) (simp (← h, e, q))
+verdict-some : (p : Read) → 0 < verdict p
+verdict-some p = go (hasCname p)
+  where
+    go : (b : Bool) → 0 < verdictOf b
+    go true = omega arith
+    go false = omega arith
 
-  pub frame-refused : (v : RtcpParseError) (r : Refusal) → o ≡ span.Refused v → r ≡ refusalIn (spanOf o) → refused r ≡ mapOk (spanned packetView s) (readPacket first s)
-  frame-refused = unframed packetView
+verdict-two : (b : Bool) → eqb (verdictOf b) 2 ≡ b
+verdict-two true = refl
+verdict-two false = refl
 
-  pub frame-unpassed : (v : RtcpParseError) (r : Refusal) → o ≡ span.Refused v → r ≡ refusalIn (spanOf o) → refused r ≡ mapOk (spanned hasCname s) (readPacket first s)
-  frame-unpassed = unframed hasCname
+module _ (first : Bool) (s : List ℕ) (n : ℕ) (h : n ≡ orZero (frame first s)) where
+  unframed : n ≡ 0 → readPacket first s ≡ refused (refusalIn (frame first s))
+  unfolding _>>=_
+  unframed z = framed first s ∙ go (frame first s) refl
+    where
+      go : (m : Answer ℕ) → frame first s ≡ m → (m >>= λ (n : ℕ). readAs (kindOf (typeIn s) (lowIn s)) (take n s)) ≡ refused (refusalIn m)
+      go (ok k) q = absurd (omega (arith, frame-inv first s k (sym q) .long, h ∙ ap orZero q))
+      go (refused r) q = refl
 
-  module _ (n : ℕ) (e : o ≡ span.Bytes n) where
+  pub frame-refused : {B : Type 0} (f : Read → B) (r : Refusal) → n ≡ 0 → r ≡ refusalIn (frame first (take (length s - 0) (drop 0 s))) → refused r ≡ mapOk (withLength f s) (readPacket first s)
+  unfolding mapOk
+  frame-refused f r z q = rw (unframed z) (ap refused (q ∙ ap (λ (s : List ℕ). refusalIn (frame first s)) (take-all (length s - 0) s (omega arith))))
+
+  module _ (z : n ≡ 0 → ⊥) where
+    frame-is : Framed first s n
+    frame-is = frame-inv first s n (sym (number-came (frame first s) n h z))
+
     pub frame-within : n ≤ length s
-    frame-within = frame-inv first s n (sym (ap spanOf e) ∙ h) .within
+    frame-within = frame-is .within
 
-    pub frame-length : n ≡ length (take n s)
-    frame-length = sym (length-take-le n s frame-within)
+    pub frame-length : length (take n s) ≡ n
+    frame-length = length-take-le n s frame-within
 
     pub frame-long : 4 ≤ length (take n s)
-    frame-long = let f = frame-inv first s n (sym (ap spanOf e) ∙ h) in rw (length-take-le n s (f .within)) (f .long)
+    frame-long = let f = frame-is in rw (length-take-le n s (f .within)) (f .long)
 
     abbrev within : Answer Read
     within = readAs (kindOf (typeIn (take n s)) (lowIn (take n s))) (take n s)
 
     behind : readPacket first s ≡ within
     unfolding _>>=_
-    behind =
-        let f = frame-inv first s n (sym (ap spanOf e) ∙ h) in
-        framed first s ∙ rw (← h, e, kind-cut n s (f .long))
-
-    module _ {B : Type 0} (f : Read → B) (a : Answer B) (g : a ≡ mapOk f within) where
-      behind-refused : (r : Refusal) → a ≡ refused r → refused r ≡ mapOk (spanned f s) (readPacket first s)
-      unfolding mapOk
-      behind-refused r z = rw (behind, mapOk-refused f within (sym g ∙ z))
-
-      behind-read : (b : B) → a ≡ ok b → ok (b, n) ≡ mapOk (spanned f s) (readPacket first s)
-      unfolding mapOk
-      behind-read b w =
-          let i = frame-inv first s n (sym (ap spanOf e) ∙ h) in
-          rw behind (go within (sym w ∙ g) (i .stated))
-        where
-          go : (m : Answer Read) → ok b ≡ mapOk f m → n ≡ stated s → ok (b, n) ≡ mapOk (spanned f s) m
-          go (ok x) k st = let z : b ≡ f x = ok-injective k in rw (z, st)
-          go (refused x) k st = absurd (refused≢ok (sym k))
+    behind = framed first s ∙ rw (number-came (frame first s) n h z, kind-cut n s (frame-is .long))
 
     module _ (q : ParsedPacket) (g : parsedOf q ≡ mapOk packetView (readAs (kindOf (typeIn (take n s)) (lowIn (take n s))) (take n s))) where
-      pub packet-refused : (v : RtcpParseError) (r : Refusal) → q ≡ parsed.Refused v → r ≡ refusalIn (parsedOf q) → refused r ≡ mapOk (spanned packetView s) (readPacket first s)
-      packet-refused v r w z = behind-refused packetView (parsedOf q) g r (ap parsedOf w ∙ ap refused (sym (z ∙ ap (λ (q : ParsedPacket). refusalIn (parsedOf q)) w)))
+      pub packet-refused : (v : RtcpParseError) (r : Refusal) → q ≡ parsed.Refused v → r ≡ refusalIn (parsedOf q) → refused r ≡ mapOk (withLength packetView s) (readPacket first s)
+      unfolding mapOk
+      packet-refused v r w k = rw (behind, mapOk-refused packetView within (sym g ∙ ap parsedOf w ∙ ap refused (sym (k ∙ ap (λ (q : ParsedPacket). refusalIn (parsedOf q)) w))))
 
-      pub packet-read : (p : Packet) → q ≡ parsed.Packet p → ok (p, n) ≡ mapOk (spanned packetView s) (readPacket first s)
-      packet-read p w = behind-read packetView (parsedOf q) g p (ap parsedOf w)
+      pub packet-read : (p : Packet) → q ≡ parsed.Packet p → ok (p, n) ≡ mapOk (withLength packetView s) (readPacket first s)
+      unfolding mapOk
+      packet-read p w = rw behind (go within (sym (ap parsedOf w) ∙ g) (frame-is .stated))
+        where
+          go : (m : Answer Read) → ok p ≡ mapOk packetView m → n ≡ stated s → ok (p, n) ≡ mapOk (withLength packetView s) m
+          go (ok x) k st = let y : p ≡ packetView x = ok-injective k in rw (y, st)
+          go (refused x) k st = absurd (refused≢ok (sym k))
 
-    module _ (q : CheckedKind) (g : checkedOf q ≡ mapOk hasCname (readAs (kindOf (typeIn (take n s)) (lowIn (take n s))) (take n s))) where
-      pub kind-refused : (v : RtcpParseError) (r : Refusal) → q ≡ checked.Refused v → r ≡ refusalIn (checkedOf q) → refused r ≡ mapOk (spanned hasCname s) (readPacket first s)
-      kind-refused v r w z = behind-refused hasCname (checkedOf q) g r (ap checkedOf w ∙ ap refused (sym (z ∙ ap (λ (q : CheckedKind). refusalIn (checkedOf q)) w)))
+    module _ (m : ℕ) (g : m ≡ valueOr 0 verdict (readAs (kindOf (typeIn (take n s)) (lowIn (take n s))) (take n s))) where
+      pub verdict-refused : (q : ParsedPacket) (r : Refusal) → m ≡ 0 → parsedOf q ≡ mapOk packetView (readAs (kindOf (typeIn (take n s)) (lowIn (take n s))) (take n s)) → r ≡ refusalIn (parsedOf q)
+          → refused r ≡ mapOk (withLength hasCname s) (readPacket first s)
+      unfolding mapOk
+      verdict-refused q r e f k =
+          let w : within ≡ refused (refusalIn within) = none-came 0 verdict (λ n. n) refl verdict-some within m g e in
+          rw (behind, w) (ap refused (k ∙ ap refusalIn (f ∙ ap (mapOk packetView) w)))
 
-      pub kind-passed : (b : Bool) → q ≡ checked.HasCname b → ok (b, n) ≡ mapOk (spanned hasCname s) (readPacket first s)
-      kind-passed b w = behind-read hasCname (checkedOf q) g b (ap checkedOf w)
+      pub verdict-passed : (m ≡ 0 → ⊥) → ok (eqb m 2, n) ≡ mapOk (withLength hasCname s) (readPacket first s)
+      unfolding mapOk
+      verdict-passed e =
+          let w = value-came 0 verdict (λ n. n) refl within m g e in
+          rw (behind, w .1) (go (w .0) (w .2) (frame-is .stated))
+        where
+          go : (x : Read) → verdict x ≡ m → n ≡ stated s → ok (eqb m 2, n) ≡ ok (withLength hasCname s x)
+          go x v st = let y : eqb m 2 ≡ hasCname x = ap (λ (m : ℕ). eqb m 2) (sym v) ∙ verdict-two (hasCname x) in rw (y, st)
 
 -- ---- the loop: from a place on
 
@@ -250,9 +298,9 @@ from-after s at h = rw (ne-eqb at 0 (omega arith))
 
 -- what is asked of a packet that was read, whose bytes are the rest as a part
 module _ {B : Type 0} (f : Read → B) where
-  here : (s : List ℕ) (at : ℕ) (a : Answer (B × ℕ)) → a ≡ mapOk (spanned f (take (length s - at) (drop at s))) (readPacket (eqb at 0) (take (length s - at) (drop at s)))
-      → a ≡ mapOk (spanned f (drop at s)) (readPacket (eqb at 0) (drop at s))
-  here s at a e = e ∙ ap (λ (l : List ℕ). mapOk (spanned f l) (readPacket (eqb at 0) l)) (rest-is s at)
+  here : (s : List ℕ) (at : ℕ) (a : Answer (B × ℕ)) → a ≡ mapOk (withLength f (take (length s - at) (drop at s))) (readPacket (eqb at 0) (take (length s - at) (drop at s)))
+      → a ≡ mapOk (withLength f (drop at s)) (readPacket (eqb at 0) (drop at s))
+  here s at a e = e ∙ ap (λ (l : List ℕ). mapOk (withLength f l) (readPacket (eqb at 0) l)) (rest-is s at)
 
   -- what it tells
   record Came (first : Bool) (s : List ℕ) (p : B) (k : ℕ) : Type 0 where
@@ -261,13 +309,13 @@ module _ {B : Type 0} (f : Read → B) where
     view : f packet ≡ p
     span : stated s ≡ k
 
-  came : (first : Bool) (s : List ℕ) (a : Answer (B × ℕ)) (p : B) (k : ℕ) → a ≡ mapOk (spanned f s) (readPacket first s) → a ≡ ok (p, k) → Came first s p k
+  came : (first : Bool) (s : List ℕ) (a : Answer (B × ℕ)) (p : B) (k : ℕ) → a ≡ mapOk (withLength f s) (readPacket first s) → a ≡ ok (p, k) → Came first s p k
   came first s a p k g e =
-      let m = mapOk-inv (spanned f s) (readPacket first s) (sym g ∙ e) in
+      let m = mapOk-inv (withLength f s) (readPacket first s) (sym g ∙ e) in
       record { packet = m .0; is-read = m .1; view = ap (λ (x : B × ℕ). x .0) (m .2); span = ap (λ (x : B × ℕ). x .1) (m .2) }
 
-  gone : (first : Bool) (s : List ℕ) (a : Answer (B × ℕ)) (r : Refusal) → a ≡ mapOk (spanned f s) (readPacket first s) → a ≡ refused r → readPacket first s ≡ refused r
-  gone first s a r g e = mapOk-refused (spanned f s) (readPacket first s) (sym g ∙ e)
+  gone : (first : Bool) (s : List ℕ) (a : Answer (B × ℕ)) (r : Refusal) → a ≡ mapOk (withLength f s) (readPacket first s) → a ≡ refused r → readPacket first s ≡ refused r
+  gone first s a r g e = mapOk-refused (withLength f s) (readPacket first s) (sym g ∙ e)
 
   came-within : (s : List ℕ) (at : ℕ) (p : B) (k : ℕ) → at < length s → Came (eqb at 0) (drop at s) p k → (4 ≤ k) × (at + k ≤ length s)
   came-within s at p k h w =
@@ -280,24 +328,33 @@ record Next (s : List ℕ) (at n : ℕ) (c b : Bool) (k : ℕ) : Type 0 where
   within : at + k ≤ length s
   same : finish (c || b) (n + 1) (from s (at + k)) ≡ finish c n (from s at)
 
-module _ (s : List ℕ) (at n : ℕ) (c : Bool) (h : at < length s) (q : Passed) (g : passedOf q ≡ mapOk (spanned hasCname (drop at s)) (readPacket (eqb at 0) (drop at s))) where
-  turn-refused : (v : RtcpParseError) (r : Refusal) → q ≡ passed.Refused v → r ≡ refusalIn (passedOf q) → refused r ≡ finish c n (from s at)
+next-came : (s : List ℕ) (at n : ℕ) (c : Bool) → at < length s → (b : Bool) (k : ℕ) → Came hasCname (eqb at 0) (drop at s) b k → Next s at n c b k
+unfolding _>>=_
+next-came s at n c h b k w =
+    let l = came-within hasCname s at b k h w in
+    record {
+      some = l .0;
+      within = l .1;
+      same =
+          rw (from-after s (at + k) (omega arith), ← w .span, ← w .view, from-at s at h, w .is-read)
+          (cons c n (w .packet) (readPackets (length s) (drop (at + stated (drop at s)) s)));
+    }
+
+module _ (s : List ℕ) (at n : ℕ) (c : Bool) (h : at < length s) (q : CheckedPacket)
+    (g : checkedOf q ≡ mapOk (withLength hasCname (take (length s - at) (drop at s))) (readPacket (eqb at 0) (take (length s - at) (drop at s)))) where
+  there : checkedOf q ≡ mapOk (withLength hasCname (drop at s)) (readPacket (eqb at 0) (drop at s))
+  there = here hasCname s at (checkedOf q) g
+
+  turn-refused : (v : RtcpParseError) (r : Refusal) → q ≡ checked.Refused v → r ≡ refusalIn (checkedOf q) → refused r ≡ finish c n (from s at)
   unfolding finish _>>=_
   turn-refused v r e z =
-      rw (from-at s at h, gone hasCname (eqb at 0) (drop at s) (passedOf q) r g (ap passedOf e ∙ ap refused (sym (z ∙ ap (λ (q : Passed). refusalIn (passedOf q)) e))))
+      rw (
+        from-at s at h,
+        gone hasCname (eqb at 0) (drop at s) (checkedOf q) r there (ap checkedOf e ∙ ap refused (sym (z ∙ ap (λ (q : CheckedPacket). refusalIn (checkedOf q)) e))),
+      )
 
-  turn-next : (b : Bool) (k : ℕ) → q ≡ passed.Packet b k → Next s at n c b k
-  unfolding _>>=_
-  turn-next b k e =
-      let w = came hasCname (eqb at 0) (drop at s) (passedOf q) b k g (ap passedOf e) in
-      let l = came-within hasCname s at b k h w in
-      record {
-        some = l .0;
-        within = l .1;
-        same =
-            rw (from-after s (at + k) (omega arith), ← w .span, ← w .view, from-at s at h, w .is-read)
-            (cons c n (w .packet) (readPackets (length s) (drop (at + stated (drop at s)) s)));
-      }
+  turn-next : (b : Bool) (k : ℕ) → q ≡ checked.Packet b k → Next s at n c b k
+  turn-next b k e = next-came s at n c h b k (came hasCname (eqb at 0) (drop at s) (checkedOf q) b k there (ap checkedOf e))
 
 -- at the end
 none-left : (f : ℕ) → readPackets f [] ≡ ok []
@@ -339,23 +396,24 @@ module _ (s : List ℕ) (at n : ℕ) (c : Bool) (g : Loop s at n c) where
   pub loop-unnamed : length s ≤ at → c ≡ false → refuse 8 0 0 ≡ answer s
   loop-unnamed l z = unnamed-end s at n c (g .some) (omega (arith, g .within)) z ∙ g .same
 
-  module _ (h : at < length s) (q : Passed) (e : passedOf q ≡ mapOk (spanned hasCname (take (length s - at) (drop at s))) (readPacket (eqb at 0) (take (length s - at) (drop at s)))) where
-    pub loop-refused : (v : RtcpParseError) (r : Refusal) → q ≡ passed.Refused v → r ≡ refusalIn (passedOf q) → refused r ≡ answer s
-    loop-refused v r w z = turn-refused s at n c h q (here hasCname s at (passedOf q) e) v r w z ∙ g .same
+  module _ (h : at < length s) (q : CheckedPacket)
+      (e : checkedOf q ≡ mapOk (withLength hasCname (take (length s - at) (drop at s))) (readPacket (eqb at 0) (take (length s - at) (drop at s)))) where
+    pub loop-refused : (v : RtcpParseError) (r : Refusal) → q ≡ checked.Refused v → r ≡ refusalIn (checkedOf q) → refused r ≡ answer s
+    loop-refused v r w z = turn-refused s at n c h q e v r w z ∙ g .same
 
-    module _ (p : Bool) (k : ℕ) (w : q ≡ passed.Packet p k) where
+    module _ (b : Bool) (k : ℕ) (w : q ≡ checked.Packet b k) where
       pub loop-fits : length s < 2 ^ 64 → at + k < 2 ^ 64
-      loop-fits b = let x = turn-next s at n c h q (here hasCname s at (passedOf q) e) p k w in omega arith
+      loop-fits l = let x = turn-next s at n c h q e b k w in omega arith
 
       pub loop-counts : length s < 2 ^ 64 → n + 1 < 2 ^ 64
-      loop-counts b = omega (arith, g .count)
+      loop-counts l = omega (arith, g .count)
 
       pub loop-less : length s - (at + k) < length s - at
-      loop-less = let x = turn-next s at n c h q (here hasCname s at (passedOf q) e) p k w in omega arith
+      loop-less = let x = turn-next s at n c h q e b k w in omega arith
 
-      pub loop-again : (b : Bool) → b ≡ (c || p) → Loop s (at + k) (n + 1) b
-      loop-again b f =
-          let x = turn-next s at n c h q (here hasCname s at (passedOf q) e) p k w in
+      pub loop-again : (d : Bool) → d ≡ (c || b) → Loop s (at + k) (n + 1) d
+      loop-again d f =
+          let x = turn-next s at n c h q e b k w in
           record { some = g .some; within = x .within; count = omega (arith, g .count); same = rw f (x .same ∙ g .same) }
 
 -- ---- a walk
@@ -365,7 +423,7 @@ module _ (s : List ℕ) (at : ℕ) where
   unfolding step need _>>_ mapOk
   step-none h = simp (le-ltb _ _ h)
 
-  module _ (h : at < length s) (q : ReadPacket) (g : readOf q ≡ mapOk (spanned packetView (take (length s - at) (drop at s))) (readPacket (eqb at 0) (take (length s - at) (drop at s)))) where
+  module _ (h : at < length s) (q : ReadPacket) (g : readOf q ≡ mapOk (withLength packetView (take (length s - at) (drop at s))) (readPacket (eqb at 0) (take (length s - at) (drop at s)))) where
     pub step-refused : (v : RtcpParseError) (r : Refusal) → q ≡ read.Refused v → r ≡ refusalIn (readOf q) → refused r ≡ mapOk stepView (step s at)
     unfolding step need _>>_ _>>=_ mapOk
     step-refused v r e z =
@@ -396,6 +454,6 @@ module _ (s : List ℕ) (q : ParsedCompound) (g : parsedCompoundOf q ≡ answer 
   unfolding openWalk _>>=_ mapOk
   open-ok x e = rw (mapOk-inv compoundView (readCompound s) (sym g ∙ ap parsedCompoundOf e) .1)
 
-pub ruleset frames = (needs, not-true, not-false, padding-set, padding-clear, later, sender-first, receiver-first, frame-short, frame-version, frame-past, frame-padding, frame-report, frame-passed, frame-refused, frame-unpassed, frame-within, frame-length, frame-long, packet-refused, packet-read, kind-refused, kind-passed)
+pub ruleset frames = (needs, not-true, not-false, padding-set, padding-clear, later, sender-first, receiver-first, frame-short-len, frame-short-why, frame-version-len, frame-version-why, frame-past-len, frame-past-why, frame-padding-len, frame-padding-why, frame-report-len, frame-report-why, frame-passed-len, frame-passed-why, frame-refused, frame-within, frame-length, packet-refused, packet-read, verdict-refused, verdict-passed)
 
 pub ruleset compounds = (needs, not-true, not-false, no-byte, loop-start, loop-named, loop-unnamed, loop-refused, loop-fits, loop-counts, loop-less, loop-again, step-none, step-refused, step-some, step-fits, open-refused, open-ok)

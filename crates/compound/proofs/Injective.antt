@@ -5,22 +5,18 @@ use Prim.Native.Nat.{ℕ}
 use Rattle.rfc3550.specs.Answer.{Answer, ok, refused}
 use Rattle.utils.proofs.Injective.{injective, parseError, parseRefusal-back}
 use Rattle.compound.specs.Unknown.{parsedUnknownOf}
-use Rattle.compound.specs.Packet.{parsedOf, checkedOf}
-use Rattle.compound.specs.Compound.{spanOf, readOf, passedOf, parsedCompoundOf, openedOf, steppedOf}
+use Rattle.compound.specs.Packet.{parsedOf}
+use Rattle.compound.specs.Compound.{readOf, checkedOf, parsedCompoundOf, openedOf, steppedOf}
 use Rattle.compound.specs.declared.unknown.Unknown.{Unknown}
 use Rattle.compound.specs.declared.unknown.ParsedUnknown.{ParsedUnknown}
 use Rattle.compound.specs.declared.unknown.ParsedUnknown.the-variants as unknown
 use Rattle.compound.specs.declared.packet.Packet.{Packet}
 use Rattle.compound.specs.declared.packet.ParsedPacket.{ParsedPacket}
 use Rattle.compound.specs.declared.packet.ParsedPacket.the-variants as packet
-use Rattle.compound.specs.declared.packet.CheckedKind.{CheckedKind}
-use Rattle.compound.specs.declared.packet.CheckedKind.the-variants as checked
-use Rattle.compound.specs.declared.compound.Span.{Span}
-use Rattle.compound.specs.declared.compound.Span.the-variants as span
 use Rattle.compound.specs.declared.compound.ReadPacket.{ReadPacket}
 use Rattle.compound.specs.declared.compound.ReadPacket.the-variants as read
-use Rattle.compound.specs.declared.compound.Passed.{Passed}
-use Rattle.compound.specs.declared.compound.Passed.the-variants as passed
+use Rattle.compound.specs.declared.compound.CheckedPacket.{CheckedPacket}
+use Rattle.compound.specs.declared.compound.CheckedPacket.the-variants as checked
 use Rattle.compound.specs.declared.compound.Compound.{Compound}
 use Rattle.compound.specs.declared.compound.ParsedCompound.{ParsedCompound}
 use Rattle.compound.specs.declared.compound.ParsedCompound.the-variants as compound
@@ -52,17 +48,6 @@ parsedOf-back (packet.Refused e) = ap packet.Refused (parseRefusal-back e)
 pub parsedOf-injective : (o p : ParsedPacket) → parsedOf o ≡ parsedOf p → o ≡ p
 parsedOf-injective = injective parsedOf parsedFor parsedOf-back
 
-abbrev spanFor : Answer ℕ → Span
-spanFor (ok n) = span.Bytes n
-spanFor (refused r) = span.Refused (parseError r)
-
-spanOf-back : (o : Span) → spanFor (spanOf o) ≡ o
-spanOf-back (span.Bytes n) = refl
-spanOf-back (span.Refused e) = ap span.Refused (parseRefusal-back e)
-
-pub spanOf-injective : (o p : Span) → spanOf o ≡ spanOf p → o ≡ p
-spanOf-injective = injective spanOf spanFor spanOf-back
-
 abbrev readFor : Answer (Packet × ℕ) → ReadPacket
 readFor (ok x) = read.Packet (x .0) (x .1)
 readFor (refused r) = read.Refused (parseError r)
@@ -74,26 +59,15 @@ readOf-back (read.Refused e) = ap read.Refused (parseRefusal-back e)
 pub readOf-injective : (o p : ReadPacket) → readOf o ≡ readOf p → o ≡ p
 readOf-injective = injective readOf readFor readOf-back
 
-abbrev passedFor : Answer (Bool × ℕ) → Passed
-passedFor (ok x) = passed.Packet (x .0) (x .1)
-passedFor (refused r) = passed.Refused (parseError r)
-
-passedOf-back : (o : Passed) → passedFor (passedOf o) ≡ o
-passedOf-back (passed.Packet b n) = refl
-passedOf-back (passed.Refused e) = ap passed.Refused (parseRefusal-back e)
-
-pub passedOf-injective : (o p : Passed) → passedOf o ≡ passedOf p → o ≡ p
-passedOf-injective = injective passedOf passedFor passedOf-back
-
-abbrev checkedFor : Answer Bool → CheckedKind
-checkedFor (ok b) = checked.HasCname b
+abbrev checkedFor : Answer (Bool × ℕ) → CheckedPacket
+checkedFor (ok x) = checked.Packet (x .0) (x .1)
 checkedFor (refused r) = checked.Refused (parseError r)
 
-checkedOf-back : (o : CheckedKind) → checkedFor (checkedOf o) ≡ o
-checkedOf-back (checked.HasCname b) = refl
+checkedOf-back : (o : CheckedPacket) → checkedFor (checkedOf o) ≡ o
+checkedOf-back (checked.Packet b n) = refl
 checkedOf-back (checked.Refused e) = ap checked.Refused (parseRefusal-back e)
 
-pub checkedOf-injective : (o p : CheckedKind) → checkedOf o ≡ checkedOf p → o ≡ p
+pub checkedOf-injective : (o p : CheckedPacket) → checkedOf o ≡ checkedOf p → o ≡ p
 checkedOf-injective = injective checkedOf checkedFor checkedOf-back
 
 abbrev compoundFor : Answer Compound → ParsedCompound

@@ -1,7 +1,9 @@
+pub mod PacketKinds
 pub mod Unknowns
 pub mod Packets
 pub mod Compounds
 pub mod Listing
 pub mod Injective
 pub mod Rebuilt
-pub mod Plains
+pub mod Returned
+pub mod Rows

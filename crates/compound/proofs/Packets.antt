@@ -1,20 +1,32 @@
 -- A packet of any kind, from the answer of its kind's reader.
 use borrow.Author.Needs.{needs}
 use mathlib.Core.Path.{_≡_, refl, sym, ap, _∙_}
-use mathlib.Core.Bool.{Bool, false}
+use native.Mathlib.Omega.{arith}
+use lib.Dec.{eqb}
+use mathlib.Core.Bool.{Bool, true, false}
 use mathlib.Core.List.{List}
-use Prim.Native.Nat.{ℕ}
+use Prim.Native.Nat.{ℕ, _<_}
 use borrow.Author.Tests.{ne-eqb}
-use Rattle.rfc3550.specs.Answer.{Answer, ok, refused, mapOk}
+use Rattle.rfc3550.specs.Answer.{Answer, ok, refused, mapOk, pick}
 use Rattle.rfc3550.specs.Packet.{Content, report, sdes, bye, app, unknown, receiver, sender, Packet as Read, hasCname}
-use Rattle.rfc3550.specs.Read.{Kind, SR, RR, SDES, BYE, APP, UNKNOWN, kindOf, typeIn, lowIn, readAs}
+use Rattle.rfc3550.specs.Read.{Kind, SR, RR, SDES, BYE, APP, UNKNOWN, kindFor, kindOf, typeIn, lowIn, readAs}
 use Rattle.rfc3550.proofs.Packet.{readAs-kind}
-use Rattle.report.specs.Report.{senderView, receiverView}
-use Rattle.sdes.specs.Sdes.{sdesView}
-use Rattle.bye.specs.Bye.{byeView}
-use Rattle.app.specs.App.{appView}
-use Rattle.compound.specs.Unknown.{unknownView}
-use Rattle.compound.specs.Packet.{srPacket, rrPacket, sdesPacket, byePacket, appPacket, unknownPacket, viewAs, packetView, named}
+use Rattle.utils.specs.Error.{valueOr}
+use Rattle.report.proofs.Reports.{body-some}
+use Rattle.report.specs.Report.{senderView, receiverView, reportBody}
+use Rattle.sdes.specs.Sdes.{sdesView, noSdes}
+use Rattle.sdes.specs.declared.sdes.Sdes.{Sdes}
+use Rattle.bye.specs.Bye.{byeView, noBye}
+use Rattle.bye.specs.declared.Bye.{Bye}
+use Rattle.app.specs.App.{appView, noApp}
+use Rattle.app.specs.declared.App.{App}
+use Rattle.compound.specs.Unknown.{unknownView, noUnknown}
+use Rattle.compound.specs.declared.unknown.Unknown.{Unknown}
+use Rattle.compound.specs.Kind.{kindIn}
+use Rattle.compound.specs.declared.kind.Kind.{Kind as Kinds}
+use Rattle.compound.specs.declared.kind.Kind.the-variants as kind
+use Rattle.compound.proofs.PacketKinds.{kind-found}
+use Rattle.compound.specs.Packet.{srPacket, rrPacket, sdesPacket, byePacket, appPacket, unknownPacket, viewAs, packetView, verdictOf, verdict}
 use Rattle.compound.specs.declared.packet.Packet.{Packet}
 
 -- ---- an answer whose constructor is known
@@ -37,92 +49,101 @@ module _ (k : Kind) {A : Type 0} (view : Read → A) (f : A → Packet) (same : 
 abbrev whole : List ℕ → Answer Packet
 whole s = mapOk packetView (readAs (kindOf (typeIn s) (lowIn s)) s)
 
-module _ (s : List ℕ) (t : ℕ) (e : t ≡ typeIn s) (o : Answer Packet) where
-  pub sr-read : (a : Answer _) → t ≡ 200 → o ≡ mapOk srPacket a → a ≡ mapOk senderView (readAs SR s) → o ≡ whole s
-  unfolding kindOf
-  sr-read a q = dispatched SR senderView srPacket (λ p. refl) s o a (rw (← e, q))
+module _ (s : List ℕ) (c : Kinds) (h : kindIn c ≡ kindOf (typeIn s) (lowIn s)) (o : Answer Packet) where
+  pub sr-read : (a : Answer _) → c ≡ kind.Sr → o ≡ mapOk srPacket a → a ≡ mapOk senderView (readAs SR s) → o ≡ whole s
+  sr-read a e = dispatched SR senderView srPacket (λ p. refl) s o a (sym (kind-found s c kind.Sr h e))
 
-  pub rr-read : (a : Answer _) → t ≡ 201 → o ≡ mapOk rrPacket a → a ≡ mapOk receiverView (readAs RR s) → o ≡ whole s
-  unfolding kindOf
-  rr-read a q = dispatched RR receiverView rrPacket (λ p. refl) s o a (rw (← e, q))
+  pub rr-read : (a : Answer _) → c ≡ kind.Rr → o ≡ mapOk rrPacket a → a ≡ mapOk receiverView (readAs RR s) → o ≡ whole s
+  rr-read a e = dispatched RR receiverView rrPacket (λ p. refl) s o a (sym (kind-found s c kind.Rr h e))
 
-  pub sdes-read : (a : Answer _) → t ≡ 202 → o ≡ mapOk sdesPacket a → a ≡ mapOk sdesView (readAs SDES s) → o ≡ whole s
-  unfolding kindOf
-  sdes-read a q = dispatched SDES sdesView sdesPacket (λ p. refl) s o a (rw (← e, q))
+  pub sdes-read : (a : Answer _) → c ≡ kind.Sdes → o ≡ mapOk sdesPacket a → a ≡ mapOk sdesView (readAs SDES s) → o ≡ whole s
+  sdes-read a e = dispatched SDES sdesView sdesPacket (λ p. refl) s o a (sym (kind-found s c kind.Sdes h e))
 
-  pub bye-read : (a : Answer _) → t ≡ 203 → o ≡ mapOk byePacket a → a ≡ mapOk byeView (readAs BYE s) → o ≡ whole s
-  unfolding kindOf
-  bye-read a q = dispatched BYE byeView byePacket (λ p. refl) s o a (rw (← e, q))
+  pub bye-read : (a : Answer _) → c ≡ kind.Bye → o ≡ mapOk byePacket a → a ≡ mapOk byeView (readAs BYE s) → o ≡ whole s
+  bye-read a e = dispatched BYE byeView byePacket (λ p. refl) s o a (sym (kind-found s c kind.Bye h e))
 
-  pub app-read : (a : Answer _) → t ≡ 204 → o ≡ mapOk appPacket a → a ≡ mapOk appView (readAs APP s) → o ≡ whole s
-  unfolding kindOf
-  app-read a q = dispatched APP appView appPacket (λ p. refl) s o a (rw (← e, q))
+  pub app-read : (a : Answer _) → c ≡ kind.App → o ≡ mapOk appPacket a → a ≡ mapOk appView (readAs APP s) → o ≡ whole s
+  app-read a e = dispatched APP appView appPacket (λ p. refl) s o a (sym (kind-found s c kind.App h e))
 
-  -- a type that has no layout of its own
-  pub unknown-read : (a : Answer _) → (t ≡ 200 → ⊥) → (t ≡ 201 → ⊥) → (t ≡ 202 → ⊥) → (t ≡ 203 → ⊥) → (t ≡ 204 → ⊥)
-      → o ≡ mapOk unknownPacket a → a ≡ mapOk unknownView (readAs UNKNOWN s) → o ≡ whole s
-  unfolding kindOf
-  unknown-read a f g h i j =
-      dispatched UNKNOWN unknownView unknownPacket (λ p. refl) s o a
-      (rw (← e, ne-eqb t 200 f, ne-eqb t 201 g, ne-eqb t 202 h, ne-eqb t 203 i, ne-eqb t 204 j))
+  pub unknown-read : (a : Answer _) → c ≡ kind.Unknown → o ≡ mapOk unknownPacket a → a ≡ mapOk unknownView (readAs UNKNOWN s) → o ≡ whole s
+  unknown-read a e = dispatched UNKNOWN unknownView unknownPacket (λ p. refl) s o a (sym (kind-found s c kind.Unknown h e))
 
--- ---- the CNAME in a packet
-
-pub named-is : (p : Read) → named (packetView p) ≡ hasCname p
-named-is p = go (p .content) (p .padding)
-  where
-    go : (c : Content) (padding : List ℕ) → named (packetView (record { content = c; padding = padding })) ≡ hasCname (record { content = c; padding = padding })
-    go (report (sender ssrc ntp rtp n o) bs e) padding = refl
-    go (report (receiver ssrc) bs e) padding = refl
-    go (sdes cs) padding = refl
-    go (bye ss l) padding = refl
-    go (app subtype ssrc name d) padding = refl
-    go (unknown t low b) padding = refl
+pub ruleset packets = (needs, sr-read, rr-read, sdes-read, bye-read, app-read, unknown-read)
 
 -- ---- what the check of a datagram asks of a packet
 
-module _ {O A : Type 0} (of : O → Answer A) (k : Kind) (view : Read → A) (name : A → Bool) (same : (p : Read) → named (viewAs k p) ≡ name (view p)) where
-  name-viewed : (s : List ℕ) (r : Answer Read) → readAs k s ≡ r → mapOk name (mapOk view r) ≡ mapOk hasCname r
-  unfolding mapOk
-  name-viewed s (ok p) h = ap ok (sym (same p) ∙ ap (λ (k : Kind). named (viewAs k p)) (sym (readAs-kind k s h)) ∙ named-is p)
-  name-viewed s (refused x) h = refl
+abbrev isSdes : Kind → Bool
+isSdes SR = false
+isSdes RR = false
+isSdes SDES = true
+isSdes BYE = false
+isSdes APP = false
+isSdes UNKNOWN = false
 
-  -- of a kind's answer whose constructor is known
-  pub checks : (s : List ℕ) (o p : O) (x : Answer Bool) → o ≡ p → of o ≡ mapOk view (readAs k s) → x ≡ mapOk name (of p) → x ≡ mapOk hasCname (readAs k s)
-  checks s o p x e h q = q ∙ ap (λ (p : O). mapOk name (of p)) (sym e) ∙ ap (mapOk name) h ∙ name-viewed s (readAs k s) refl
+-- only an SDES has a CNAME
+unnamed : (p : Read) → isSdes (kindFor (p .content)) ≡ false → hasCname p ≡ false
+unnamed p = go (p .content)
+  where
+    go : (c : Content) → isSdes (kindFor c) ≡ false → hasCname (record { content = c; padding = p .padding }) ≡ false
+    go (report (sender ssrc ntp rtp n o) bs e) h = refl
+    go (report (receiver ssrc) bs e) h = refl
+    go (sdes cs) h = absurd (omega (arith, ap (λ (b : Bool). pick {A = ℕ} b 1 0) h))
+    go (bye ss l) h = refl
+    go (app subtype ssrc name d) h = refl
+    go (unknown t low b) h = refl
 
-abbrev pub nameless : {A : Type 0} → A → Bool
-nameless a = false
+abbrev verdictIn : Kind → List ℕ → ℕ
+verdictIn k s = valueOr 0 verdict (readAs k s)
 
-module _ (s : List ℕ) (t : ℕ) (e : t ≡ typeIn s) (x : Answer Bool) where
-  pub check-known : (k : Kind) → kindOf t (lowIn s) ≡ k → x ≡ mapOk hasCname (readAs k s) → x ≡ mapOk hasCname (readAs (kindOf (typeIn s) (lowIn s)) s)
-  check-known k q h = h ∙ ap (λ (k : Kind). mapOk hasCname (readAs k s)) (sym q ∙ ap (λ (t : ℕ). kindOf t (lowIn s)) e)
+-- from what was read of the packet, a number of it that is its body and whether it has a CNAME
+module _ {A : Type 0} (none : A) (view : Read → A) (body : A → ℕ) (named : A → Bool) (z : body none ≡ 0) (k : Kind) (s : List ℕ) where
+  by-body : ((p : Read) → readAs k s ≡ ok p → (0 < body (view p)) × (named (view p) ≡ hasCname p)) → (o : A) (r : ℕ)
+      → o ≡ valueOr none view (readAs k s) → r ≡ pick (eqb (body o) 0) 0 (verdictOf (named o)) → r ≡ verdictIn k s
+  by-body h o r e q = go (readAs k s) refl
+    where
+      go : (a : Answer Read) → readAs k s ≡ a → r ≡ valueOr 0 verdict a
+      go (ok p) w =
+          let v : o ≡ view p = e ∙ ap (valueOr none view) w in
+          let n : body (view p) ≡ 0 → ⊥ = λ x. omega (arith, h p w .0) in
+          q ∙ rw (v, ne-eqb (body (view p)) 0 n, h p w .1)
+      go (refused x) w = let v : o ≡ none = e ∙ ap (valueOr none view) w in q ∙ rw (v, z)
 
-  pub sr-check : t ≡ 200 → x ≡ mapOk hasCname (readAs SR s) → x ≡ mapOk hasCname (readAs (kindOf (typeIn s) (lowIn s)) s)
-  unfolding kindOf
-  sr-check q = check-known SR (rw q)
+  -- a kind without a CNAME
+  by-body-alone : isSdes k ≡ false → ((p : Read) → readAs k s ≡ ok p → 0 < body (view p)) → ((a : A) → named a ≡ false) → (o : A) (r : ℕ)
+      → o ≡ valueOr none view (readAs k s) → r ≡ pick (eqb (body o) 0) 0 (verdictOf (named o)) → r ≡ verdictIn k s
+  by-body-alone i l f = by-body (λ p w. (l p w, f (view p) ∙ sym (unnamed p (ap isSdes (readAs-kind k s w) ∙ i))))
 
-  pub rr-check : t ≡ 201 → x ≡ mapOk hasCname (readAs RR s) → x ≡ mapOk hasCname (readAs (kindOf (typeIn s) (lowIn s)) s)
-  unfolding kindOf
-  rr-check q = check-known RR (rw q)
+module _ (s : List ℕ) where
+  pub sr-verdict : (b r : ℕ) → b ≡ valueOr 0 reportBody (readAs SR s) → r ≡ pick (eqb b 0) 0 1 → r ≡ verdictIn SR s
+  sr-verdict = by-body-alone 0 reportBody (λ b. b) (λ b. false) refl SR s refl (λ p w. body-some p) (λ b. refl)
 
-  pub sdes-check : t ≡ 202 → x ≡ mapOk hasCname (readAs SDES s) → x ≡ mapOk hasCname (readAs (kindOf (typeIn s) (lowIn s)) s)
-  unfolding kindOf
-  sdes-check q = check-known SDES (rw q)
+  pub rr-verdict : (b r : ℕ) → b ≡ valueOr 0 reportBody (readAs RR s) → r ≡ pick (eqb b 0) 0 1 → r ≡ verdictIn RR s
+  rr-verdict = by-body-alone 0 reportBody (λ b. b) (λ b. false) refl RR s refl (λ p w. body-some p) (λ b. refl)
 
-  pub bye-check : t ≡ 203 → x ≡ mapOk hasCname (readAs BYE s) → x ≡ mapOk hasCname (readAs (kindOf (typeIn s) (lowIn s)) s)
-  unfolding kindOf
-  bye-check q = check-known BYE (rw q)
+  pub sdes-verdict : (o : Sdes) (r : ℕ) → o ≡ valueOr noSdes sdesView (readAs SDES s) → r ≡ pick (eqb (o .body) 0) 0 (verdictOf (o .«has_cname»)) → r ≡ verdictIn SDES s
+  sdes-verdict = by-body noSdes sdesView (λ o. o .body) (λ o. o .«has_cname») refl SDES s (λ p w. (omega arith, refl))
 
-  pub app-check : t ≡ 204 → x ≡ mapOk hasCname (readAs APP s) → x ≡ mapOk hasCname (readAs (kindOf (typeIn s) (lowIn s)) s)
-  unfolding kindOf
-  app-check q = check-known APP (rw q)
+  pub bye-verdict : (o : Bye) (r : ℕ) → o ≡ valueOr noBye byeView (readAs BYE s) → r ≡ pick (eqb (o .body) 0) 0 1 → r ≡ verdictIn BYE s
+  bye-verdict = by-body-alone noBye byeView (λ o. o .body) (λ o. false) refl BYE s refl (λ p w. omega arith) (λ o. refl)
 
-  pub unknown-check : (t ≡ 200 → ⊥) → (t ≡ 201 → ⊥) → (t ≡ 202 → ⊥) → (t ≡ 203 → ⊥) → (t ≡ 204 → ⊥) → x ≡ mapOk hasCname (readAs UNKNOWN s)
-      → x ≡ mapOk hasCname (readAs (kindOf (typeIn s) (lowIn s)) s)
-  unfolding kindOf
-  unknown-check f g h i j = check-known UNKNOWN (rw (ne-eqb t 200 f, ne-eqb t 201 g, ne-eqb t 202 h, ne-eqb t 203 i, ne-eqb t 204 j))
+  pub app-verdict : (o : App) (r : ℕ) → o ≡ valueOr noApp appView (readAs APP s) → r ≡ pick (eqb (o .body) 0) 0 1 → r ≡ verdictIn APP s
+  app-verdict = by-body-alone noApp appView (λ o. o .body) (λ o. false) refl APP s refl (λ p w. omega arith) (λ o. refl)
 
-pub ruleset checks-by-type = (needs, sr-check, rr-check, sdes-check, bye-check, app-check, unknown-check)
+  pub unknown-verdict : (o : Unknown) (r : ℕ) → o ≡ valueOr noUnknown unknownView (readAs UNKNOWN s) → r ≡ pick (eqb (o .body) 0) 0 1 → r ≡ verdictIn UNKNOWN s
+  unknown-verdict = by-body-alone noUnknown unknownView (λ o. o .body) (λ o. false) refl UNKNOWN s refl (λ p w. omega arith) (λ o. refl)
 
-pub ruleset packets = (needs, sr-read, rr-read, sdes-read, bye-read, app-read, unknown-read)
+  -- of a kind that a match found
+  pub verdict-found : (c d : Kinds) (r : ℕ) → kindIn c ≡ kindOf (typeIn s) (lowIn s) → c ≡ d → r ≡ verdictIn (kindIn d) s → r ≡ verdictIn (kindOf (typeIn s) (lowIn s)) s
+  verdict-found c d r h e q = q ∙ ap (λ (k : Kind). verdictIn k s) (kind-found s c d h e)
+
+pub verdict-none : (b : ℕ) (c : Bool) → b ≡ 0 → _≡_ {A = ℕ} 0 (pick (eqb b 0) 0 (verdictOf c))
+verdict-none b c z = rw z
+
+module _ (b : ℕ) (c : Bool) (z : b ≡ 0 → ⊥) where
+  pub verdict-named : c ≡ true → _≡_ {A = ℕ} 2 (pick (eqb b 0) 0 (verdictOf c))
+  verdict-named e = rw (ne-eqb b 0 z, e)
+
+  pub verdict-unnamed : c ≡ false → _≡_ {A = ℕ} 1 (pick (eqb b 0) 0 (verdictOf c))
+  verdict-unnamed e = rw (ne-eqb b 0 z, e)
+
+pub ruleset verdicts = (needs, verdict-none, verdict-named, verdict-unnamed, sr-verdict, rr-verdict, sdes-verdict, bye-verdict, app-verdict, unknown-verdict, verdict-found)

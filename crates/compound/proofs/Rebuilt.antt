@@ -18,12 +18,18 @@ use Rattle.rfc3550.proofs.Packet.{readAs-kind}
 use Rattle.rfc3550.proofs.Walk.{walk-gives, sdes-walk-gives, item-walk-gives}
 use Rattle.utils.specs.Parts.{partIn}
 use Rattle.report.specs.Block.{blockView}
+use Rattle.report.proofs.Reports.{receiver-extension, receiver-padding, sender-extension, sender-padding}
 use Rattle.sdes_chunk.specs.Item.{itemView}
 use Rattle.sdes_chunk.specs.Chunk.{chunkView}
-use Rattle.sdes_chunk.proofs.Readings.{isPriv, item-in, chunk-in}
+use Rattle.sdes_chunk.specs.Returned.{itemFrom}
+use Rattle.sdes_chunk.proofs.Readings.{chunk-in}
+use Rattle.sdes_chunk.proofs.Returned.{item-step-from}
+use Rattle.bye.proofs.Byes as byes
+use Rattle.app.proofs.Apps as apps
+use Rattle.compound.proofs.Unknowns.{body-part, padding-part}
 use Rattle.compound.specs.Packet.{viewAs, packetView}
 use Rattle.compound.specs.Compound.{stepView, steppedOf}
-use Rattle.compound.specs.Rebuilt.{listed, blockFrom, blockAt, rebuiltItem, itemAt, rebuiltChunk, chunkAt, rebuilt, packetAt}
+use Rattle.compound.specs.Rebuilt.{listed, blockFrom, blockAt, itemAt, rebuiltChunk, chunkAt, rebuilt, packetAt}
 use Rattle.compound.specs.declared.packet.Packet.{Packet}
 use Rattle.compound.specs.declared.compound.Walk.{Walk}
 use Rattle.compound.specs.declared.compound.Stepped.{Stepped}
@@ -58,20 +64,10 @@ source-is s p e i = rw e
 
 -- ---- items
 
-item-is : (s : List ℕ) (i : Item) (r : List ℕ) → readItem s ≡ ok (i, r) → isPriv i ≡ eqb (itemType i) 8 → rebuiltItem s (itemView i) ≡ i
-unfolding readPrefix mapOk _>>=_
-item-is s (item t v) r e k = rw (sym k, e)
-item-is s (priv p v) r e k = rw e
-
-item-step : (s : List ℕ) (at : ℕ) (m : Answer (Item × ℕ)) → itemStep s at ≡ m → (m >>= λ (x : Item × ℕ). ok (rebuiltItem (drop at s) (itemView (x .0)))) ≡ gave m
-unfolding itemStep _>>=_
+item-step : (s : List ℕ) (at : ℕ) (m : Answer (Item × ℕ)) → itemStep s at ≡ m → (m >>= λ (x : Item × ℕ). ok (itemFrom s at (itemView (x .0)))) ≡ gave m
+unfolding _>>=_
 item-step s at (refused r) e = refl
-item-step s at (ok y) e =
-    let a = need-inv _ _ _ _ _ e in
-    let b = need-inv _ _ _ _ _ (a .1) in
-    bind-elim (readItem (drop at s)) _ (b .1) (λ x q e₁.
-    let w : x .0 ≡ y .0 = ap (λ (y : Item × ℕ). y .0) (ok-injective e₁) in
-    ap ok (subst (λ (i : Item). rebuiltItem (drop at s) (itemView i) ≡ i) w (item-is (drop at s) (x .0) (x .1) q (item-in (drop at s) q .kind))))
+item-step s at (ok y) e = ap ok (item-step-from s at y e)
 
 few-items : (is : List Item) → length is ≤ length (itemsBytes is)
 unfolding itemsBytes
@@ -116,20 +112,20 @@ module _ (s : List ℕ) (h : Bytes s) where
   by-content : (c : Content) (padding : List ℕ) → readAs (kindFor c) s ≡ ok (record { content = c; padding = padding })
       → rebuilt s (viewAs (kindFor c) (record { content = c; padding = padding })) ≡ record { content = c; padding = padding }
   unfolding partIn
-  by-content (report (sender ssrc ntp rtp n o) bs x) padding e = rw (e, listed-all bs (blockAt SR s) (block-is SR s _ e))
-  by-content (report (receiver ssrc) bs x) padding e = rw (e, listed-all bs (blockAt RR s) (block-is RR s _ e))
+  by-content (report (sender ssrc ntp rtp n o) bs x) padding e = rw (listed-all bs (blockAt SR s) (block-is SR s _ e), sender-extension s _ e, sender-padding s _ e)
+  by-content (report (receiver ssrc) bs x) padding e = rw (listed-all bs (blockAt RR s) (block-is RR s _ e), receiver-extension s _ e, receiver-padding s _ e)
   by-content (sdes cs) padding e = rw (e, listed-all cs (chunkAt s) (chunk-is s _ h e))
-  by-content (bye ss no-reason) padding e = rw (e, listed-all ss (readSourceAt s) (source-is s _ e))
-  by-content (bye ss (reason r tail)) padding e = rw (e, listed-all ss (readSourceAt s) (source-is s _ e))
-  by-content (app subtype ssrc name d) padding e = rw e
-  by-content (unknown t low b) padding e = rw e
+  by-content (bye ss no-reason) padding e = let p = byes.parts s _ e in rw (listed-all ss (readSourceAt s) (source-is s _ e), p .padding)
+  by-content (bye ss (reason r tail)) padding e = let p = byes.parts s _ e in rw (listed-all ss (readSourceAt s) (source-is s _ e), p .because, p .tail, p .padding)
+  by-content (app subtype ssrc name d) padding e = let p = apps.parts s _ e in rw (p .name, p .payload, p .padding)
+  by-content (unknown t low b) padding e = rw (body-part s _ e, padding-part s _ e)
 
   pub rebuilt-is : (k : Kind) (p : Read) → readAs k s ≡ ok p → rebuilt s (packetView p) ≡ p
   rebuilt-is k p e = by-content (p .content) (p .padding) (subst (λ (k : Kind). readAs k s ≡ ok p) (sym (readAs-kind k s e)) e)
 
 -- ---- a step of the walk
 
-step-is : (s : List ℕ) (at : ℕ) → Bytes s → (x : Read × ℕ) → step s at ≡ ok x → rebuilt (take (x .1 - at) (drop at s)) (packetView (x .0)) ≡ x .0
+pub step-is : (s : List ℕ) (at : ℕ) → Bytes s → (x : Read × ℕ) → step s at ≡ ok x → rebuilt (take (x .1 - at) (drop at s)) (packetView (x .0)) ≡ x .0
 unfolding step readPacket
 step-is s at h x e =
     let a = need-inv _ _ _ _ _ e in

@@ -1,60 +1,22 @@
--- Reading an unknown packet, from what a reader has tested, and what an accepted one tells.
+-- Reading an unknown packet, from what a reader has tested, and what the parts of an accepted one are.
 use borrow.Author.Needs.{needs}
-use mathlib.Core.Path.{_≡_, ap, _∙_, sym, subst}
-use mathlib.Core.Bool.{Bool, true, false, not}
-use mathlib.Core.List.{List, []}
-use Prim.Native.Nat.{ℕ, _+_, _-_, _<_, _≤_}
+use mathlib.Core.Path.{_≡_, refl, ap, _∙_, sym}
+use mathlib.Core.Bool.{Bool}
+use mathlib.Core.List.{List}
+use Prim.Native.Nat.{ℕ, _+_, _-_, _≤_}
 use native.Mathlib.Omega.{arith}
-use borrow.Author.Tests.{eq-eqb, ne-eqb, le-leb, lt-leb}
-use lib.Dec.{eqb}
 use lib.ListN.{length, take, drop, length-drop}
 use lib.Seq.{length-take-le}
-use Rattle.rfc3550.specs.Answer.{Refusal, Answer, ok, refused, need, _>>_, mapOk}
-use Rattle.rfc3550.specs.Packet.{Content, unknown, Packet, known}
-use Rattle.rfc3550.specs.Read.{UNKNOWN, lowIn, typeIn, checkHeader, checkPacket, readContent, readAs}
-use Rattle.rfc3550.proofs.Answer.{mapOk-inv, ok-injective}
-use Rattle.utils.specs.Error.{parseRefusal, refusalIn}
-use Rattle.utils.specs.Parser.{checkedOf}
-use Rattle.utils.specs.Parts.{partIn, paddingIn}
-use Rattle.utils.specs.declared.error.RtcpParseError.{RtcpParseError}
-use Rattle.utils.specs.declared.parser.CheckedPacket.{CheckedPacket}
-use Rattle.utils.specs.declared.parser.CheckedPacket.the-variants as checked
-use Rattle.utils.proofs.Reading.{contentIn, got, header-refused, header-passed, header-accepted, header-long, part-refused, padding-is}
+use Rattle.rfc3550.specs.Answer.{Refusal, Answer, ok, refused, _>>=_, mapOk}
+use Rattle.rfc3550.specs.Packet.{Content, unknown, Packet}
+use Rattle.rfc3550.specs.Read.{UNKNOWN, ofKind, lowIn, typeIn, checkHeader, checkPacket, readContent, readAs}
+use Rattle.rfc3550.proofs.Answer.{ok-injective}
+use Rattle.utils.specs.Error.{refusalIn, valueOr, orZero}
+use Rattle.utils.proofs.Headers.{unnamed}
+use Rattle.utils.proofs.Reading.{packetOf, contentIn, got, none-at-header, body-accepted, body-content, parse-none, parse-read, padding-here}
 use Rattle.utils.proofs.Parts.{drop-take}
 use Rattle.compound.specs.declared.unknown.Unknown.{Unknown}
-use Rattle.compound.specs.declared.unknown.ParsedUnknown.{ParsedUnknown}
-use Rattle.compound.specs.declared.unknown.ParsedUnknown.the-variants as parsed
-use Rattle.compound.specs.Unknown.{parsedUnknownOf, bodyOf, unknownView, bodyIn}
-
--- ---- the type that is asked for
-
--- the header's steps with a type asked for
-abbrev asked : List ℕ → ℕ → Answer ℕ
-asked s t = checkHeader 4 (eqb (typeIn s) t) (typeIn s, t) s
-
--- the details of 6 are of no account where the type is the one wanted
-wanted : (least : ℕ) (a b : Bool) (m n : ℕ × ℕ) (s : List ℕ) → a ≡ true → b ≡ true → checkHeader least a m s ≡ checkHeader least b n s
-unfolding checkHeader need _>>_
-wanted least a b m n s p q = rw (p, q)
-
-own : (s : List ℕ) (t : ℕ) → t ≡ typeIn s → known (typeIn s) (lowIn s) ≡ false → asked s t ≡ checkPacket UNKNOWN s
-own s t e k = wanted 4 (eqb (typeIn s) t) (not (known (typeIn s) (lowIn s))) (typeIn s, t) _ s (eq-eqb (typeIn s) t (sym e)) (ap not k)
-
-pub asked-short : (s : List ℕ) → length s < 4 → asked s 0 ≡ checkPacket UNKNOWN s
-unfolding checkHeader need _>>_
-asked-short s h = rw (lt-leb 4 (length s) h)
-
-module _ (s : List ℕ) (t : ℕ) (e : t ≡ typeIn s) where
-  pub asked-below : t < 200 → asked s t ≡ checkPacket UNKNOWN s
-  asked-below h = own s t e (rw (← e, lt-leb 200 t h))
-
-  pub asked-above : 200 ≤ t → 204 < t → asked s t ≡ checkPacket UNKNOWN s
-  asked-above h l = own s t e (rw (← e, le-leb 200 t h, lt-leb t 204 l))
-
-  pub asked-known : 200 ≤ t → t ≤ 204 → asked s 0 ≡ checkPacket UNKNOWN s
-  asked-known h l = let z : t ≡ 0 → ⊥ = λ q. omega arith in rw (← e, ne-eqb t 0 z, le-leb 200 t h, le-leb t 204 l)
-
--- ---- the packet
+use Rattle.compound.specs.Unknown.{bodyOf, unknownView, noUnknown}
 
 content : (s : List ℕ) (b : ℕ) → contentIn UNKNOWN s b ≡ ok (unknown (typeIn s) (lowIn s) (take (b - 4) (drop 4 s)))
 unfolding readContent
@@ -63,59 +25,59 @@ content s b = rw (drop-take 4 b s)
 length-body : (s : List ℕ) (b : ℕ) → 4 ≤ b → b ≤ length s → 4 + length (take (b - 4) (drop 4 s)) ≡ b
 length-body s b h l = rw (length-take-le (b - 4) (drop 4 s) (rw length-drop (omega arith))) (omega arith)
 
-module _ (s : List ℕ) (t : ℕ) (h : asked s t ≡ checkPacket UNKNOWN s) (o : CheckedPacket) (g : checkedOf o ≡ asked s t) where
-  pub unknown-refused : (v : RtcpParseError) (r : Refusal) → o ≡ checked.Refused v → r ≡ refusalIn (checkedOf o) → refused r ≡ mapOk unknownView (readAs UNKNOWN s)
-  unknown-refused v r e q = header-refused UNKNOWN s unknownView o (g ∙ h) v r e q
+module _ (s : List ℕ) (w : Bool) (f : w ≡ ofKind UNKNOWN (typeIn s) (lowIn s)) (b : ℕ) (g : b ≡ orZero (checkHeader 4 w (0, 0) s)) where
+  header : b ≡ orZero (checkPacket UNKNOWN s)
+  header = g ∙ unnamed 4 w (0, 0) (typeIn s, 0) s ∙ ap (λ (w : Bool). orZero (checkHeader 4 w (typeIn s, 0) s)) f
 
-  module _ (b : ℕ) (e : o ≡ checked.Body b) where
-    pub unknown-header : 4 ≤ length s
-    unknown-header = header-long UNKNOWN s o b e (g ∙ h) 4 (omega arith)
+  pub unknown-none : b ≡ 0 → noUnknown ≡ valueOr noUnknown unknownView (readAs UNKNOWN s)
+  unknown-none = none-at-header UNKNOWN s b header noUnknown unknownView
 
+  module _ (z : b ≡ 0 → ⊥) where
     pub unknown-body : b ≤ length s
-    unknown-body = header-accepted UNKNOWN s o b e (g ∙ h) .within
+    unknown-body = body-accepted UNKNOWN s b header z .within
 
-    pub unknown-read : (x n : ℕ) → x ≡ typeIn s → n ≡ lowIn s → ok (record { «packet_type» = x; count = n; body = b; padding = length s - b }) ≡ mapOk unknownView (readAs UNKNOWN s)
+    pub unknown-read : (x n : ℕ) → x ≡ typeIn s → n ≡ lowIn s → record { «packet_type» = x; count = n; body = b; «padding_len» = length s - b } ≡ valueOr noUnknown unknownView (readAs UNKNOWN s)
     unfolding mapOk
     unknown-read x n p q =
-        let a = header-accepted UNKNOWN s o b e (g ∙ h) in
-        rw (← header-passed UNKNOWN s unknownView o (g ∙ h) b e, content s b, length-body s b (a .enough) (a .within), length-drop b s, p, q)
+        let a = body-accepted UNKNOWN s b header z in
+        rw (body-content UNKNOWN s b header z, content s b, length-body s b (a .enough) (a .within), length-drop b s, p, q)
 
--- what an accepted packet tells
-record Held (s : List ℕ) (u : Unknown) : Type 0 where
-  enough : 4 ≤ u .body
-  within : u .body ≤ length s
-  body : take (u .body - 4) (drop 4 s) ≡ bodyIn (readAs UNKNOWN s)
-  padding : take (length s - u .body) (drop (u .body) s) ≡ paddingIn (readAs UNKNOWN s)
+-- the header refuses, or nothing does
+why-is : (s : List ℕ) → refusalIn (checkPacket UNKNOWN s) ≡ refusalIn (readAs UNKNOWN s)
+unfolding readAs _>>=_ readContent
+why-is s = go (checkPacket UNKNOWN s)
+  where
+    go : (m : Answer ℕ) → refusalIn m ≡ refusalIn (m >>= λ b. contentIn UNKNOWN s b >>= λ c. ok (packetOf s b c))
+    go (ok b) = refl
+    go (refused x) = refl
 
-held : (s : List ℕ) (p : Packet) → readAs UNKNOWN s ≡ ok p → Held s (unknownView p)
-unfolding partIn
-held s p e =
-    let g = got UNKNOWN s p e in
-    let c : unknown (typeIn s) (lowIn s) (take (g .body - 4) (drop 4 s)) ≡ p .content = ok-injective (sym (content s (g .body)) ∙ g .content) in
-    let b : 4 + length (bodyOf (p .content)) ≡ g .body = ap (λ (c : Content). 4 + length (bodyOf c)) (sym c) ∙ length-body s (g .body) (g .enough) (g .within) in
-    record { enough = rw b (g .enough); within = rw b (g .within); body = rw (e, b) (ap bodyOf c); padding = rw (e, b) (padding-is UNKNOWN s p g) }
+pub unknown-why : (s : List ℕ) (w : Bool) (t : ℕ) (r : Refusal) → w ≡ ofKind UNKNOWN (typeIn s) (lowIn s) → t ≡ typeIn s → r ≡ refusalIn (checkHeader 4 w (t, 0) s) → r ≡ refusalIn (readAs UNKNOWN s)
+unknown-why s w t r f e q =
+    q ∙ ap (λ (w : Bool). refusalIn (checkHeader 4 w (t, 0) s)) f ∙ ap (λ (t : ℕ). refusalIn (checkHeader 4 (ofKind UNKNOWN (typeIn s) (lowIn s)) (t, 0) s)) e ∙ why-is s
 
-module _ (s : List ℕ) (o : ParsedUnknown) (h : parsedUnknownOf o ≡ mapOk unknownView (readAs UNKNOWN s)) where
-  pub part-none : (part : Packet → List ℕ) (v : RtcpParseError) → o ≡ parsed.Refused v → [] ≡ partIn part (readAs UNKNOWN s)
-  part-none part v e = part-refused unknownView (parsedUnknownOf o) (parseRefusal v) part (readAs UNKNOWN s) (ap parsedUnknownOf e) h
+module _ (s : List ℕ) (o : Unknown) (h : o ≡ valueOr noUnknown unknownView (readAs UNKNOWN s)) where
+  pub parsed-none : (r : Refusal) → o .body ≡ 0 → r ≡ refusalIn (readAs UNKNOWN (take (length s - 0) (drop 0 s))) → refused r ≡ mapOk unknownView (readAs UNKNOWN s)
+  parsed-none = parse-none UNKNOWN s noUnknown unknownView (λ o. o .body) refl o h (λ p. omega arith)
 
-  module _ (u : Unknown) (e : o ≡ parsed.Unknown u) where
-    unknown-held : Held s u
-    unknown-held = let m = mapOk-inv unknownView (readAs UNKNOWN s) (sym h ∙ ap parsedUnknownOf e) in subst (Held s) (m .2) (held s (m .0) (m .1))
+  pub parsed-read : (o .body ≡ 0 → ⊥) → ok o ≡ mapOk unknownView (readAs UNKNOWN s)
+  parsed-read = parse-read UNKNOWN s noUnknown unknownView (λ o. o .body) refl o h
 
-    pub unknown-enough : 4 ≤ u .body
-    unknown-enough = unknown-held .enough
+pub ruleset unknowns = (needs, unknown-none, unknown-body, unknown-read, unknown-why, parsed-none, parsed-read)
 
-    pub unknown-within : u .body ≤ length s
-    unknown-within = unknown-held .within
+-- ---- the parts of an accepted packet
 
-    pub unknown-long : 4 ≤ length s
-    unknown-long = let h = unknown-held in omega arith
+module _ (s : List ℕ) (p : Packet) (e : readAs UNKNOWN s ≡ ok p) where
+  body-is : 4 + length (bodyOf (p .content)) ≡ got UNKNOWN s p e .body
+  body-is =
+      let g = got UNKNOWN s p e in
+      let c : unknown (typeIn s) (lowIn s) (take (g .body - 4) (drop 4 s)) ≡ p .content = ok-injective (sym (content s (g .body)) ∙ g .content) in
+      ap (λ (c : Content). 4 + length (bodyOf c)) (sym c) ∙ length-body s (g .body) (g .enough) (g .within)
 
-    pub body-part : take (u .body - 4) (drop 4 s) ≡ bodyIn (readAs UNKNOWN s)
-    body-part = unknown-held .body
+  pub body-part : take (unknownView p .body - 4) (drop 4 s) ≡ bodyOf (p .content)
+  body-part =
+      let g = got UNKNOWN s p e in
+      let c : unknown (typeIn s) (lowIn s) (take (g .body - 4) (drop 4 s)) ≡ p .content = ok-injective (sym (content s (g .body)) ∙ g .content) in
+      rw body-is (ap bodyOf c)
 
-    pub padding-part : take (length s - u .body) (drop (u .body) s) ≡ paddingIn (readAs UNKNOWN s)
-    padding-part = unknown-held .padding
-
-pub ruleset unknowns = (needs, asked-short, asked-below, asked-above, asked-known, unknown-refused, unknown-header, unknown-body, unknown-read, part-none, unknown-enough, unknown-within, unknown-long, body-part, padding-part)
+  pub padding-part : take (unknownView p .«padding_len») (drop (unknownView p .body) s) ≡ p .padding
+  padding-part = rw body-is (padding-here UNKNOWN s p (got UNKNOWN s p e))

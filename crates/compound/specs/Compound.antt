@@ -2,7 +2,7 @@
 use Prim.Native.Nat.{ℕ, _+_}
 use mathlib.Core.Bool.{Bool, _||_, not}
 use mathlib.Core.List.{List, [], _∷_}
-use lib.ListN.{length}
+use lib.ListN.{length, take, drop}
 use lib.Dec.{leb, eqb}
 use Rattle.rfc3550.specs.Answer.{Answer, ok, refused, _>>_, need}
 use Rattle.rfc3550.specs.Packet.{Packet as Read, type, layout, isReport}
@@ -10,12 +10,10 @@ use Rattle.rfc3550.specs.Read.{versionIn, padded, typeIn, stated}
 use Rattle.utils.specs.Error.{parseRefusal}
 use Rattle.compound.specs.Packet.{packetView}
 use Rattle.compound.specs.declared.packet.Packet.{Packet}
-use Rattle.compound.specs.declared.compound.Span.{Span}
-use Rattle.compound.specs.declared.compound.Span.the-variants as span
+use Rattle.compound.specs.declared.compound.CheckedPacket.{CheckedPacket}
+use Rattle.compound.specs.declared.compound.CheckedPacket.the-variants as checked
 use Rattle.compound.specs.declared.compound.ReadPacket.{ReadPacket}
 use Rattle.compound.specs.declared.compound.ReadPacket.the-variants as read
-use Rattle.compound.specs.declared.compound.Passed.{Passed}
-use Rattle.compound.specs.declared.compound.Passed.the-variants as passed
 use Rattle.compound.specs.declared.compound.Compound.{Compound}
 use Rattle.compound.specs.declared.compound.ParsedCompound.{ParsedCompound}
 use Rattle.compound.specs.declared.compound.ParsedCompound.the-variants as parsed
@@ -42,23 +40,19 @@ frame first s = do
   need (reportFirst first (typeIn s)) 7 (typeIn s) 0
   ok (stated s)
 
-abbrev pub spanOf : Span → Answer ℕ
-spanOf (span.Bytes n) = ok n
-spanOf (span.Refused e) = refused (parseRefusal e)
-
 -- ---- the packet at the start of the bytes s, and its length
 
 abbrev pub readOf : ReadPacket → Answer (Packet × ℕ)
 readOf (read.Packet p n) = ok (p, n)
 readOf (read.Refused e) = refused (parseRefusal e)
 
-abbrev pub passedOf : Passed → Answer (Bool × ℕ)
-passedOf (passed.Packet b n) = ok (b, n)
-passedOf (passed.Refused e) = refused (parseRefusal e)
+abbrev pub checkedOf : CheckedPacket → Answer (Bool × ℕ)
+checkedOf (checked.Packet b n) = ok (b, n)
+checkedOf (checked.Refused e) = refused (parseRefusal e)
 
 -- what is asked of the packet, and its length
-abbrev pub spanned : {B : Type 0} → (Read → B) → List ℕ → Read → B × ℕ
-spanned f s p = (f p, stated s)
+abbrev pub withLength : {B : Type 0} → (Read → B) → List ℕ → Read → B × ℕ
+withLength f s p = (f p, stated s)
 
 -- ---- a datagram, and a walk over it
 
@@ -72,6 +66,17 @@ rowsFrom at (p ∷ ps) = type (p .content) ∷ at ∷ length (layout p) ∷ rows
 
 abbrev pub packetRows : List Read → List ℕ
 packetRows ps = rowsFrom 0 ps
+
+-- the type of each row, and the part of a datagram that it names
+unfoldable pub rowParts : List ℕ → List ℕ → List (ℕ × List ℕ)
+rowParts s [] = []
+rowParts s (t ∷ []) = []
+rowParts s (t ∷ at ∷ []) = []
+rowParts s (t ∷ at ∷ n ∷ rows) = (t, take n (drop at s)) ∷ rowParts s rows
+
+-- and what they are of a packet
+abbrev pub rowIs : Read → ℕ × List ℕ
+rowIs p = (type (p .content), layout p)
 
 abbrev pub parsedCompoundOf : ParsedCompound → Answer Compound
 parsedCompoundOf (parsed.Compound c) = ok c

@@ -1,5 +1,6 @@
+pub mod Kind
 pub mod Unknown
 pub mod Packet
 pub mod Compound
 pub mod Rebuilt
-pub mod Plain
+pub mod Returned

@@ -1,7 +1,8 @@
 -- What the code hands over of a packet of any kind: its kind's fields, as functions of the packet.
-use mathlib.Core.Bool.{Bool, false}
+use Prim.Native.Nat.{ℕ}
+use mathlib.Core.Bool.{Bool, true, false}
 use Rattle.rfc3550.specs.Answer.{Answer, ok, refused}
-use Rattle.rfc3550.specs.Packet.{Packet as Read}
+use Rattle.rfc3550.specs.Packet.{Packet as Read, hasCname}
 use Rattle.rfc3550.specs.Read.{Kind, SR, RR, SDES, BYE, APP, UNKNOWN, kindFor}
 use Rattle.utils.specs.Error.{parseRefusal}
 use Rattle.report.specs.Report.{senderView, receiverView}
@@ -19,17 +20,18 @@ use Rattle.compound.specs.declared.packet.Packet.{Packet}
 use Rattle.compound.specs.declared.packet.Packet.the-variants as packet
 use Rattle.compound.specs.declared.packet.ParsedPacket.{ParsedPacket}
 use Rattle.compound.specs.declared.packet.ParsedPacket.the-variants as parsed
-use Rattle.compound.specs.declared.packet.CheckedKind.{CheckedKind}
-use Rattle.compound.specs.declared.packet.CheckedKind.the-variants as checked
 
 abbrev pub parsedOf : ParsedPacket → Answer Packet
 parsedOf (parsed.Packet p) = ok p
 parsedOf (parsed.Refused e) = refused (parseRefusal e)
 
--- whether it has a CNAME, or why it is refused
-abbrev pub checkedOf : CheckedKind → Answer Bool
-checkedOf (checked.HasCname b) = ok b
-checkedOf (checked.Refused e) = refused (parseRefusal e)
+-- 1 of a packet that is accepted, 2 where it has a CNAME
+abbrev pub verdictOf : Bool → ℕ
+verdictOf true = 2
+verdictOf false = 1
+
+abbrev pub verdict : Read → ℕ
+verdict p = verdictOf (hasCname p)
 
 -- ---- each kind as a packet
 
@@ -63,12 +65,3 @@ viewAs UNKNOWN p = packet.Unknown (unknownView p)
 
 abbrev pub packetView : Read → Packet
 packetView p = viewAs (kindFor (p .content)) p
-
--- some chunk of it has a CNAME
-abbrev pub named : Packet → Bool
-named (packet.Sr r) = false
-named (packet.Rr r) = false
-named (packet.Sdes s) = s .«has_cname»
-named (packet.Bye b) = false
-named (packet.App a) = false
-named (packet.Unknown u) = false

@@ -1,25 +1,20 @@
 -- The packet of the language from what the code hands over: the fields of its kind and, over the packet's own bytes, what each accessor gives
 -- by its contract.
-use Prim.Native.Nat.{ℕ, zero, suc, _-_}
+use Prim.Native.Nat.{ℕ, zero, suc, _+_, _-_}
 use mathlib.Core.Bool.{Bool, true, false}
 use mathlib.Core.List.{List, [], _∷_}
 use lib.ListN.{length, take, drop}
-use lib.Dec.{eqb}
-use Rattle.rfc3550.specs.Answer.{Answer, ok, refused, _>>=_, mapOk, pick}
-use Rattle.rfc3550.specs.Packet.{Block, Item, item, priv, Chunk, Leaving, no-reason, reason, Content, report, receiver, sender, sdes, bye, app, unknown, Packet as Read}
-use Rattle.rfc3550.specs.Read.{Kind, SR, RR, SDES, BYE, APP, UNKNOWN, readAs, readBlockAt, readSourceAt, readItem, readPrefix}
+use Rattle.rfc3550.specs.Answer.{Answer, ok, refused, _>>=_, mapOk}
+use Rattle.rfc3550.specs.Packet.{Block, Item, Chunk, Leaving, no-reason, reason, Content, report, receiver, sender, sdes, bye, app, unknown, Packet as Read}
+use Rattle.rfc3550.specs.Read.{Kind, SR, RR, SDES, readAs, readBlockAt, readSourceAt}
 use Rattle.rfc3550.specs.Walk.{SdesWalk, openSdes, sdesStep, openItems, itemStep, openWalk, step, walked}
 use Rattle.utils.specs.Parts.{paddingIn}
 use Rattle.report.specs.Block.{blockView}
-use Rattle.report.specs.Report.{extensionIn}
 use Rattle.report.specs.declared.report_block.ReportBlock.{ReportBlock}
-use Rattle.sdes_chunk.specs.Item.{part, itemView, itemValue}
+use Rattle.sdes_chunk.specs.Item.{itemView}
 use Rattle.sdes_chunk.specs.Chunk.{chunkView}
-use Rattle.sdes_chunk.specs.declared.item.SdesItem.{SdesItem}
+use Rattle.sdes_chunk.specs.Returned.{itemFrom}
 use Rattle.sdes_chunk.specs.declared.chunk.SdesChunk.{SdesChunk}
-use Rattle.bye.specs.Bye.{reasonIn, tailIn}
-use Rattle.app.specs.App.{nameIn, dataIn}
-use Rattle.compound.specs.Unknown.{bodyIn}
 use Rattle.compound.specs.Packet.{packetView}
 use Rattle.compound.specs.declared.packet.Packet.{Packet}
 use Rattle.compound.specs.declared.packet.Packet.the-variants as packet
@@ -54,12 +49,9 @@ blockAt k s i = mapOk blockFrom (mapOk blockView (readBlockAt k s i))
 
 -- ---- chunks and their items
 
--- an item at the start of s: its fields, its value and of PRIV its prefix
-abbrev pub rebuiltItem : List ℕ → SdesItem → Item
-rebuiltItem s i = pick (eqb (i .«type_») 8) (priv (part (readPrefix s)) (part (mapOk itemValue (readItem s)))) (item (i .«type_») (part (mapOk itemValue (readItem s))))
-
+-- an item from its numbers and the bytes at its places
 abbrev pub itemStepAt : List ℕ → ℕ → Answer Item
-itemStepAt s at = itemStep s at >>= λ (x : Item × ℕ). ok (rebuiltItem (drop at s) (itemView (x .0)))
+itemStepAt s at = itemStep s at >>= λ (x : Item × ℕ). ok (itemFrom s at (itemView (x .0)))
 
 -- step i of a walk opened on the chunk at the start of s
 abbrev pub itemAt : List ℕ → ℕ → Answer Item
@@ -81,16 +73,27 @@ abbrev pub leavingFrom : Bool → List ℕ → List ℕ → Leaving
 leavingFrom false r tail = no-reason
 leavingFrom true r tail = reason r tail
 
-abbrev pub packetFrom : Kind → List ℕ → Content → Read
-packetFrom k s c = record { content = c; padding = paddingIn (readAs k s) }
+abbrev pub packetFrom : Content → List ℕ → Read
+packetFrom c padding = record { content = c; padding = padding }
 
 abbrev pub rebuilt : List ℕ → Packet → Read
-rebuilt s (packet.Sr r) = packetFrom SR s (report (sender (r .ssrc) (r .«ntp_timestamp») (r .«rtp_timestamp») (r .«packet_count») (r .«octet_count»)) (listed (r .«n_reports») (blockAt SR s)) (extensionIn (readAs SR s)))
-rebuilt s (packet.Rr r) = packetFrom RR s (report (receiver (r .ssrc)) (listed (r .«n_reports») (blockAt RR s)) (extensionIn (readAs RR s)))
-rebuilt s (packet.Sdes d) = packetFrom SDES s (sdes (listed (d .«n_chunks») (chunkAt s)))
-rebuilt s (packet.Bye b) = packetFrom BYE s (bye (listed (b .«n_sources») (readSourceAt s)) (leavingFrom (b .«has_reason») (reasonIn (readAs BYE s)) (tailIn (readAs BYE s))))
-rebuilt s (packet.App a) = packetFrom APP s (app (a .subtype) (a .ssrc) (nameIn (readAs APP s)) (dataIn (readAs APP s)))
-rebuilt s (packet.Unknown u) = packetFrom UNKNOWN s (unknown (u .«packet_type») (u .count) (bodyIn (readAs UNKNOWN s)))
+rebuilt s (packet.Sr r) =
+    packetFrom (report (sender (r .ssrc) (r .«ntp_timestamp») (r .«rtp_timestamp») (r .«packet_count») (r .«octet_count»)) (listed (r .«n_reports») (blockAt SR s)) (take (r .body - r .extension) (drop (r .extension) s)))
+    (take (r .«padding_len») (drop (r .body) s))
+rebuilt s (packet.Rr r) =
+    packetFrom (report (receiver (r .ssrc)) (listed (r .«n_reports») (blockAt RR s)) (take (r .body - r .extension) (drop (r .extension) s))) (take (r .«padding_len») (drop (r .body) s))
+rebuilt s (packet.Sdes d) = packetFrom (sdes (listed (d .«n_chunks») (chunkAt s))) (paddingIn (readAs SDES s))
+rebuilt s (packet.Bye b) =
+    record {
+      content = bye (listed (b .«n_sources») (readSourceAt s)) (leavingFrom (b .«has_reason») (take (b .«reason_len») (drop (b .reason) s)) (take (b .body - (b .reason + b .«reason_len»)) (drop (b .reason + b .«reason_len») s)));
+      padding = take (b .«padding_len») (drop (b .body) s);
+    }
+rebuilt s (packet.App a) =
+    record {
+      content = app (a .subtype) (a .ssrc) (take 4 (drop 8 s)) (take (a .body - 12) (drop 12 s));
+      padding = take (a .«padding_len») (drop (a .body) s);
+    }
+rebuilt s (packet.Unknown u) = packetFrom (unknown (u .«packet_type») (u .count) (take (u .body - 4) (drop 4 s))) (take (u .«padding_len») (drop (u .body) s))
 
 -- ---- a walk over a datagram: the packet stands from the walk's place to its next place
 

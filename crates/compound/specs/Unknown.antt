@@ -5,7 +5,6 @@ use lib.ListN.{length}
 use Rattle.rfc3550.specs.Answer.{Answer, ok, refused}
 use Rattle.rfc3550.specs.Packet.{Content, report, sdes, bye, app, unknown, Packet, type, lowBits}
 use Rattle.utils.specs.Error.{parseRefusal}
-use Rattle.utils.specs.Parts.{partIn}
 use Rattle.compound.specs.declared.unknown.Unknown.{Unknown}
 use Rattle.compound.specs.declared.unknown.ParsedUnknown.{ParsedUnknown}
 use Rattle.compound.specs.declared.unknown.ParsedUnknown.the-variants as parsed
@@ -28,8 +27,9 @@ unknownView p =
       «packet_type» = type (p .content);
       count = lowBits (p .content);
       body = 4 + length (bodyOf (p .content));
-      padding = length (p .padding);
+      «padding_len» = length (p .padding);
     }
 
-abbrev pub bodyIn : Answer Packet → List ℕ
-bodyIn a = partIn (λ p. bodyOf (p .content)) a
+-- what stands for a packet that is refused
+abbrev pub noUnknown : Unknown
+noUnknown = record { «packet_type» = 0; count = 0; body = 0; «padding_len» = 0 }

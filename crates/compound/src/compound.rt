@@ -1,5 +1,4 @@
 // A datagram: packets laid end to end, a report first, a CNAME in some SDES chunk, padding in the last packet only.
-use super::packet::CheckedKind;
 use super::packet::Packet;
 use super::packet::ParsedPacket;
 use report::receiver::ReceiverReport;
@@ -7,7 +6,6 @@ use report::sender::SenderReport;
 use utils::error::RtcpParseError;
 use utils::list::Listed;
 ghost use mathlib.Core.Path.{_≡_};
-ghost use mathlib.Core.Bool.{_||_};
 ghost use mathlib.Core.List.{[], _∷_};
 ghost use Prim.Native.Nat.{_+_, _*_, _≤_};
 ghost use lib.ListN.{length, drop};
@@ -17,27 +15,10 @@ ghost use Rattle.rfc3550.specs.Packet.{hasCname};
 ghost use Rattle.rfc3550.specs.Read.{typeIn, stated};
 ghost use Rattle.rfc3550.specs.Compound.{readPacket, readCompound};
 ghost use Rattle.rfc3550.specs.Walk.{openWalk, step};
-ghost use Rattle.utils.specs.Error.{parseRefusal, refusalIn};
+ghost use Rattle.utils.specs.Error.{parseRefusal, refusalIn, orZero};
 ghost use Rattle.utils.specs.List.{listedOf, layList};
-ghost use Rattle.compound.specs.Compound.{frame, paddingLast, reportFirst, spanOf, readOf, passedOf, spanned, parsedCompoundOf, compoundView, packetRows, walkAt, openedOf, steppedOf, stepView};
+ghost use Rattle.compound.specs.Compound.{frame, paddingLast, reportFirst, readOf, checkedOf, withLength, parsedCompoundOf, compoundView, packetRows, walkAt, openedOf, steppedOf, stepView};
 ghost use Rattle.compound.specs.Packet.{packetView};
-
-// The length of the packet at the start of the bytes left.
-enum Span {
-    Bytes(usize),
-    Refused(RtcpParseError),
-}
-
-impl Span {
-    fn refusal(self) -> RtcpParseError
-        ensures { λ r. ⌜ parseRefusal r ≡ refusalIn (spanOf self) ⌝ }
-    {
-        match self {
-            Span::Bytes(_) => RtcpParseError::NothingLeft,
-            Span::Refused(e) => e,
-        }
-    }
-}
 
 // The packet at the start of the bytes left, and its length.
 enum ReadPacket {
@@ -52,23 +33,6 @@ impl ReadPacket {
         match self {
             ReadPacket::Packet(_, _) => RtcpParseError::NothingLeft,
             ReadPacket::Refused(e) => e,
-        }
-    }
-}
-
-// Whether the packet at the start of the bytes left has a CNAME, and its length.
-enum Passed {
-    Packet(bool, usize),
-    Refused(RtcpParseError),
-}
-
-impl Passed {
-    fn refusal(self) -> RtcpParseError
-        ensures { λ r. ⌜ parseRefusal r ≡ refusalIn (passedOf self) ⌝ }
-    {
-        match self {
-            Passed::Packet(_, _) => RtcpParseError::NothingLeft,
-            Passed::Refused(e) => e,
         }
     }
 }
@@ -97,70 +61,103 @@ fn report_first(first: bool, packet_type: u8) -> bool
     packet_type == ReceiverReport::PACKET_TYPE
 }
 
-// The steps of a packet's frame: it gives the packet's length.
-fn check_frame(rest: &[u8], first: bool) -> Span
-    ensures { λ r. ⌜ spanOf r ≡ frame first (now (rest .entry)) ⌝ }
+// The packet's length by the steps of its frame; 0 where one refuses.
+fn frame_len(rest: &[u8], first: bool) -> usize
+    ensures { λ r. ⌜ r ≡ orZero (frame first (now (rest .entry))) ⌝ }
 {
     if rest.len() < 4 {
-        return Span::Refused(RtcpParseError::Truncated {
-            expected: 4,
-            actual: rest.len(),
-        });
+        return 0;
     }
-    let version = utils::parser::parse_version(rest);
-    if version != 2 {
-        return Span::Refused(RtcpParseError::UnsupportedVersion(version));
+    if utils::parser::parse_version(rest) != 2 {
+        return 0;
     }
     let stated = utils::parser::parse_length(rest);
     if rest.len() < stated {
-        return Span::Refused(RtcpParseError::Truncated {
-            expected: stated,
-            actual: rest.len(),
-        });
+        return 0;
     }
     if !padding_last(rest, stated) {
-        return Span::Refused(RtcpParseError::NonLastCompoundPacketPadding);
+        return 0;
+    }
+    if !report_first(first, utils::parser::parse_packet_type(rest)) {
+        return 0;
+    }
+    stated
+}
+
+// Why it is 0; NothingLeft where it is not.
+fn why_frame(rest: &[u8], first: bool) -> RtcpParseError
+    ensures { λ r. ⌜ parseRefusal r ≡ refusalIn (frame first (now (rest .entry))) ⌝ }
+{
+    if rest.len() < 4 {
+        return RtcpParseError::Truncated {
+            expected: 4,
+            actual: rest.len(),
+        };
+    }
+    let version = utils::parser::parse_version(rest);
+    if version != 2 {
+        return RtcpParseError::UnsupportedVersion(version);
+    }
+    let stated = utils::parser::parse_length(rest);
+    if rest.len() < stated {
+        return RtcpParseError::Truncated {
+            expected: stated,
+            actual: rest.len(),
+        };
+    }
+    if !padding_last(rest, stated) {
+        return RtcpParseError::NonLastCompoundPacketPadding;
     }
     let packet_type = utils::parser::parse_packet_type(rest);
     if !report_first(first, packet_type) {
-        return Span::Refused(RtcpParseError::FirstPacketNoReport(packet_type));
+        return RtcpParseError::FirstPacketNoReport(packet_type);
     }
-    Span::Bytes(stated)
+    RtcpParseError::NothingLeft
 }
 
 fn read_packet(rest: &[u8], first: bool) -> ReadPacket
-    ensures { λ r. ⌜ readOf r ≡ mapOk (spanned packetView (now (rest .entry))) (readPacket first (now (rest .entry))) ⌝ }
+    ensures { λ r. ⌜ readOf r ≡ mapOk (withLength packetView (now (rest .entry))) (readPacket first (now (rest .entry))) ⌝ }
 {
-    let framed = check_frame(rest, first);
-    let Span::Bytes(len) = framed else {
-        return ReadPacket::Refused(framed.refusal());
-    };
-    let parsed = Packet::parse_unchecked(&rest[..len]);
+    let len = frame_len(rest, first);
+    if len == 0 {
+        return ReadPacket::Refused(why_frame(&rest[0..], first));
+    }
+    let parsed = Packet::parse(&rest[..len]);
     let ParsedPacket::Packet(packet) = parsed else {
         return ReadPacket::Refused(parsed.refusal());
     };
     ReadPacket::Packet(packet, len)
 }
 
-// The same steps, and no packet made of them: the check of a datagram takes fewer instructions so.
-fn check_packet(rest: &[u8], first: bool) -> Passed
-    ensures { λ r. ⌜ passedOf r ≡ mapOk (spanned hasCname (now (rest .entry))) (readPacket first (now (rest .entry))) ⌝ }
-{
-    let framed = check_frame(rest, first);
-    let Span::Bytes(len) = framed else {
-        return Passed::Refused(framed.refusal());
-    };
-    let checked = Packet::check_unchecked(&rest[..len]);
-    let CheckedKind::HasCname(has_cname) = checked else {
-        return Passed::Refused(checked.refusal());
-    };
-    Passed::Packet(has_cname, len)
+// Whether the packet at the start of the bytes left has a CNAME, and its length.
+enum CheckedPacket {
+    Packet(bool, usize),
+    Refused(RtcpParseError),
 }
 
-fn or_cname(has_cname: bool, cname: bool) -> bool
-    ensures { λ r. ⌜ r ≡ («has_cname» || cname) ⌝ }
+impl CheckedPacket {
+    fn refusal(self) -> RtcpParseError
+        ensures { λ r. ⌜ parseRefusal r ≡ refusalIn (checkedOf self) ⌝ }
+    {
+        match self {
+            CheckedPacket::Packet(_, _) => RtcpParseError::NothingLeft,
+            CheckedPacket::Refused(e) => e,
+        }
+    }
+}
+
+fn check_packet(rest: &[u8], first: bool) -> CheckedPacket
+    ensures { λ r. ⌜ checkedOf r ≡ mapOk (withLength hasCname (now (rest .entry))) (readPacket first (now (rest .entry))) ⌝ }
 {
-    if has_cname { true } else { cname }
+    let len = frame_len(rest, first);
+    if len == 0 {
+        return CheckedPacket::Refused(why_frame(&rest[0..], first));
+    }
+    let verdict = Packet::verdict(&rest[..len]);
+    if verdict == 0 {
+        return CheckedPacket::Refused(Packet::parse(&rest[..len]).refusal());
+    }
+    CheckedPacket::Packet(verdict == 2, len)
 }
 
 // An accepted datagram: the number of its packets.
@@ -186,6 +183,9 @@ impl ParsedCompound {
 }
 
 impl Compound {
+    // How many numbers of a lent list one packet takes.
+    pub const PACKET_ROW: usize = 3;
+
     pub fn parse(s: &[u8]) -> ParsedCompound
         ensures { λ r. ⌜ parsedCompoundOf r ≡ mapOk compoundView (readCompound (now (s .entry))) ⌝ }
     {
@@ -201,10 +201,10 @@ impl Compound {
         while at < s.len() {
             let rest = &s[at..];
             let answer = check_packet(rest, at == 0);
-            let Passed::Packet(cname, len) = answer else {
+            let CheckedPacket::Packet(cname, len) = answer else {
                 return ParsedCompound::Refused(answer.refusal());
             };
-            has_cname = or_cname(has_cname, cname);
+            has_cname = utils::parser::either(has_cname, cname);
             at = at + len;
             n_packets = n_packets + 1;
         }
@@ -222,7 +222,7 @@ impl Compound {
         let ParsedCompound::Compound(compound) = parsed else {
             return Listed::Refused(parsed.refusal());
         };
-        let len = compound.n_packets * 3;
+        let len = compound.n_packets * Compound::PACKET_ROW;
         if packets.len() < len {
             return Listed::TooShort(len);
         }
@@ -254,7 +254,7 @@ fn list_all_unchecked(s: &[u8], compound: Compound, list: &mut [u64])
     let mut at: usize = 0;
     let mut i: usize = 0;
     while i < n {
-        at = at + list_packet_unchecked(s, at, list, i * 3);
+        at = at + list_packet_unchecked(s, at, list, i * Compound::PACKET_ROW);
         i += 1;
     }
 }

@@ -1,4 +1,6 @@
-// A packet of any kind, by its type.
+// A packet of any kind.
+use super::kind::Kind;
+use super::kind::kind_of;
 use super::unknown::ParsedUnknown;
 use super::unknown::Unknown;
 use app::App;
@@ -7,27 +9,22 @@ use bye::Bye;
 use bye::ParsedBye;
 use report::receiver::ParsedReceiverReport;
 use report::receiver::ReceiverReport;
-use report::report_block::ReportBlock;
 use report::sender::ParsedSenderReport;
 use report::sender::SenderReport;
 use sdes::sdes::ParsedSdes;
-use sdes::sdes::ScannedChunks;
 use sdes::sdes::Sdes;
 use utils::error::RtcpParseError;
 ghost use mathlib.Core.Path.{_≡_};
-ghost use Prim.Native.Nat.{_≤_};
-ghost use lib.ListN.{length};
-ghost use Rattle.rfc3550.specs.Answer.{mapOk};
-ghost use Rattle.rfc3550.specs.Packet.{hasCname};
-ghost use Rattle.rfc3550.specs.Read.{SR, RR, SDES, BYE, APP, UNKNOWN, kindOf, typeIn, lowIn, readAs};
-ghost use Rattle.utils.specs.Error.{parseRefusal, refusalIn};
+ghost use lib.Dec.{eqb};
+ghost use Rattle.rfc3550.specs.Answer.{mapOk, pick};
+ghost use Rattle.rfc3550.specs.Read.{kindOf, typeIn, lowIn, readAs};
+ghost use Rattle.utils.specs.Error.{parseRefusal, refusalIn, valueOr};
 ghost use Rattle.report.specs.Report.{senderOf, receiverOf};
 ghost use Rattle.sdes.specs.Sdes.{parsedSdesOf};
 ghost use Rattle.bye.specs.Bye.{parsedOf as byeOf};
 ghost use Rattle.app.specs.App.{parsedOf as appOf};
 ghost use Rattle.compound.specs.Unknown.{parsedUnknownOf};
-ghost use Rattle.compound.specs.Plain.{Told, Headed, PlainReport, PlainSdes};
-ghost use Rattle.compound.specs.Packet.{packetView, parsedOf, checkedOf, srPacket, rrPacket, sdesPacket, byePacket, appPacket, unknownPacket, named};
+ghost use Rattle.compound.specs.Packet.{packetView, parsedOf, verdictOf, verdict, srPacket, rrPacket, sdesPacket, byePacket, appPacket, unknownPacket};
 
 pub enum Packet {
     Sr(SenderReport),
@@ -51,24 +48,6 @@ impl ParsedPacket {
         match self {
             ParsedPacket::Packet(_) => RtcpParseError::NothingLeft,
             ParsedPacket::Refused(e) => e,
-        }
-    }
-}
-
-// Whether a packet has a CNAME, or why it is refused: all that the check of a datagram asks of it.
-pub enum CheckedKind {
-    HasCname(bool),
-    Refused(RtcpParseError),
-}
-
-impl CheckedKind {
-    // Why it is refused; NothingLeft where it is not.
-    pub fn refusal(self) -> RtcpParseError
-        ensures { λ r. ⌜ parseRefusal r ≡ refusalIn (checkedOf self) ⌝ }
-    {
-        match self {
-            CheckedKind::HasCname(_) => RtcpParseError::NothingLeft,
-            CheckedKind::Refused(e) => e,
         }
     }
 }
@@ -127,176 +106,54 @@ fn of_unknown(p: ParsedUnknown) -> ParsedPacket
     }
 }
 
-// A header of this type that is accepted, with no padding.
-fn plain_header(s: &[u8], packet_type: u8) -> bool
-    ensures { λ r. ⌜ Told r (Headed (now (s .entry)) «packet_type») ⌝ }
+// 0 where the body is, for a packet that is refused; else 1, or 2 where it has a CNAME.
+fn verdict_of(body: usize, has_cname: bool) -> usize
+    ensures { λ r. ⌜ r ≡ pick (eqb body 0) 0 (verdictOf «has_cname») ⌝ }
 {
-    if s.len() < 4 {
-        return false;
+    if body == 0 {
+        return 0;
     }
-    if s[0] / 32 != 4 {
-        return false;
-    }
-    if utils::parser::parse_packet_type(s) != packet_type {
-        return false;
-    }
-    utils::parser::parse_length(s) == s.len()
-}
-
-// A report that is accepted, with no padding.
-fn plain_report(s: &[u8], min_packet_len: usize, packet_type: u8) -> bool
-    requires { ⌜ «min_packet_len» ≤ 28 ⌝ }
-    ensures { λ r. ⌜ Told r (PlainReport (now (s .entry)) «min_packet_len» «packet_type») ⌝ }
-{
-    if !plain_header(s, packet_type) {
-        return false;
-    }
-    let n_reports = utils::parser::parse_count(s) as usize;
-    min_packet_len + ReportBlock::EXPECTED_SIZE * n_reports <= s.len()
-}
-
-// The chunks of a source description that is accepted, with no padding.
-fn plain_sdes(s: &[u8]) -> ScannedChunks
-    ensures { λ r. ⌜ Told (r .accepted) (PlainSdes (now (s .entry)) (r .«has_cname»)) ⌝ }
-{
-    if !plain_header(s, Sdes::PACKET_TYPE) {
-        return ScannedChunks {
-            accepted: false,
-            has_cname: false,
-        };
-    }
-    let n_chunks = utils::parser::parse_count(s) as usize;
-    sdes::sdes::scan_chunks_unchecked(s, n_chunks)
-}
-
-fn check_sr(s: &[u8]) -> CheckedKind
-    ensures { λ r. ⌜ checkedOf r ≡ mapOk hasCname (readAs SR (now (s .entry))) ⌝ }
-{
-    if plain_report(s, SenderReport::MIN_PACKET_LEN, SenderReport::PACKET_TYPE) {
-        return CheckedKind::HasCname(false);
-    }
-    match SenderReport::parse(s) {
-        ParsedSenderReport::Report(_) => CheckedKind::HasCname(false),
-        ParsedSenderReport::Refused(e) => CheckedKind::Refused(e),
-    }
-}
-
-fn check_rr(s: &[u8]) -> CheckedKind
-    ensures { λ r. ⌜ checkedOf r ≡ mapOk hasCname (readAs RR (now (s .entry))) ⌝ }
-{
-    if plain_report(
-        s,
-        ReceiverReport::MIN_PACKET_LEN,
-        ReceiverReport::PACKET_TYPE,
-    ) {
-        return CheckedKind::HasCname(false);
-    }
-    match ReceiverReport::parse(s) {
-        ParsedReceiverReport::Report(_) => CheckedKind::HasCname(false),
-        ParsedReceiverReport::Refused(e) => CheckedKind::Refused(e),
-    }
-}
-
-fn check_sdes(s: &[u8]) -> CheckedKind
-    ensures { λ r. ⌜ checkedOf r ≡ mapOk hasCname (readAs SDES (now (s .entry))) ⌝ }
-{
-    let scanned = plain_sdes(s);
-    if scanned.accepted {
-        return CheckedKind::HasCname(scanned.has_cname);
-    }
-    match Sdes::parse(s) {
-        ParsedSdes::Sdes(sdes) => CheckedKind::HasCname(sdes.has_cname),
-        ParsedSdes::Refused(e) => CheckedKind::Refused(e),
-    }
-}
-
-fn check_bye(s: &[u8]) -> CheckedKind
-    ensures { λ r. ⌜ checkedOf r ≡ mapOk hasCname (readAs BYE (now (s .entry))) ⌝ }
-{
-    match Bye::parse(s) {
-        ParsedBye::Bye(_) => CheckedKind::HasCname(false),
-        ParsedBye::Refused(e) => CheckedKind::Refused(e),
-    }
-}
-
-fn check_app(s: &[u8]) -> CheckedKind
-    ensures { λ r. ⌜ checkedOf r ≡ mapOk hasCname (readAs APP (now (s .entry))) ⌝ }
-{
-    match App::parse(s) {
-        ParsedApp::App(_) => CheckedKind::HasCname(false),
-        ParsedApp::Refused(e) => CheckedKind::Refused(e),
-    }
-}
-
-fn check_unknown(s: &[u8]) -> CheckedKind
-    ensures { λ r. ⌜ checkedOf r ≡ mapOk hasCname (readAs UNKNOWN (now (s .entry))) ⌝ }
-{
-    match Unknown::parse(s) {
-        ParsedUnknown::Unknown(_) => CheckedKind::HasCname(false),
-        ParsedUnknown::Refused(e) => CheckedKind::Refused(e),
-    }
+    if has_cname { 2 } else { 1 }
 }
 
 impl Packet {
     // The packet that the bytes are, from the first to the last.
-    pub fn parse_unchecked(s: &[u8]) -> ParsedPacket
-        requires { ⌜ 4 ≤ length (now s) ⌝ }
+    pub fn parse(s: &[u8]) -> ParsedPacket
         ensures { λ r. ⌜ parsedOf r ≡ mapOk packetView (readAs (kindOf (typeIn (now (s .entry))) (lowIn (now (s .entry)))) (now (s .entry))) ⌝ }
     {
-        let packet_type = utils::parser::parse_packet_type(s);
-        if packet_type == SenderReport::PACKET_TYPE {
-            return of_sr(SenderReport::parse(s));
+        match kind_of(s) {
+            Kind::Sr => of_sr(SenderReport::parse(s)),
+            Kind::Rr => of_rr(ReceiverReport::parse(s)),
+            Kind::Sdes => of_sdes(Sdes::parse(s)),
+            Kind::Bye => of_bye(Bye::parse(s)),
+            Kind::App => of_app(App::parse(s)),
+            Kind::Unknown => of_unknown(Unknown::parse(s)),
         }
-        if packet_type == ReceiverReport::PACKET_TYPE {
-            return of_rr(ReceiverReport::parse(s));
-        }
-        if packet_type == Sdes::PACKET_TYPE {
-            return of_sdes(Sdes::parse(s));
-        }
-        if packet_type == Bye::PACKET_TYPE {
-            return of_bye(Bye::parse(s));
-        }
-        if packet_type == App::PACKET_TYPE {
-            return of_app(App::parse(s));
-        }
-        of_unknown(Unknown::parse(s))
     }
 
-    // The same steps, where only the refusal and the CNAME are asked for.
-    pub fn check_unchecked(s: &[u8]) -> CheckedKind
-        requires { ⌜ 4 ≤ length (now s) ⌝ }
-        ensures { λ r. ⌜ checkedOf r ≡ mapOk hasCname (readAs (kindOf (typeIn (now (s .entry))) (lowIn (now (s .entry)))) (now (s .entry))) ⌝ }
+    // 0 where the packet is refused, 1 where it is accepted, 2 where it is and has a CNAME.
+    pub fn verdict(s: &[u8]) -> usize
+        ensures { λ r. ⌜ r ≡ valueOr 0 verdict (readAs (kindOf (typeIn (now (s .entry))) (lowIn (now (s .entry)))) (now (s .entry))) ⌝ }
     {
-        let packet_type = utils::parser::parse_packet_type(s);
-        if packet_type == SenderReport::PACKET_TYPE {
-            return check_sr(s);
-        }
-        if packet_type == ReceiverReport::PACKET_TYPE {
-            return check_rr(s);
-        }
-        if packet_type == Sdes::PACKET_TYPE {
-            return check_sdes(s);
-        }
-        if packet_type == Bye::PACKET_TYPE {
-            return check_bye(s);
-        }
-        if packet_type == App::PACKET_TYPE {
-            return check_app(s);
-        }
-        check_unknown(s)
-    }
-
-    // Whether some chunk of it has a CNAME.
-    pub fn has_cname(self) -> bool
-        ensures { λ r. ⌜ r ≡ named self ⌝ }
-    {
-        match self {
-            Packet::Sr(_) => false,
-            Packet::Rr(_) => false,
-            Packet::Sdes(s) => s.has_cname,
-            Packet::Bye(_) => false,
-            Packet::App(_) => false,
-            Packet::Unknown(_) => false,
+        match kind_of(s) {
+            Kind::Sr => verdict_of(SenderReport::body_of(s), false),
+            Kind::Rr => verdict_of(ReceiverReport::body_of(s), false),
+            Kind::Sdes => {
+                let sdes = Sdes::read(s);
+                verdict_of(sdes.body, sdes.has_cname)
+            }
+            Kind::Bye => {
+                let bye = Bye::read(s);
+                verdict_of(bye.body, false)
+            }
+            Kind::App => {
+                let app = App::read(s);
+                verdict_of(app.body, false)
+            }
+            Kind::Unknown => {
+                let unknown = Unknown::read(s);
+                verdict_of(unknown.body, false)
+            }
         }
     }
 }

@@ -1,3 +1,3 @@
 pub mod Names
 pub mod Writers
-pub mod OneBuffer
+pub mod Returned

@@ -2,36 +2,37 @@
 use borrow.Author.Needs.{needs}
 use Prim.Native.Nat.{ℕ, _+_, _-_, _^_, _<_, _≤_}
 use mathlib.Core.Path.{_≡_, refl, sym, ap, _∙_}
-use mathlib.Core.Bool.{Bool, true, false, _||_, not}
+use mathlib.Core.Bool.{Bool, true, false, _&&_, _||_, not}
 use mathlib.Core.List.{List, [], _++_}
 use native.Mathlib.Omega.{arith}
-use borrow.Author.Tests.{le-leb, lt-leb, leb-true, not-true, not-false}
+use borrow.Author.Tests.{le-leb, lt-leb, leb-true, leb-false, lt-ltb, le-ltb, ltb-true, eq-eqb, ne-eqb, not-true, not-false}
 use lib.ListN.{length, take, drop, length-take, length-drop}
-use lib.Dec.{leb, ltb}
-use Rattle.rfc3550.specs.Answer.{Refusal, refusal, Answer, ok, refused, need, _>>_, _>>=_, mapOk, capped}
+use lib.Dec.{leb, ltb, eqb}
+use Rattle.rfc3550.specs.Answer.{Refusal, refusal, Answer, ok, refused, need, _>>_, capped, pick}
 use Rattle.rfc3550.specs.Bytes.{store}
-use Rattle.rfc3550.specs.Packet.{Block, Reporter, receiver, sender, type, layout, isReport}
-use Rattle.rfc3550.specs.Write.{Lists, Given, giveReport, giveSdes, packetGiven, contentGiven, paddingGiven, sizeGiven, listsAgree, tests, ownTests, calculateSize}
+use Rattle.rfc3550.specs.Packet.{Reporter, receiver, type, layout, isReport}
+use Rattle.rfc3550.specs.Write.{BlockLists, Given, giveReport, giveSdes, giveBye, giveApp, packetGiven, contentGiven, paddingGiven, sizeGiven, listsAgree, tests, ownTests, calculateSize}
 use Rattle.rfc3550.specs.Writer.{Writer, add, close, names, addTests, closeTests, shut, call}
-use Rattle.rfc3550.proofs.Answer.{need-inv, then-inv, bind-elim, ok-injective, refused-injective, refused≢ok}
-use Rattle.utils.specs.Error.{writeRefusal}
-use Rattle.utils.specs.Writer.{writtenOf}
-use Rattle.utils.specs.declared.error.RtcpWriteError.{RtcpWriteError}
-use Rattle.utils.specs.declared.writer.Written.{Written}
-use Rattle.utils.specs.declared.writer.Written.the-variants.{Size, Refused}
+use Rattle.rfc3550.proofs.Answer.{true≢false, and-inv, need-inv, refused-injective, refused≢ok}
+use Rattle.utils.specs.Error.{writeRefusal, orZero}
+use Rattle.utils.specs.Writer.{sizeRefusal}
 use Rattle.utils.proofs.WriterStores.{store-part}
+use Rattle.bye.proofs.Writes.{bye-fits}
+use Rattle.app.proofs.Writes.{app-fits}
+use Rattle.report_write.specs.Report.{senderOf, blockLists, SizeOf, WhyNone}
+use Rattle.report_write.specs.declared.sender.SenderInfo.{SenderInfo}
+use Rattle.report_write.proofs.Reports.{receiver-fits, sender-fits}
+use Rattle.sdes_write.specs.Packets.{lists}
+use Rattle.sdes_write.proofs.Packets.{size-fits}
+use Rattle.utils.proofs.Parts.{lent-again}
 use Rattle.utils.proofs.WriterPackets.{sized}
+use Rattle.utils.proofs.Sizes.{size-came}
+use Rattle.rfc3550.proofs.Packet.{length-layout}
 use Rattle.utils.proofs.Injective.{writeRefusal-injective}
-use Rattle.utils.proofs.WriterInjective.{writtenOf-injective}
-use Rattle.compound_write.specs.Writer.{writerOf, outcomeOf, fitted, admitted, moved, turnedDown, addBlocks}
+use Rattle.compound_write.specs.Writer.{writerOf, outcomeOf, admits, whyNot, moved}
 use Rattle.compound_write.specs.declared.writer.Writer as code
 use Rattle.compound_write.specs.declared.writer.Outcome.{Outcome}
 use Rattle.compound_write.specs.declared.writer.Outcome.the-variants as outcome
-use Rattle.bye_write.proofs.Byes.{bye-fits}
-use Rattle.app_write.proofs.Apps.{app-fits}
-use Rattle.report_write.specs.Report.{blocksLent, flatOk, flatBlocks, sizeBlocks}
-use Rattle.report_write.proofs.Reports.{flat-ok, flat-accepted, receiver-agree, receiver-fits, sender-agree, sender-fits}
-use Rattle.sdes_write.proofs.Packets.{sdes-fits}
 use Rattle.compound_write.specs.Names.{lentCname}
 use Rattle.compound_write.proofs.Names.{agreed, names-lent}
 
@@ -49,190 +50,187 @@ outcomeOf-injective outcome.Done (outcome.Refused e) h = absurd (refused≢ok (s
 outcomeOf-injective (outcome.Refused e) outcome.Done h = absurd (refused≢ok h)
 outcomeOf-injective (outcome.Refused e) (outcome.Refused f) h = ap outcome.Refused (writeRefusal-injective e f (refused-injective (writeRefusal e) (writeRefusal f) h))
 
--- ---- 10
+-- ---- 26, 29, 27, the packet's own order, 10: in numbers, and why
 
-module _ (len size n : ℕ) where
-  pub fitted-short : len < 2 ^ 64 → n < len → refused (refusal 10 len 0) ≡ fitted len size n
-  unfolding fitted need _>>_
-  fitted-short f h =
-      let c : capped len ≡ len = omega arith in
-      simp (lt-leb _ _ h, c)
+module _ (len t : ℕ) where
+  pub starts-behind : 0 < len → true ≡ (ltb 0 len || isReport t)
+  starts-behind h = simp (lt-ltb 0 len h)
 
-  pub fitted-over : (sum : ℕ) → len ≤ n → n - len < size → sum ≡ capped (len + size) → refused (refusal 10 sum 0) ≡ fitted len size n
-  unfolding fitted need _>>_
-  fitted-over sum f h e =
-      let g : n < len + size = omega arith in
-      simp (le-leb _ _ f, lt-leb _ _ g, e)
+  module _ (h : len ≤ 0) where
+    pub starts-sender : t ≡ 200 → true ≡ (ltb 0 len || isReport t)
+    starts-sender e = simp (le-ltb 0 len h, eq-eqb t 200 e)
 
-  pub fitted-size : len ≤ n → size ≤ n - len → ok size ≡ fitted len size n
-  unfolding fitted need _>>_
-  fitted-size f h =
-      let g : len + size ≤ n = omega arith in
-      simp (le-leb _ _ f, le-leb _ _ g)
+    pub starts-receiver : (t ≡ 200 → ⊥) → eqb t 201 ≡ (ltb 0 len || isReport t)
+    starts-receiver e = simp (le-ltb 0 len h, ne-eqb t 200 e)
 
--- ---- 26, 29, 27, the packet's own order, 10
+same-room : (len size n : ℕ) → len ≤ n → leb size (n - len) ≡ leb (len + size) n
+same-room len size n h = go (leb size (n - len)) refl
+  where
+    go : (b : Bool) → leb size (n - len) ≡ b → leb size (n - len) ≡ leb (len + size) n
+    go true e = let f = leb-true size (n - len) e in let g : len + size ≤ n = omega arith in e ∙ sym (le-leb _ _ g)
+    go false e = let f = leb-false size (n - len) e in let g : n < len + size = omega arith in e ∙ sym (lt-leb _ _ g)
 
-module _ (w : Writer) (report : Bool) (checked : Written) (n : ℕ) where
-  pub admit-closed : w .closed ≡ true → refused (refusal 26 0 0) ≡ admitted w report (writtenOf checked) n
-  unfolding admitted need _>>_
+module _ (w : Writer) (t size n : ℕ) where
+  pub admit-closed : w .closed ≡ true → false ≡ admits w t size n
   admit-closed e = simp e
 
-  module _ (open-still : w .closed ≡ false) where
-    pub admit-padded : w .padded ≡ true → refused (refusal 29 0 0) ≡ admitted w report (writtenOf checked) n
-    unfolding admitted need _>>_
-    admit-padded e = simp (open-still, e)
+  pub why-closed : (own : Refusal) → w .closed ≡ true → refusal 26 0 0 ≡ whyNot w t size own n
+  why-closed own e = simp e
 
-    module _ (unpadded : w .padded ≡ false) (t : Bool) (is : t ≡ (ltb 0 (w .len) || report)) where
-      pub admit-first : t ≡ false → refused (refusal 27 0 0) ≡ admitted w report (writtenOf checked) n
-      unfolding admitted need _>>_
-      admit-first e = simp (open-still, unpadded, ← is, e)
+  module _ (still : w .closed ≡ false) where
+    pub admit-padded : w .padded ≡ true → false ≡ admits w t size n
+    admit-padded e = simp (still, e)
 
-      module _ (reported : t ≡ true) where
-        pub admit-refused : (e : RtcpWriteError) → checked ≡ Refused e → writtenOf checked ≡ admitted w report (writtenOf checked) n
-        unfolding admitted need _>>_ _>>=_
-        admit-refused e q = simp (open-still, unpadded, ← is, reported, q)
+    pub why-padded : (own : Refusal) → w .padded ≡ true → refusal 29 0 0 ≡ whyNot w t size own n
+    why-padded own e = simp (still, e)
 
-        pub admit-fitted : (k : ℕ) (r : Written) → checked ≡ Size k → writtenOf r ≡ fitted (w .len) k n → writtenOf r ≡ admitted w report (writtenOf checked) n
-        unfolding admitted need _>>_ _>>=_
-        admit-fitted k r q e = e ∙ simp (open-still, unpadded, ← is, reported, q)
+    module _ (unpadded : w .padded ≡ false) (len : ℕ) (same : len ≡ w .len) (s : Bool) (is : s ≡ (ltb 0 len || isReport t)) where
+      is-starting : s ≡ (ltb 0 (w .len) || isReport t)
+      is-starting = rw (← same) is
+
+      pub admit-first : s ≡ false → false ≡ admits w t size n
+      admit-first e = simp (still, unpadded, ← is-starting, e)
+
+      pub why-first : (own : Refusal) → s ≡ false → refusal 27 0 0 ≡ whyNot w t size own n
+      why-first own e = simp (still, unpadded, ← is-starting, e)
+
+      module _ (starts : s ≡ true) where
+        pub admit-none : size ≡ 0 → false ≡ admits w t size n
+        admit-none z = simp (still, unpadded, ← is-starting, starts, z)
+
+        pub why-own : (own : Refusal) → size ≡ 0 → own ≡ whyNot w t size own n
+        why-own own z = simp (still, unpadded, ← is-starting, starts, z)
+
+        module _ (some : size ≡ 0 → ⊥) where
+          pub admit-short : n < len → false ≡ admits w t size n
+          admit-short h =
+              let a : ltb 0 size ≡ true = lt-ltb 0 size (omega arith) in
+              let b : n < w .len + size = omega arith in
+              simp (still, unpadded, ← is-starting, starts, a, lt-leb _ _ b)
+
+          pub why-short : (own : Refusal) → len < 2 ^ 64 → n < len → refusal 10 len 0 ≡ whyNot w t size own n
+          why-short own f h =
+              let c : capped (w .len) ≡ len = omega arith in
+              let g : n < w .len = omega arith in
+              simp (still, unpadded, ← is-starting, starts, ne-eqb _ _ some, lt-ltb _ _ g, c)
+
+          pub admit-fits : len ≤ n → leb size (n - len) ≡ admits w t size n
+          admit-fits h =
+              let a : ltb 0 size ≡ true = lt-ltb 0 size (omega arith) in
+              simp (still, unpadded, ← is-starting, starts, a) (same-room len size n h ∙ rw same)
+
+          pub why-over : (own : Refusal) (sum : ℕ) → len ≤ n → sum ≡ capped (len + size) → refusal 10 sum 0 ≡ whyNot w t size own n
+          why-over own sum h e =
+              let g : w .len ≤ n = omega arith in
+              simp (still, unpadded, ← is-starting, starts, ne-eqb _ _ some, le-ltb _ _ g, e, same)
+
+-- ---- the definition's tests are those
+
+module _ (len size k n : ℕ) (own : Refusal) (p : 0 < k) where
+  room-refused : (x y : Bool) → leb len n ≡ x → leb (len + k) n ≡ y → (ltb 0 k && leb (len + k) n) ≡ false
+      → (need (leb len n) 10 (capped len) 0 >> need (leb (len + k) n) 10 (capped (len + k)) 0)
+      ≡ refused (pick (eqb k 0) own (pick (ltb n len) (refusal 10 (capped len) 0) (refusal 10 (capped (len + k)) 0)))
+  unfolding need _>>_
+  room-refused false y e f h = simp (e, ne-eqb k 0 (λ z. omega arith), lt-ltb n len (leb-false _ _ e))
+  room-refused true false e f h = simp (e, f, ne-eqb k 0 (λ z. omega arith), le-ltb n len (leb-true _ _ e))
+  room-refused true true e f h = absurd (true≢false (sym (simp (lt-ltb 0 k p, f)) ∙ h))
+
+  -- the tests of an add over the packet's own, which give a size of k bytes or a refusal
+  tested : (a b c : Bool) (m : Answer (Unit {0})) → size ≡ orZero (m >> ok k) → own ≡ sizeRefusal (m >> ok k) → (not a && (not b && (c && (ltb 0 size && leb (len + size) n)))) ≡ false
+      → (need (not a) 26 0 0 >> (need (not b) 29 0 0 >> (need c 27 0 0 >> (m >> (need (leb len n) 10 (capped len) 0 >> need (leb (len + k) n) 10 (capped (len + k)) 0)))))
+      ≡ refused (pick a (refusal 26 0 0) (pick b (refusal 29 0 0) (pick (not c) (refusal 27 0 0) (pick (eqb size 0) own (pick (ltb n len) (refusal 10 (capped len) 0) (refusal 10 (capped (len + size)) 0))))))
+  unfolding need _>>_
+  tested true b c m e f h = refl
+  tested false true c m e f h = refl
+  tested false false false m e f h = refl
+  tested false false true (refused r) e f h = rw e (ap refused (sym f))
+  tested false false true (ok u) e f h = rw e (room-refused (leb len n) (leb (len + k) n) refl refl (rw e at h))
+
+  passed : (a b c : Bool) (m : Answer (Unit {0})) → size ≡ orZero (m >> ok k) → (not a && (not b && (c && (ltb 0 size && leb (len + size) n)))) ≡ true
+      → ((need (not a) 26 0 0 >> (need (not b) 29 0 0 >> (need c 27 0 0 >> (m >> (need (leb len n) 10 (capped len) 0 >> need (leb (len + k) n) 10 (capped (len + k)) 0))))) ≡ ok tt) × (m ≡ ok tt)
+  unfolding need _>>_
+  passed true b c m e h = absurd (true≢false (sym h))
+  passed false true c m e h = absurd (true≢false (sym h))
+  passed false false false m e h = absurd (true≢false (sym h))
+  passed false false true (refused r) e h = absurd (true≢false (sym h ∙ rw e))
+  passed false false true (ok u) e h =
+      let f : leb (len + k) n ≡ true = and-inv (ltb 0 k) (leb (len + k) n) (rw e at h) .1 in
+      let i : len + k ≤ n = leb-true (len + k) n f in
+      let g : leb len n ≡ true = le-leb len n (omega arith) in
+      (simp (f, g), refl)
+
+-- what an add that is admitted leaves known
+module _ (w : Writer) (t size n : ℕ) (b : Bool) (told : b ≡ admits w t size n) (goes : b ≡ true) where
+  room-known : (ltb 0 size ≡ true) × (leb (w .len + size) n ≡ true)
+  room-known =
+      let x : Bool = ltb 0 (w .len) || isReport t in
+      let y : Bool = ltb 0 size && leb (w .len + size) n in
+      let a = and-inv (not (w .closed)) (not (w .padded) && (x && y)) (sym told ∙ goes) in
+      let c = and-inv (not (w .padded)) (x && y) (a .1) in
+      and-inv (ltb 0 size) (leb (w .len + size) n) (and-inv x y (c .1) .1)
+
+  pub admitted-open : (w .closed ≡ false) × (w .padded ≡ false)
+  admitted-open =
+      let x : Bool = (ltb 0 (w .len) || isReport t) && (ltb 0 size && leb (w .len + size) n) in
+      let a = and-inv (not (w .closed)) (not (w .padded) && x) (sym told ∙ goes) in
+      (not-true (w .closed) (a .0), not-true (w .padded) (and-inv (not (w .padded)) x (a .1) .0))
+
+  pub admitted-room : w .len + size ≤ n
+  admitted-room = leb-true (w .len + size) n (room-known .1)
+
+  pub admitted-some : size ≡ 0 → ⊥
+  admitted-some z = let f : 0 < size = ltb-true 0 size (room-known .0) in omega arith
+
+  pub admitted-starts : (at : ℕ) → at ≡ w .len → at ≤ n
+  admitted-starts at e = let h = admitted-room in omega arith
+
+  pub admitted-sum : (at : ℕ) → at ≡ w .len → n < 2 ^ 64 → at + size < 2 ^ 64
+  admitted-sum at e f = let h = admitted-room in omega arith
+
+pub admitted-part : (w : Writer) (t size : ℕ) (l : List ℕ) (b : Bool) (at : ℕ) → b ≡ admits w t size (length l) → b ≡ true → at ≡ w .len → size ≤ length (take (length l - at) (drop at l))
+admitted-part w t size l b at told goes e =
+    let h = admitted-room w t size (length l) b told goes in
+    simp (length-take, length-drop) (omega arith)
 
 -- ---- an add, over the packet given
 
-abbrev pub unit : ℕ → Unit {0}
-unit k = tt
+module _ (g : Given) (w : Writer) (l : List ℕ) (t size : ℕ) (b : Bool) (known : type (contentGiven g) ≡ t) (is : size ≡ orZero (calculateSize g)) (told : b ≡ admits w t size (length l)) where
+  some-bytes : 0 < sizeGiven g
+  some-bytes = rw (length-layout (packetGiven g)) (omega arith)
 
-room-tests : (x y : Bool) (d e k : ℕ) → (need x 10 d 0 >> need y 10 e 0) ≡ mapOk unit (need x 10 d 0 >> (need y 10 e 0 >> ok k))
-unfolding need _>>_ mapOk
-room-tests false y d e k = refl
-room-tests true false d e k = refl
-room-tests true true d e k = refl
+  -- g₁ is the same given, of lists that were lent again
+  pub add-refused : (g₁ : Given) (own e : Refusal) (o : Answer (Unit {0})) (w₁ : Writer) → b ≡ false → own ≡ sizeRefusal (calculateSize g₁) → g₁ ≡ g
+      → e ≡ whyNot w t size own (length l) → _≡_ {A = Answer (Unit {0}) × Writer} (o, w₁) (refused e, w) → (o, w₁, l) ≡ call (add g) w l
+  unfolding call addTests calculateSize
+  add-refused g₁ own e o w₁ stops why same q h =
+      let z : addTests w g (length l) ≡ refused e =
+      rw (q, known) (tested (w .len) size (sizeGiven g) (length l) own some-bytes (w .closed) (w .padded) (ltb 0 (w .len) || isReport t) (tests g) is (why ∙ ap (λ (x : Given). sizeRefusal (calculateSize x)) same) (sym told ∙ stops)) in
+      rw z (ap (λ (x : Answer (Unit {0}) × Writer). (x .0, x .1, l)) h)
 
-all-tests : (a b c : Bool) (m rest : Answer (Unit {0})) (f : ℕ → Answer ℕ) (k : ℕ) → rest ≡ mapOk unit (f k)
-    → (need a 26 0 0 >> (need b 29 0 0 >> (need c 27 0 0 >> (m >> rest)))) ≡ mapOk unit (need a 26 0 0 >> (need b 29 0 0 >> (need c 27 0 0 >> ((m >> ok k) >>= f))))
-unfolding need _>>_ _>>=_ mapOk
-all-tests false b c m rest f k e = refl
-all-tests true false c m rest f k e = refl
-all-tests true true false m rest f k e = refl
-all-tests true true true (refused r) rest f k e = refl
-all-tests true true true (ok u) rest f k e = e
-
--- the definition's tests are those of the code
-pub add-tests : (w : Writer) (g : Given) (n : ℕ) → addTests w g n ≡ mapOk unit (admitted w (isReport (type (contentGiven g))) (calculateSize g) n)
-unfolding addTests admitted fitted calculateSize
-add-tests w g n =
-    all-tests (not (w .closed)) (not (w .padded)) (ltb 0 (w .len) || isReport (type (contentGiven g))) (tests g) _ _ (sizeGiven g)
-    (room-tests (leb (w .len) n) (leb (w .len + sizeGiven g) n) (capped (w .len)) (capped (w .len + sizeGiven g)) (sizeGiven g))
-
--- what the code's tests leave known, of a size of any packet
-pub admitted-known : (w : Writer) (report : Bool) (size : Answer ℕ) (n k : ℕ) → admitted w report size n ≡ ok k → (size ≡ ok k) × (w .len + k ≤ n)
-unfolding admitted fitted
-admitted-known w report size n k e =
-    let a = need-inv _ _ _ _ _ e in
-    let b = need-inv _ _ _ _ _ (a .1) in
-    let c = need-inv _ _ _ _ _ (b .1) in
-    bind-elim _ _ (c .1) (λ m z e₁.
-    let d = need-inv _ _ _ _ _ e₁ in
-    let f = need-inv _ _ _ _ _ (d .1) in
-    let i : m ≡ k = ok-injective (f .1) in
-    let h : w .len + m ≤ n = leb-true _ _ (f .0) in
-    (z ∙ ap ok i, omega arith))
-
-module _ (w : Writer) (report : Bool) (checked r : Written) (n k : ℕ) (tested : writtenOf r ≡ admitted w report (writtenOf checked) n) (q : r ≡ Size k) where
-  room-known : (writtenOf checked ≡ ok k) × (w .len + k ≤ n)
-  room-known = admitted-known w report (writtenOf checked) n k (sym tested ∙ ap writtenOf q)
-
-  pub checked-size : checked ≡ Size k
-  checked-size = writtenOf-injective checked (Size k) (room-known .0)
-
-  pub room-starts : (at : ℕ) → at ≡ w .len → at ≤ n
-  room-starts at e = let h = room-known .1 in omega arith
-
-  pub room-sum : (at : ℕ) → at ≡ w .len → n < 2 ^ 64 → at + k < 2 ^ 64
-  room-sum at e f = let h = room-known .1 in omega arith
-
-pub room-part : (w : Writer) (report : Bool) (checked r : Written) (l : List ℕ) (at k : ℕ) → writtenOf r ≡ admitted w report (writtenOf checked) (length l) → r ≡ Size k → at ≡ w .len
-    → k ≤ length (take (length l - at) (drop at l))
-room-part w report checked r l at k tested q e =
-    let h = room-known w report checked r (length l) k tested q .1 in
-    simp (length-take, length-drop) (omega arith)
-
--- the code's check of the packet given, and of the writer
-module _ (g : Given) (w : Writer) (l : List ℕ) (report : Bool) (checked r : Written)
-    (known : isReport (type (contentGiven g)) ≡ report) (own : writtenOf checked ≡ calculateSize g) (tested : writtenOf r ≡ admitted w report (writtenOf checked) (length l)) where
-  same : writtenOf r ≡ admitted w (isReport (type (contentGiven g))) (calculateSize g) (length l)
-  same = rw (known, ← own) tested
-
-  pub add-refused : (e : RtcpWriteError) (o : Answer (Unit {0})) (w₁ : Writer) → r ≡ Refused e → _≡_ {A = Answer (Unit {0}) × Writer} (o, w₁) (refused (writeRefusal e), w) → (o, w₁, l) ≡ call (add g) w l
-  unfolding call mapOk
-  add-refused e o w₁ q h =
-      let t : addTests w g (length l) ≡ refused (writeRefusal e) = add-tests w g (length l) ∙ ap (mapOk unit) (sym same ∙ ap writtenOf q) in
-      rw t (ap (λ (x : Answer (Unit {0}) × Writer). (x .0, x .1, l)) h)
-
-  pub add-done : (k at : ℕ) (named : Bool) (o : Answer (Unit {0})) (w₁ : Writer) (last : List ℕ) → r ≡ Size k → at ≡ w .len → _≡_ {A = Answer (Unit {0}) × Writer} (o, w₁) (ok tt, moved w k (paddingGiven g) named) → names g ≡ named
+  pub add-done : (at : ℕ) (named : Bool) (o : Answer (Unit {0})) (w₁ : Writer) (last : List ℕ) → b ≡ true → at ≡ w .len → _≡_ {A = Answer (Unit {0}) × Writer} (o, w₁) (ok tt, moved w size (paddingGiven g) named) → names g ≡ named
       → last ≡ store 0 (layout (packetGiven g)) (take (length l - at) (drop at l))
       → (o, w₁, take at l ++ (last ++ drop (length l - at) (drop at l))) ≡ call (add g) w l
-  unfolding call mapOk calculateSize
-  add-done k at named o w₁ last q z e c f =
-      let h = room-known w report checked r (length l) k tested q in
-      let i : sizeGiven g ≡ k = ok-injective (then-inv _ _ (sym own ∙ h .0) .1) in
-      let t : addTests w g (length l) ≡ ok tt = add-tests w g (length l) ∙ ap (mapOk unit) (sym same ∙ ap writtenOf q) in
-      let m = h .1 in
+  unfolding call addTests calculateSize _>>_
+  add-done at named o w₁ last goes z e c f =
+      let h = passed (w .len) size (sizeGiven g) (length l) (refusal 0 0 0) some-bytes (w .closed) (w .padded) (ltb 0 (w .len) || isReport t) (tests g) is (sym told ∙ goes) in
+      let x : addTests w g (length l) ≡ ok tt = rw known (h .0) in
+      let i : sizeGiven g ≡ size = sym (rw (h .1) at is) in
+      let m = admitted-room w t size (length l) b told goes in
       let s : take at l ++ (last ++ drop (length l - at) (drop at l)) ≡ store (w .len) (layout (packetGiven g)) l =
       rw (f, z) (store-part (w .len) (layout (packetGiven g)) l (omega arith)) in
-      rw (t, s, i, c) (ap (λ (x : Answer (Unit {0}) × Writer). (x .0, x .1, store (w .len) (layout (packetGiven g)) l)) e)
-
-pub is-report : (r : Reporter) (bs : List Block) (k : ℕ) → isReport (type (contentGiven (giveReport r bs k))) ≡ true
-is-report (receiver ssrc) bs k = refl
-is-report (sender ssrc ntp rtp packets octets) bs k = refl
-
--- a report whose blocks are lent as one flat list
-module _ (rep : Reporter) (xs : List ℕ) (p : ℕ) (w : Writer) (l : List ℕ) (checked r : Written)
-    (own : writtenOf checked ≡ sizeBlocks rep (flatBlocks xs) p) (tested : writtenOf r ≡ admitted w true (writtenOf checked) (length l)) where
-  or-true : (b : Bool) → (b || true) ≡ true
-  or-true true = refl
-  or-true false = refl
-
-  -- a list that is turned down is told so after 26 and 29
-  turned : (x : Refusal) (e : RtcpWriteError) → refused (writeRefusal e) ≡ admitted w true (refused x) (length l) → turnedDown w x ≡ refused (writeRefusal e)
-  unfolding admitted turnedDown need _>>_ _>>=_
-  turned x e q = go (not (w .closed)) refl (not (w .padded)) refl
-    where
-      go : (a : Bool) → not (w .closed) ≡ a → (b : Bool) → not (w .padded) ≡ b → turnedDown w x ≡ refused (writeRefusal e)
-      go false f b g = simp f (ap refused (refused-injective _ _ (sym (simp f at q))))
-      go true f false g = simp (f, g) (ap refused (refused-injective _ _ (sym (simp (f, g) at q))))
-      go true f true g = simp (f, g) (ap refused (refused-injective _ _ (sym (simp (f, g, or-true (ltb 0 (w .len))) at q))))
-
-  pub flat-add-refused : (e : RtcpWriteError) (o : Answer (Unit {0})) (w₁ : Writer) → r ≡ Refused e → _≡_ {A = Answer (Unit {0}) × Writer} (o, w₁) (refused (writeRefusal e), w) → (o, w₁, l) ≡ addBlocks rep (flatBlocks xs) p w l
-  unfolding addBlocks sizeBlocks _>>=_
-  flat-add-refused e o w₁ q h = go (flatBlocks xs) refl
-    where
-      go : (a : Answer (List Block)) → flatBlocks xs ≡ a → (o, w₁, l) ≡ addBlocks rep (flatBlocks xs) p w l
-      go (ok bs) f = rw f (add-refused (giveReport rep bs p) w l true checked r (is-report rep bs p) (rw f at own) tested e o w₁ q h)
-      go (refused x) f =
-          let c : writtenOf checked ≡ refused x = rw f at own in
-          let d : turnedDown w x ≡ refused (writeRefusal e) = turned x e (sym (ap writtenOf q) ∙ tested ∙ ap (λ (a : Answer ℕ). admitted w true a (length l)) c) in
-          rw (f, d) (ap (λ (y : Answer (Unit {0}) × Writer). (y .0, y .1, l)) h)
-
-  pub flat-add-done : (k at : ℕ) (o : Answer (Unit {0})) (w₁ : Writer) (last : List ℕ) → r ≡ Size k → at ≡ w .len → _≡_ {A = Answer (Unit {0}) × Writer} (o, w₁) (ok tt, moved w k p false)
-      → last ≡ store 0 (layout (packetGiven (giveReport rep (blocksLent xs) p))) (take (length l - at) (drop at l))
-      → (o, w₁, take at l ++ (last ++ drop (length l - at) (drop at l))) ≡ addBlocks rep (flatBlocks xs) p w l
-  unfolding addBlocks sizeBlocks _>>=_
-  flat-add-done k at o w₁ last q z e f =
-      let c = checked-size w true checked r (length l) k tested q in
-      let t : flatBlocks xs ≡ ok (blocksLent xs) = flat-ok xs (flat-accepted rep xs p checked k own c) in
-      rw t (add-done (giveReport rep (blocksLent xs) p) w l true checked r (is-report rep (blocksLent xs) p) (rw t at own) tested k at false o w₁ last q z e refl f)
+      rw (x, s, i, c) (ap (λ (x : Answer (Unit {0}) × Writer). (x .0, x .1, store (w .len) (layout (packetGiven g)) l)) e)
 
 -- an SDES that has a size: its lists agree, and it names what its items do
-module _ (l : Lists) (k n : ℕ) (checked : Written) (own : writtenOf checked ≡ calculateSize (giveSdes l k)) (q : checked ≡ Size n) where
-  lists-agree : listsAgree l ≡ true
+module _ (ss cs ts ps vs bs : List ℕ) (k n : ℕ) (is : n ≡ orZero (calculateSize (giveSdes (lists ss cs ts ps vs bs) k))) (some : n ≡ 0 → ⊥) where
+  lists-agree : listsAgree (lists ss cs ts ps vs bs) ≡ true
   unfolding ownTests
-  lists-agree = need-inv _ _ _ _ _ (sized (giveSdes l k) n (sym own ∙ ap writtenOf q) .own) .0
+  lists-agree = need-inv _ _ _ _ _ (sized (giveSdes (lists ss cs ts ps vs bs) k) n (size-came (giveSdes (lists ss cs ts ps vs bs) k) n is some) .own) .0
 
-  pub sdes-values : length (l .types) ≡ length (l .values)
-  sdes-values = agreed l lists-agree .values
+  pub sdes-values : length ts ≡ length vs
+  sdes-values = agreed (lists ss cs ts ps vs bs) lists-agree .values
 
-  pub sdes-names : (named : Bool) → named ≡ lentCname (l .types) (l .values) → names (giveSdes l k) ≡ named
-  sdes-names named e = names-lent l k lists-agree ∙ sym e
+  pub sdes-names : (named : Bool) → named ≡ lentCname ts vs → names (giveSdes (lists ss cs ts ps vs bs) k) ≡ named
+  sdes-names named e = names-lent (lists ss cs ts ps vs bs) k lists-agree ∙ sym e
 
 -- ---- closing
 
@@ -249,4 +247,32 @@ module _ (w : Writer) where
   unfolding call closeTests need _>>_
   close-unnamed o w₁ e f h = simp (e, f) (ap (λ (x : Answer (Unit {0}) × Writer). (x .0, x .1, [])) h)
 
-pub ruleset adds = (needs, not-true, not-false, admit-closed, admit-padded, admit-first, admit-refused, admit-fitted, fitted-short, fitted-over, fitted-size, checked-size, room-starts, room-sum, room-part, add-refused, add-done, bye-fits, app-fits, receiver-agree, receiver-fits, sender-agree, sender-fits, sdes-fits, flat-add-refused, flat-add-done, close-closed, close-done, close-unnamed)
+-- ---- lists that were lent again are the same
+
+pub bye-again : (ss r : List ℕ) (k : ℕ) → giveBye (take (length ss - 0) (drop 0 ss)) (take (length r - 0) (drop 0 r)) k ≡ giveBye ss r k
+bye-again ss r k = rw (lent-again ss, lent-again r)
+
+pub app-again : (subtype ssrc : ℕ) (name d : List ℕ) (k : ℕ) → giveApp subtype ssrc (take (length name - 0) (drop 0 name)) (take (length d - 0) (drop 0 d)) k ≡ giveApp subtype ssrc name d k
+app-again subtype ssrc name d k = rw (lent-again name, lent-again d)
+
+pub sdes-again : (ss cs ts ps vs bs : List ℕ) (k : ℕ)
+    → giveSdes (lists (take (length ss - 0) (drop 0 ss)) (take (length cs - 0) (drop 0 cs)) (take (length ts - 0) (drop 0 ts)) (take (length ps - 0) (drop 0 ps)) (take (length vs - 0) (drop 0 vs)) (take (length bs - 0) (drop 0 bs))) k
+    ≡ giveSdes (lists ss cs ts ps vs bs) k
+sdes-again ss cs ts ps vs bs k = rw (lent-again ss, lent-again cs, lent-again ts, lent-again ps, lent-again vs, lent-again bs)
+
+-- ---- a report's size and why, of the one who reports
+
+pub receiver-number : (ssrc : ℕ) (l : BlockLists) (k n : ℕ) → SizeOf 8 l k n → n ≡ orZero (calculateSize (giveReport (receiver ssrc) l k))
+receiver-number ssrc l k n h = h .of (receiver ssrc) refl
+
+pub sender-number : (i : SenderInfo) (l : BlockLists) (k n : ℕ) → SizeOf 28 l k n → n ≡ orZero (calculateSize (giveReport (senderOf i) l k))
+sender-number i l k n h = h .of (senderOf i) refl
+
+pub report-reason : (r : Reporter) (l : BlockLists) (k : ℕ) (x : Refusal) → WhyNone l k x → x ≡ sizeRefusal (calculateSize (giveReport r l k))
+report-reason r l k x h = h .of r
+
+pub report-again : (r : Reporter) (fs ls ws : List ℕ) (k : ℕ)
+    → giveReport r (blockLists (take (length fs - 0) (drop 0 fs)) (take (length ls - 0) (drop 0 ls)) (take (length ws - 0) (drop 0 ws))) k ≡ giveReport r (blockLists fs ls ws) k
+report-again r fs ls ws k = rw (lent-again fs, lent-again ls, lent-again ws)
+
+pub ruleset adds = (needs, not-true, not-false, starts-behind, starts-sender, starts-receiver, admit-closed, admit-padded, admit-first, admit-none, admit-short, admit-fits, why-closed, why-padded, why-first, why-own, why-short, why-over, admitted-some, admitted-starts, admitted-sum, admitted-part, add-refused, add-done, close-closed, close-done, close-unnamed, bye-again, app-again, sdes-again, report-again, receiver-number, sender-number, report-reason, bye-fits, app-fits, receiver-fits, sender-fits, size-fits, sdes-values, sdes-names)

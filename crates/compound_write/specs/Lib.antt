@@ -1,3 +1,3 @@
 pub mod Names
 pub mod Writer
-pub mod OneBuffer
+pub mod Returned

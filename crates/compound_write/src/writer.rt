@@ -1,24 +1,29 @@
 // The compound writer. It holds the length so far, and the buffer is lent again at each call.
 use crate::cname;
+use app::App;
+use bye::Bye;
+use report::receiver::ReceiverReport;
+use report::sender::SenderReport;
 use report_write::receiver;
+use report_write::report_block;
 use report_write::sender;
 use report_write::sender::SenderInfo;
-use sdes_write::sdes;
+use sdes::sdes::Sdes;
 use utils::error::RtcpWriteError;
-use utils::writer::Written;
+use utils::parser::either;
 ghost use mathlib.Core.Path.{_≡_};
 ghost use mathlib.Core.Bool.{_||_};
 ghost use mathlib.Core.List.{[]};
 ghost use Prim.Native.Nat.{_+_, _^_, _<_};
+ghost use lib.Dec.{ltb};
 ghost use Rattle.rfc3550.specs.Answer.{ok, refused, capped};
-ghost use Rattle.rfc3550.specs.Packet.{receiver};
-ghost use Rattle.rfc3550.specs.Write.{giveSdes, giveBye, giveApp};
+ghost use Rattle.rfc3550.specs.Packet.{receiver, isReport};
+ghost use Rattle.rfc3550.specs.Write.{giveReport, giveSdes, giveBye, giveApp};
 ghost use Rattle.rfc3550.specs.Writer.{fresh, add, close, call};
 ghost use Rattle.utils.specs.Error.{writeRefusal};
-ghost use Rattle.utils.specs.Writer.{writtenOf};
-ghost use Rattle.report_write.specs.Report.{senderOf, flatBlocks};
+ghost use Rattle.report_write.specs.Report.{senderOf, blockLists};
 ghost use Rattle.sdes_write.specs.Packets.{lists};
-ghost use Rattle.compound_write.specs.Writer.{outcomeOf, writerOf, callOf, fitted, admitted, moved, addBlocks};
+ghost use Rattle.compound_write.specs.Writer.{outcomeOf, writerOf, callOf, admits, whyNot, moved};
 
 pub struct Writer {
     pub len: usize,
@@ -48,29 +53,17 @@ fn capped_sum(a: u64, b: u64) -> u64
     a + b
 }
 
-// 10, with the length so far where the buffer is shorter than that, else with the packet.
-fn check_room(len: usize, size: usize, space: usize) -> Written
-    ensures { λ r. ⌜ writtenOf r ≡ fitted len size space ⌝ }
+// Where a packet of this type may stand: behind another, or first if it is a report.
+fn may_start(len: usize, packet_type: u8) -> bool
+    ensures { λ r. ⌜ r ≡ (ltb 0 len || isReport «packet_type») ⌝ }
 {
-    if space < len {
-        return Written::Refused(RtcpWriteError::OutputTooSmall(len as u64));
-    }
-    if space - len < size {
-        return Written::Refused(RtcpWriteError::OutputTooSmall(capped_sum(
-            len as u64,
-            size as u64,
-        )));
-    }
-    Written::Size(size)
-}
-
-fn either(a: bool, b: bool) -> bool
-    ensures { λ r. ⌜ r ≡ (a || b) ⌝ }
-{
-    if a {
+    if 0 < len {
         return true;
     }
-    b
+    if packet_type == SenderReport::PACKET_TYPE {
+        return true;
+    }
+    packet_type == ReceiverReport::PACKET_TYPE
 }
 
 impl Writer {
@@ -85,24 +78,56 @@ impl Writer {
         }
     }
 
-    // The size of a packet that may be laid down: 26, 29, 27, the packet's own order, then 10.
-    pub fn admit(self, report: bool, checked: Written, space: usize) -> Written
-        ensures { λ r. ⌜ writtenOf r ≡ admitted (writerOf self) report (writtenOf checked) space ⌝ }
+    // Whether a packet of this type and size may be laid down in so much space. Its size is 0 where its own order refuses it.
+    pub fn admit(self, packet_type: u8, size: usize, space: usize) -> bool
+        ensures { λ r. ⌜ r ≡ admits (writerOf self) «packet_type» size space ⌝ }
     {
         if self.closed {
-            return Written::Refused(RtcpWriteError::WriterClosed);
+            return false;
         }
         if self.padded {
-            return Written::Refused(RtcpWriteError::AlreadyPadded);
+            return false;
         }
         let len = self.len;
-        if !either(0 < len, report) {
-            return Written::Refused(RtcpWriteError::FirstPacketNoReport);
+        if !may_start(len, packet_type) {
+            return false;
         }
-        let Written::Size(size) = checked else {
-            return checked;
-        };
-        check_room(len, size, space)
+        if size == 0 {
+            return false;
+        }
+        if space < len {
+            return false;
+        }
+        size <= space - len
+    }
+
+    // Why it may not: 26, 29, 27, the packet's own refusal, then 10.
+    pub fn why(
+        self,
+        packet_type: u8,
+        size: usize,
+        own: RtcpWriteError,
+        space: usize,
+    ) -> RtcpWriteError
+        ensures { λ r. ⌜ writeRefusal r ≡ whyNot (writerOf self) «packet_type» size (writeRefusal own) space ⌝ }
+    {
+        if self.closed {
+            return RtcpWriteError::WriterClosed;
+        }
+        if self.padded {
+            return RtcpWriteError::AlreadyPadded;
+        }
+        let len = self.len;
+        if !may_start(len, packet_type) {
+            return RtcpWriteError::FirstPacketNoReport;
+        }
+        if size == 0 {
+            return own;
+        }
+        if space < len {
+            return RtcpWriteError::OutputTooSmall(len as u64);
+        }
+        RtcpWriteError::OutputTooSmall(capped_sum(len as u64, size as u64))
     }
 
     // A refusal leaves the writer as it was.
@@ -131,76 +156,96 @@ impl Writer {
         }
     }
 
-    pub fn add_rr(self, buf: &mut [u8], ssrc: u32, blocks: &[u32], padding: u64) -> Call
-        ensures { λ r. ⌜ (outcomeOf (r .answer), writerOf (r .writer), now (buf .exit)) ≡ addBlocks (receiver ssrc) (flatBlocks (now (blocks .entry))) padding (writerOf self) (now (buf .entry)) ⌝ }
+    pub fn add_rr(
+        self,
+        buf: &mut [u8],
+        ssrc: u32,
+        fractions: &[u8],
+        losses: &[u32],
+        words: &[u32],
+        padding: u64,
+    ) -> Call
+        ensures { λ r. ⌜ (outcomeOf (r .answer), writerOf (r .writer), now (buf .exit)) ≡ call (add (giveReport (receiver ssrc) (blockLists (now (fractions .entry)) (now (losses .entry)) (now (words .entry))) padding)) (writerOf self) (now (buf .entry)) ⌝ }
     {
-        let checked = receiver::calculate_size(ssrc, blocks, padding);
-        match self.admit(true, checked, buf.len()) {
-            Written::Refused(e) => self.refuse(e),
-            Written::Size(size) => {
-                let at = self.len;
-                receiver::write_into_unchecked(&mut buf[at..], ssrc, blocks, padding, size);
-                self.advance_unchecked(size, padding, false)
-            }
+        let size = receiver::size_of(fractions, losses, words, padding);
+        if !self.admit(ReceiverReport::PACKET_TYPE, size, buf.len()) {
+            let own = report_block::why_size(&fractions[0..], &losses[0..], &words[0..], padding);
+            return self.refuse(self.why(ReceiverReport::PACKET_TYPE, size, own, buf.len()));
         }
+        let at = self.len;
+        receiver::write_into_unchecked(
+            &mut buf[at..],
+            ssrc,
+            fractions,
+            losses,
+            words,
+            padding,
+            size,
+        );
+        self.advance_unchecked(size, padding, false)
     }
 
-    pub fn add_sr(self, buf: &mut [u8], info: SenderInfo, blocks: &[u32], padding: u64) -> Call
-        ensures { λ r. ⌜ (outcomeOf (r .answer), writerOf (r .writer), now (buf .exit)) ≡ addBlocks (senderOf info) (flatBlocks (now (blocks .entry))) padding (writerOf self) (now (buf .entry)) ⌝ }
+    pub fn add_sr(
+        self,
+        buf: &mut [u8],
+        info: SenderInfo,
+        fractions: &[u8],
+        losses: &[u32],
+        words: &[u32],
+        padding: u64,
+    ) -> Call
+        ensures { λ r. ⌜ (outcomeOf (r .answer), writerOf (r .writer), now (buf .exit)) ≡ call (add (giveReport (senderOf info) (blockLists (now (fractions .entry)) (now (losses .entry)) (now (words .entry))) padding)) (writerOf self) (now (buf .entry)) ⌝ }
     {
-        let checked = sender::calculate_size(info, blocks, padding);
-        match self.admit(true, checked, buf.len()) {
-            Written::Refused(e) => self.refuse(e),
-            Written::Size(size) => {
-                let at = self.len;
-                sender::write_into_unchecked(&mut buf[at..], info, blocks, padding, size);
-                self.advance_unchecked(size, padding, false)
-            }
+        let size = sender::size_of(fractions, losses, words, padding);
+        if !self.admit(SenderReport::PACKET_TYPE, size, buf.len()) {
+            let own = report_block::why_size(&fractions[0..], &losses[0..], &words[0..], padding);
+            return self.refuse(self.why(SenderReport::PACKET_TYPE, size, own, buf.len()));
         }
+        let at = self.len;
+        sender::write_into_unchecked(
+            &mut buf[at..],
+            info,
+            fractions,
+            losses,
+            words,
+            padding,
+            size,
+        );
+        self.advance_unchecked(size, padding, false)
     }
 
     pub fn add_bye(self, buf: &mut [u8], sources: &[u32], reason: &[u8], padding: u64) -> Call
         ensures { λ r. ⌜ (outcomeOf (r .answer), writerOf (r .writer), now (buf .exit)) ≡ call (add (giveBye (now (sources .entry)) (now (reason .entry)) padding)) (writerOf self) (now (buf .entry)) ⌝ }
     {
-        let checked = bye_write::calculate_size(sources, reason, padding);
-        match self.admit(false, checked, buf.len()) {
-            Written::Refused(e) => self.refuse(e),
-            Written::Size(size) => {
-                let at = self.len;
-                bye_write::write_into_unchecked(&mut buf[at..], sources, reason, padding, size);
-                self.advance_unchecked(size, padding, false)
-            }
+        let size = bye::write::size_of(sources, reason, padding);
+        if !self.admit(Bye::PACKET_TYPE, size, buf.len()) {
+            let own = bye::write::why_size(&sources[0..], &reason[0..], padding);
+            return self.refuse(self.why(Bye::PACKET_TYPE, size, own, buf.len()));
         }
+        let at = self.len;
+        bye::write::write_into_unchecked(&mut buf[at..], sources, reason, padding, size);
+        self.advance_unchecked(size, padding, false)
     }
 
     pub fn add_app(
         self,
         buf: &mut [u8],
-        ssrc: u32,
         subtype: u64,
+        ssrc: u32,
         name: &[u8],
         data: &[u8],
         padding: u64,
     ) -> Call
         ensures { λ r. ⌜ (outcomeOf (r .answer), writerOf (r .writer), now (buf .exit)) ≡ call (add (giveApp subtype ssrc (now (name .entry)) (now («data» .entry)) padding)) (writerOf self) (now (buf .entry)) ⌝ }
     {
-        let checked = app_write::calculate_size(ssrc, subtype, name, data, padding);
-        match self.admit(false, checked, buf.len()) {
-            Written::Refused(e) => self.refuse(e),
-            Written::Size(size) => {
-                let at = self.len;
-                app_write::write_into_unchecked(
-                    &mut buf[at..],
-                    ssrc,
-                    subtype,
-                    name,
-                    data,
-                    padding,
-                    size,
-                );
-                self.advance_unchecked(size, padding, false)
-            }
+        let size = app::write::size_of(subtype, ssrc, name, data, padding);
+        if !self.admit(App::PACKET_TYPE, size, buf.len()) {
+            let own = app::write::why_size(subtype, ssrc, &name[0..], &data[0..], padding);
+            return self.refuse(self.why(App::PACKET_TYPE, size, own, buf.len()));
         }
+        let at = self.len;
+        app::write::write_into_unchecked(&mut buf[at..], subtype, ssrc, name, data, padding, size);
+        self.advance_unchecked(size, padding, false)
     }
 
     pub fn add_sdes(
@@ -216,26 +261,33 @@ impl Writer {
     ) -> Call
         ensures { λ r. ⌜ (outcomeOf (r .answer), writerOf (r .writer), now (buf .exit)) ≡ call (add (giveSdes (lists (now (ssrcs .entry)) (now (counts .entry)) (now (types .entry)) (now (prefixes .entry)) (now (values .entry)) (now (bytes .entry))) padding)) (writerOf self) (now (buf .entry)) ⌝ }
     {
-        let checked = sdes::calculate_size(ssrcs, counts, types, prefixes, values, bytes, padding);
-        match self.admit(false, checked, buf.len()) {
-            Written::Refused(e) => self.refuse(e),
-            Written::Size(size) => {
-                let at = self.len;
-                sdes::write_into_unchecked(
-                    &mut buf[at..],
-                    ssrcs,
-                    counts,
-                    types,
-                    prefixes,
-                    values,
-                    bytes,
-                    padding,
-                    size,
-                );
-                let named = cname::has_cname_unchecked(types, values);
-                self.advance_unchecked(size, padding, named)
-            }
+        let size = sdes_write::size_of(ssrcs, counts, types, prefixes, values, bytes, padding);
+        if !self.admit(Sdes::PACKET_TYPE, size, buf.len()) {
+            let own = sdes_write::why_size(
+                &ssrcs[0..],
+                &counts[0..],
+                &types[0..],
+                &prefixes[0..],
+                &values[0..],
+                &bytes[0..],
+                padding,
+            );
+            return self.refuse(self.why(Sdes::PACKET_TYPE, size, own, buf.len()));
         }
+        let at = self.len;
+        sdes_write::write_into_unchecked(
+            &mut buf[at..],
+            ssrcs,
+            counts,
+            types,
+            prefixes,
+            values,
+            bytes,
+            padding,
+            size,
+        );
+        let named = cname::has_cname_unchecked(types, values);
+        self.advance_unchecked(size, padding, named)
     }
 
     // 26, then 28.

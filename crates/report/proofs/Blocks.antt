@@ -1,9 +1,11 @@
--- A report block from its seven numbers, a lone block's steps, and blocks as one flat run in a list.
+-- A report block from its seven numbers, a lone block's steps, and blocks in three lists.
 use borrow.Author.Needs.{needs}
 use mathlib.Core.Path.{_≡_, refl, sym, ap, _∙_}
-use mathlib.Core.List.{List, [], _∷_, _++_}
-use Prim.Native.Nat.{ℕ, suc, _+_, _-_, _*_, _<_, _≤_}
-use native.Mathlib.Nat.{add-zero, sub-zero}
+use mathlib.Core.Bool.{_&&_}
+use mathlib.Core.List.{List, [], _∷_, _++_, append-assoc, append-nil}
+use Prim.Native.Nat.{ℕ, zero, suc, _+_, _*_, _<_, _≤_}
+use native.Mathlib.Nat.{mul-suc, mul-zero}
+use native.Mathlib.Numerals.{add-one}
 use native.Mathlib.Omega.{arith}
 use borrow.Author.Tests.{le-leb, lt-leb}
 use lib.ListN.{length, getD, take, drop, set, length-append}
@@ -14,17 +16,12 @@ use Rattle.rfc3550.specs.Loss.{lossOf}
 use Rattle.rfc3550.specs.Packet.{Block, blockWidths}
 use Rattle.rfc3550.specs.Read.{blockOf, readBlock, readBlocks}
 use Rattle.rfc3550.proofs.Bytes.{length-store}
-use Rattle.utils.specs.List.{layList}
-use Rattle.utils.proofs.Lists.{lay-short, lay-done}
 use Rattle.utils.proofs.Numbers.{val-byte}
 use Rattle.utils.proofs.Parts.{length-readBlocks}
-use Rattle.utils.proofs.WriterStores.{store-nil, store-store, puts, store-puts}
-use Rattle.report.specs.Block.{blockView, blockNumbers, blocksNumbers}
+use Rattle.utils.proofs.WriterStores.{store-nil, puts, store-puts}
+use Rattle.utils.proofs.WriterPackets.{parts-laid}
+use Rattle.report.specs.Block.{blockView, fractionIn, lossIn, wordsIn, listOf, Laid, LaidAll, layBlocks}
 use Rattle.report.specs.declared.report_block.ReportBlock.{ReportBlock}
-
-abbrev recordNumbers : ReportBlock → List ℕ
-recordNumbers b =
-    b .ssrc ∷ b .«fraction_lost» ∷ b .«cumulative_lost» ∷ b .«extended_sequence_number» ∷ b .«interarrival_jitter» ∷ b .«last_sender_report_timestamp» ∷ b .«delay_since_last_sender_report_timestamp» ∷ []
 
 abbrev blockAt : List ℕ → ℕ → ReportBlock
 blockAt s at = blockView (blockOf (get blockWidths (drop at s)))
@@ -76,66 +73,116 @@ module _ (s : List ℕ) where
   unfolding readBlock need _>>_ mapOk
   block-whole b l m q = rw (le-leb 24 (length s) l, le-leb (length s) 24 m, q)
 
--- ---- the seven numbers of a block, one by one into a list
+-- ---- the numbers of a block, one by one into the lists
 
-pub block-listed : (s l : List ℕ) (at to : ℕ) (b : ReportBlock) → to + 7 ≤ length l → b ≡ blockAt s at
-    → puts to 1 (b .«fraction_lost» ∷ b .«cumulative_lost» ∷ b .«extended_sequence_number» ∷ b .«interarrival_jitter» ∷ b .«last_sender_report_timestamp» ∷ b .«delay_since_last_sender_report_timestamp» ∷ []) (set l to (b .ssrc))
-    ≡ store to (blockNumbers (blockOf (get blockWidths (drop at s)))) l
-block-listed s l at to b m e = store-puts to (b .ssrc) _ l m ∙ ap (λ (r : ReportBlock). store to (recordNumbers r) l) e
+abbrev there : List ℕ → ℕ → Block
+there s at = blockOf (get blockWidths (drop at s))
 
--- ---- the blocks, one after the other
+pub block-laid : (s : List ℕ) (at i to : ℕ) (b : ReportBlock) (f l w : List ℕ) → i < length f → i < length l → to + 5 ≤ length w → b ≡ blockAt s at
+    → Laid (there s at) i to f l w (set f i (b .«fraction_lost»)) (set l i (b .«cumulative_lost»))
+    (puts to 1 (b .«extended_sequence_number» ∷ b .«interarrival_jitter» ∷ b .«last_sender_report_timestamp» ∷ b .«delay_since_last_sender_report_timestamp» ∷ []) (set w to (b .ssrc)))
+block-laid s at i to b f l w h k m e =
+    record {
+      fractions = store-puts i (b .«fraction_lost») [] f (omega arith) ∙ ap (λ (b : ReportBlock). store i (b .«fraction_lost» ∷ []) f) e;
+      losses = store-puts i (b .«cumulative_lost») [] l (omega arith) ∙ ap (λ (b : ReportBlock). store i (b .«cumulative_lost» ∷ []) l) e;
+      words = store-puts to (b .ssrc) _ w m
+          ∙ ap (λ (b : ReportBlock). store to (b .ssrc ∷ b .«extended_sequence_number» ∷ b .«interarrival_jitter» ∷ b .«last_sender_report_timestamp» ∷ b .«delay_since_last_sender_report_timestamp» ∷ []) w) e;
+    }
 
-length-numbers : (bs : List Block) → length (blocksNumbers bs) ≡ length bs * 7
-unfolding blocksNumbers
-length-numbers [] = refl
-length-numbers (b ∷ bs) = rw (length-append (blockNumbers b) (blocksNumbers bs), length-numbers bs) (omega arith)
+-- ---- the blocks, one after the other: over what is taken of each
 
-length-listed : (n : ℕ) (s : List ℕ) → length (blocksNumbers (readBlocks n s)) ≡ n * 7
-length-listed n s = length-numbers (readBlocks n s) ∙ ap (λ (k : ℕ). k * 7) (length-readBlocks n s)
-
--- what is left of them, one block on
-blocks-next : (n i at : ℕ) (s : List ℕ) → i < n → readBlocks (n - i) (drop (at + i * 24) s) ≡ blockOf (get blockWidths (drop (at + i * 24) s)) ∷ readBlocks (n - (i + 1)) (drop (at + (i + 1) * 24) s)
+blocks-more : (n : ℕ) (s : List ℕ) → readBlocks (suc n) s ≡ readBlocks n s ++ (there s (24 * n) ∷ [])
 unfolding readBlocks
-blocks-next n i at s h =
-    let e : n - i ≡ suc (n - (i + 1)) = omega arith in
-    let f : at + i * 24 + 24 ≡ at + (i + 1) * 24 = omega arith in
-    rw (e, drop-drop 24 (at + i * 24) s, f)
+blocks-more zero s = rw (mul-zero 24)
+blocks-more (suc n) s =
+    let e : 24 + 24 * n ≡ 24 * suc n = omega arith in
+    ap (λ (bs : List Block). there s 0 ∷ bs) (blocks-more n (drop 24 s) ∙ rw (drop-drop (24 * n) 24 s, e))
 
-pub record Listing (s : List ℕ) (at n : ℕ) (l : List ℕ) (i : ℕ) (l₁ : List ℕ) : Type 0 where
+module _ (g : Block → List ℕ) where
+  list-more : (bs : List Block) (b : Block) → listOf g (bs ++ (b ∷ [])) ≡ listOf g bs ++ g b
+  unfolding listOf
+  list-more [] b = append-nil (g b)
+  list-more (x ∷ bs) b = ap (λ (l : List ℕ). g x ++ l) (list-more bs b) ∙ sym (append-assoc (g x) (listOf g bs) (g b))
+
+  module _ (w : ℕ) (wide : (b : Block) → length (g b) ≡ w) where
+    length-list : (bs : List Block) → length (listOf g bs) ≡ w * length bs
+    unfolding listOf
+    length-list [] = sym (mul-zero w)
+    length-list (b ∷ bs) = length-append (g b) (listOf g bs) ∙ omega (arith, wide b, length-list bs, mul-suc w (length bs))
+
+    -- one block more, at its place
+    list-laid : (s : List ℕ) (at i k : ℕ) (l l₁ l₂ : List ℕ) → k ≡ w * i → k + w ≤ length l → l₁ ≡ store 0 (listOf g (readBlocks i (drop at s))) l
+        → l₂ ≡ store k (g (there s (at + i * 24))) l₁ → l₂ ≡ store 0 (listOf g (readBlocks (i + 1) (drop at s))) l
+    list-laid s at i k l l₁ l₂ e h p q =
+        let n : length (listOf g (readBlocks i (drop at s))) ≡ w * i = length-list (readBlocks i (drop at s)) ∙ ap (λ (n : ℕ). w * n) (length-readBlocks i (drop at s)) in
+        let u : at + 24 * i ≡ at + i * 24 = omega arith in
+        let d : drop (24 * i) (drop at s) ≡ drop (at + i * 24) s = drop-drop (24 * i) at s ∙ ap (λ (n : ℕ). drop n s) u in
+        parts-laid 0 k (listOf g (readBlocks i (drop at s))) (g (there s (at + i * 24))) l l₁ l₂ p q (omega arith) (omega (arith, wide (there s (at + i * 24))))
+        ∙ ap (λ (bs : List ℕ). store 0 bs l)
+        (ap (λ (x : List ℕ). listOf g (readBlocks i (drop at s)) ++ g (blockOf (get blockWidths x))) (sym d) ∙ sym (list-more (readBlocks i (drop at s)) (there (drop at s) (24 * i)))
+        ∙ ap (listOf g) (sym (blocks-more i (drop at s)) ∙ ap (λ (n : ℕ). readBlocks n (drop at s)) (sym (add-one i))))
+
+    list-long : (s : List ℕ) (at i : ℕ) (l l₁ : List ℕ) → w * i ≤ length l → l₁ ≡ store 0 (listOf g (readBlocks i (drop at s))) l → length l₁ ≡ length l
+    list-long s at i l l₁ h e =
+        let n : length (listOf g (readBlocks i (drop at s))) ≡ w * i = length-list (readBlocks i (drop at s)) ∙ ap (λ (n : ℕ). w * n) (length-readBlocks i (drop at s)) in
+        ap length e ∙ length-store 0 (listOf g (readBlocks i (drop at s))) l (omega arith)
+
+pub record Listing (s : List ℕ) (at n : ℕ) (f l w : List ℕ) (i : ℕ) (f₁ l₁ w₁ : List ℕ) : Type 0 where
   pub within : i ≤ n
-  pub long : length l₁ ≡ length l
-  pub rest : store (i * 7) (blocksNumbers (readBlocks (n - i) (drop (at + i * 24) s))) l₁ ≡ store 0 (blocksNumbers (readBlocks n (drop at s))) l
+  pub fractions-long : length f₁ ≡ length f
+  pub losses-long : length l₁ ≡ length l
+  pub words-long : length w₁ ≡ length w
+  pub laid : LaidAll (readBlocks i (drop at s)) f l w f₁ l₁ w₁
 
-module _ (s : List ℕ) (at n : ℕ) (l : List ℕ) where
-  pub listing-start : Listing s at n l 0 l
-  listing-start = record { within = omega arith; long = refl; rest = rw (sub-zero, add-zero) }
+module _ (s : List ℕ) (at n : ℕ) (f l w : List ℕ) where
+  pub listing-start : Listing s at n f l w 0 f l w
+  unfolding readBlocks listOf
+  listing-start =
+      record {
+        within = omega arith;
+        fractions-long = refl;
+        losses-long = refl;
+        words-long = refl;
+        laid = record { fractions = sym (store-nil 0 f); losses = sym (store-nil 0 l); words = sym (store-nil 0 w) };
+      }
 
-  module _ (i : ℕ) (l₁ : List ℕ) (w : Listing s at n l i l₁) where
-    pub listing-again : (l₂ : List ℕ) → n * 7 ≤ length l → i < n → l₂ ≡ store (i * 7) (blockNumbers (blockOf (get blockWidths (drop (at + i * 24) s)))) l₁ → Listing s at n l (i + 1) l₂
-    unfolding blocksNumbers
-    listing-again l₂ f h e =
-        let b : Block = blockOf (get blockWidths (drop (at + i * 24) s)) in
-        let m = length-listed (n - (i + 1)) (drop (at + (i + 1) * 24) s) in
-        let g = w .long in
-        let t : store ((i + 1) * 7) (blocksNumbers (readBlocks (n - (i + 1)) (drop (at + (i + 1) * 24) s))) l₂
-        ≡ store (i * 7) (blockNumbers (blockOf (get blockWidths (drop (at + i * 24) s))) ++ blocksNumbers (readBlocks (n - (i + 1)) (drop (at + (i + 1) * 24) s))) l₁ =
-        rw e (store-store (i * 7) ((i + 1) * 7) (blockNumbers (blockOf (get blockWidths (drop (at + i * 24) s)))) (blocksNumbers (readBlocks (n - (i + 1)) (drop (at + (i + 1) * 24) s))) l₁ (omega arith) (omega arith)) in
+  module _ (i : ℕ) (f₁ l₁ w₁ : List ℕ) (g : Listing s at n f l w i f₁ l₁ w₁) where
+    pub listing-again : (f₂ l₂ w₂ : List ℕ) → n ≤ length f → n ≤ length l → n * 5 ≤ length w → i < n → Laid (there s (at + i * 24)) i (i * 5) f₁ l₁ w₁ f₂ l₂ w₂
+        → Listing s at n f l w (i + 1) f₂ l₂ w₂
+    listing-again f₂ l₂ w₂ a b c h e =
+        let p = list-laid fractionIn 1 (λ b. refl) s at i i f f₁ f₂ (omega arith) (omega arith) (g .laid .fractions) (e .fractions) in
+        let q = list-laid lossIn 1 (λ b. refl) s at i i l l₁ l₂ (omega arith) (omega arith) (g .laid .losses) (e .losses) in
+        let r = list-laid wordsIn 5 (λ b. refl) s at i (i * 5) w w₁ w₂ (omega arith) (omega arith) (g .laid .words) (e .words) in
         record {
           within = omega arith;
-          long = ap length e ∙ length-store (i * 7) (blockNumbers (blockOf (get blockWidths (drop (at + i * 24) s)))) l₁ (omega arith) ∙ w .long;
-          rest = t ∙ (rw (blocks-next n i at s h) at (w .rest));
+          fractions-long = list-long fractionIn 1 (λ b. refl) s at (i + 1) f f₂ (omega arith) p;
+          losses-long = list-long lossIn 1 (λ b. refl) s at (i + 1) l l₂ (omega arith) q;
+          words-long = list-long wordsIn 5 (λ b. refl) s at (i + 1) w w₂ (omega arith) r;
+          laid = record { fractions = p; losses = q; words = r };
         }
 
-    pub listing-done : n ≤ i → l₁ ≡ store 0 (blocksNumbers (readBlocks n (drop at s))) l
-    unfolding blocksNumbers readBlocks
-    listing-done h =
-        let z : n - i ≡ 0 = omega arith in
-        sym (store-nil (i * 7) l₁) ∙ (rw z at (w .rest))
+    pub listing-done : n ≤ i → LaidAll (readBlocks n (drop at s)) f l w f₁ l₁ w₁
+    listing-done h = let e : i ≡ n = omega (arith, g .within) in rw e at (g .laid)
 
-  pub blocks-short : length l < n * 7 → (refused (refusal 10 (n * 7) 0), l) ≡ layList (ok (blocksNumbers (readBlocks n (drop at s)))) l
-  blocks-short h = lay-short _ (blocksNumbers (readBlocks n (drop at s))) l (n * 7) refl (length-listed n (drop at s)) h
+-- ---- into lists that are long enough, or not
 
-  pub blocks-listed : (l₁ : List ℕ) → n * 7 ≤ length l → l₁ ≡ store 0 (blocksNumbers (readBlocks n (drop at s))) l → (ok (n * 7), l₁) ≡ layList (ok (blocksNumbers (readBlocks n (drop at s)))) l
-  blocks-listed l₁ h q = lay-done _ (blocksNumbers (readBlocks n (drop at s))) l (n * 7) refl (length-listed n (drop at s)) l₁ h q
+module _ (s : List ℕ) (at n : ℕ) (f l w : List ℕ) where
+  pub fractions-short : length f < n → (refuse 10 n 0, f, l, w) ≡ layBlocks (ok (readBlocks n (drop at s))) f l w
+  unfolding layBlocks
+  fractions-short h = rw (length-readBlocks n (drop at s), lt-leb n (length f) h, length-readBlocks n (drop at s))
 
-pub ruleset blocks = (needs, block-is, block-short, block-long, block-whole, block-listed, listing-start, listing-again, listing-done, blocks-short, blocks-listed)
+  pub losses-short : n ≤ length f → length l < n → (refuse 10 n 0, f, l, w) ≡ layBlocks (ok (readBlocks n (drop at s))) f l w
+  unfolding layBlocks
+  losses-short a h = rw (length-readBlocks n (drop at s), le-leb n (length f) a, lt-leb n (length l) h, length-readBlocks n (drop at s))
+
+  pub words-short : n ≤ length f → n ≤ length l → length w < n * 5 → (refuse 10 n 0, f, l, w) ≡ layBlocks (ok (readBlocks n (drop at s))) f l w
+  unfolding layBlocks
+  words-short a b h = rw (length-readBlocks n (drop at s), le-leb n (length f) a, le-leb n (length l) b, lt-leb (n * 5) (length w) h, length-readBlocks n (drop at s))
+
+  pub lists-laid : (f₁ l₁ w₁ : List ℕ) → n ≤ length f → n ≤ length l → n * 5 ≤ length w → LaidAll (readBlocks n (drop at s)) f l w f₁ l₁ w₁
+      → (ok n, f₁, l₁, w₁) ≡ layBlocks (ok (readBlocks n (drop at s))) f l w
+  unfolding layBlocks
+  lists-laid f₁ l₁ w₁ a b c e =
+      rw (length-readBlocks n (drop at s), le-leb n (length f) a, le-leb n (length l) b, le-leb (n * 5) (length w) c, length-readBlocks n (drop at s), e .fractions, e .losses, e .words)
+
+pub ruleset blocks = (needs, block-is, block-short, block-long, block-whole, block-laid, listing-start, listing-again, listing-done, fractions-short, losses-short, words-short, lists-laid)

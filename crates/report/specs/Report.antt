@@ -1,13 +1,11 @@
--- A report's fields, its blocks as one flat run and its extension, as functions of the packet.
+-- A report's fields, its blocks and its extension, as functions of the packet.
 use Prim.Native.Nat.{ℕ, _+_, _*_}
 use mathlib.Core.List.{List, []}
 use lib.ListN.{length, getD}
 use Rattle.rfc3550.specs.Answer.{Answer, ok, refused}
-use Rattle.rfc3550.specs.Packet.{Content, report, sdes, bye, app, unknown, Packet, reporterFields}
+use Rattle.rfc3550.specs.Packet.{Block, Content, report, sdes, bye, app, unknown, Packet, reporterFields}
 use Rattle.rfc3550.specs.Read.{least, kindFor, blocksOf}
 use Rattle.utils.specs.Error.{parseRefusal}
-use Rattle.utils.specs.Parts.{partIn}
-use Rattle.report.specs.Block.{blocksNumbers}
 use Rattle.report.specs.declared.receiver.ReceiverReport.{ReceiverReport}
 use Rattle.report.specs.declared.receiver.ParsedReceiverReport.{ParsedReceiverReport}
 use Rattle.report.specs.declared.receiver.ParsedReceiverReport.the-variants as receiver
@@ -38,12 +36,19 @@ extensionOf (bye ss l) = []
 extensionOf (app subtype ssrc name d) = []
 extensionOf (unknown t low b) = []
 
-abbrev pub reportNumbers : Packet → List ℕ
-reportNumbers p = blocksNumbers (blocksOf (p .content))
+abbrev pub reportBlocks : Packet → List Block
+reportBlocks p = blocksOf (p .content)
 
 -- the end of the blocks
 abbrev pub extensionAt : Content → ℕ
 extensionAt c = least (kindFor c) + 24 * length (blocksOf c)
+
+-- the end of the extension
+abbrev pub reportBody : Packet → ℕ
+reportBody p = extensionAt (p .content) + length (extensionOf (p .content))
+
+abbrev pub paddingLength : Packet → ℕ
+paddingLength p = length (p .padding)
 
 abbrev pub receiverView : Packet → ReceiverReport
 receiverView p =
@@ -52,7 +57,7 @@ receiverView p =
       «n_reports» = length (blocksOf (p .content));
       extension = extensionAt (p .content);
       body = extensionAt (p .content) + length (extensionOf (p .content));
-      padding = length (p .padding);
+      «padding_len» = paddingLength p;
     }
 
 abbrev pub senderView : Packet → SenderReport
@@ -66,8 +71,13 @@ senderView p =
       «n_reports» = length (blocksOf (p .content));
       extension = extensionAt (p .content);
       body = extensionAt (p .content) + length (extensionOf (p .content));
-      padding = length (p .padding);
+      «padding_len» = paddingLength p;
     }
 
-abbrev pub extensionIn : Answer Packet → List ℕ
-extensionIn a = partIn (λ p. extensionOf (p .content)) a
+-- ---- what stands for a report that is refused
+
+abbrev pub noReceiver : ReceiverReport
+noReceiver = record { ssrc = 0; «n_reports» = 0; extension = 0; body = 0; «padding_len» = 0 }
+
+abbrev pub noSender : SenderReport
+noSender = record { ssrc = 0; «ntp_timestamp» = 0; «rtp_timestamp» = 0; «packet_count» = 0; «octet_count» = 0; «n_reports» = 0; extension = 0; body = 0; «padding_len» = 0 }

@@ -3,14 +3,14 @@ use utils::error::RtcpParseError;
 use utils::list::Listed;
 use utils::parser::u32_from_be_bytes;
 ghost use mathlib.Core.Path.{_≡_};
-ghost use Prim.Native.Nat.{_+_, _*_, _≤_};
+ghost use Prim.Native.Nat.{_+_, _*_, _≤_, _<_};
 ghost use lib.ListN.{length, drop};
 ghost use Rattle.rfc3550.specs.Answer.{ok, mapOk};
-ghost use Rattle.rfc3550.specs.Bytes.{get, store};
+ghost use Rattle.rfc3550.specs.Bytes.{get};
 ghost use Rattle.rfc3550.specs.Packet.{blockWidths};
 ghost use Rattle.rfc3550.specs.Read.{blockOf, readBlock, readBlocks};
-ghost use Rattle.utils.specs.List.{listedOf, layList};
-ghost use Rattle.report.specs.Block.{parsedBlockOf, blockView, blockNumbers, blocksNumbers};
+ghost use Rattle.utils.specs.List.{listedOf};
+ghost use Rattle.report.specs.Block.{parsedBlockOf, blockView, layBlocks, Laid, LaidAll};
 
 pub struct ReportBlock {
     pub ssrc: u32,
@@ -29,6 +29,9 @@ pub enum ParsedReportBlock {
 
 impl ReportBlock {
     pub const EXPECTED_SIZE: usize = 24;
+
+    // How many words of a lent list one block takes: those that are neither its fraction nor its loss.
+    pub const WORDS: usize = 5;
 
     // A block by itself.
     pub fn parse(s: &[u8]) -> ParsedReportBlock
@@ -66,42 +69,77 @@ pub fn parse_block_unchecked(s: &[u8], at: usize) -> ReportBlock
     }
 }
 
-// The seven numbers of the block at a place, into a list from index to on.
-fn list_block_unchecked(s: &[u8], at: usize, list: &mut [u32], to: usize)
-    requires { ⌜ (at + 24 ≤ length (now s)) × (to + 7 ≤ length (now list)) ⌝ }
-    ensures { λ _. ⌜ now (list .exit) ≡ store to (blockNumbers (blockOf (get blockWidths (drop at (now (s .entry)))))) (now (list .entry)) ⌝ }
+// The numbers of the block at a place: its fraction and its loss at an index of their lists, and its words from index to on.
+fn list_block_unchecked(
+    s: &[u8],
+    at: usize,
+    fractions: &mut [u8],
+    losses: &mut [u32],
+    words: &mut [u32],
+    i: usize,
+    to: usize,
+)
+    requires { ⌜ (at + 24 ≤ length (now s)) × (i < length (now fractions)) × (i < length (now losses)) × (to + 5 ≤ length (now words)) ⌝ }
+    ensures { λ _. ⌜ Laid (blockOf (get blockWidths (drop at (now (s .entry))))) i to (now (fractions .entry)) (now (losses .entry)) (now (words .entry)) (now (fractions .exit)) (now (losses .exit)) (now (words .exit)) ⌝ }
 {
     let b = parse_block_unchecked(s, at);
-    list[to] = b.ssrc;
-    list[to + 1] = b.fraction_lost as u32;
-    list[to + 2] = b.cumulative_lost;
-    list[to + 3] = b.extended_sequence_number;
-    list[to + 4] = b.interarrival_jitter;
-    list[to + 5] = b.last_sender_report_timestamp;
-    list[to + 6] = b.delay_since_last_sender_report_timestamp;
+    fractions[i] = b.fraction_lost;
+    losses[i] = b.cumulative_lost;
+    words[to] = b.ssrc;
+    words[to + 1] = b.extended_sequence_number;
+    words[to + 2] = b.interarrival_jitter;
+    words[to + 3] = b.last_sender_report_timestamp;
+    words[to + 4] = b.delay_since_last_sender_report_timestamp;
 }
 
-// The blocks that lie end to end from a place on, into a list from its start.
-fn list_all_unchecked(s: &[u8], at: usize, n: usize, list: &mut [u32])
-    requires { ⌜ (at + n * 24 ≤ length (now s)) × (n * 7 ≤ length (now list)) ⌝ }
-    ensures { λ _. ⌜ now (list .exit) ≡ store 0 (blocksNumbers (readBlocks n (drop at (now (s .entry))))) (now (list .entry)) ⌝ }
+// The blocks that lie end to end from a place on, into lists that are long enough, from their starts.
+fn list_all_unchecked(
+    s: &[u8],
+    at: usize,
+    n: usize,
+    fractions: &mut [u8],
+    losses: &mut [u32],
+    words: &mut [u32],
+)
+    requires { ⌜ (at + n * 24 ≤ length (now s)) × (n ≤ length (now fractions)) × (n ≤ length (now losses)) × (n * 5 ≤ length (now words)) ⌝ }
+    ensures { λ _. ⌜ LaidAll (readBlocks n (drop at (now (s .entry)))) (now (fractions .entry)) (now (losses .entry)) (now (words .entry)) (now (fractions .exit)) (now (losses .exit)) (now (words .exit)) ⌝ }
 {
     let mut i: usize = 0;
     while i < n {
-        list_block_unchecked(s, at + i * 24, list, i * 7);
+        list_block_unchecked(
+            s,
+            at + i * ReportBlock::EXPECTED_SIZE,
+            fractions,
+            losses,
+            words,
+            i,
+            i * ReportBlock::WORDS,
+        );
         i += 1;
     }
 }
 
-// The same, where the list is long enough.
-pub fn list_blocks_unchecked(s: &[u8], at: usize, n: usize, list: &mut [u32]) -> Listed
+// The same, where each list is long enough.
+pub fn list_blocks_unchecked(
+    s: &[u8],
+    at: usize,
+    n: usize,
+    fractions: &mut [u8],
+    losses: &mut [u32],
+    words: &mut [u32],
+) -> Listed
     requires { ⌜ at + n * 24 ≤ length (now s) ⌝ }
-    ensures { λ r. ⌜ (listedOf r, now (list .exit)) ≡ layList (ok (blocksNumbers (readBlocks n (drop at (now (s .entry)))))) (now (list .entry)) ⌝ }
+    ensures { λ r. ⌜ (listedOf r, now (fractions .exit), now (losses .exit), now (words .exit)) ≡ layBlocks (ok (readBlocks n (drop at (now (s .entry))))) (now (fractions .entry)) (now (losses .entry)) (now (words .entry)) ⌝ }
 {
-    let len = n * 7;
-    if list.len() < len {
-        return Listed::TooShort(len);
+    if fractions.len() < n {
+        return Listed::TooShort(n);
     }
-    list_all_unchecked(s, at, n, list);
-    Listed::Len(len)
+    if losses.len() < n {
+        return Listed::TooShort(n);
+    }
+    if words.len() < n * ReportBlock::WORDS {
+        return Listed::TooShort(n);
+    }
+    list_all_unchecked(s, at, n, fractions, losses, words);
+    Listed::Len(n)
 }

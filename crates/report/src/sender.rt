@@ -1,19 +1,20 @@
 // Sender reports.
 use super::report_block::ParsedReportBlock;
 use super::report_block::ReportBlock;
+use super::report_block::list_blocks_unchecked;
 use utils::error::RtcpParseError;
 use utils::list::Listed;
-use utils::parser::CheckedPacket;
 ghost use mathlib.Core.Path.{_≡_};
+ghost use Prim.Native.Nat.{_-_};
+ghost use lib.ListN.{take, drop};
 ghost use Rattle.rfc3550.specs.Answer.{mapOk};
 ghost use Rattle.rfc3550.specs.Read.{SR, readAs, readBlockAt};
-ghost use Rattle.utils.specs.Error.{parseRefusal, refusalIn};
-ghost use Rattle.utils.specs.List.{listedOf, layList};
-ghost use Rattle.utils.specs.Parts.{paddingIn};
-ghost use Rattle.report.specs.Block.{parsedBlockOf, blockView};
-ghost use Rattle.report.specs.Report.{senderOf, senderView, reportNumbers, extensionIn};
+ghost use Rattle.utils.specs.Error.{parseRefusal, refusalIn, valueOr};
+ghost use Rattle.utils.specs.List.{listedOf};
+ghost use Rattle.report.specs.Block.{parsedBlockOf, blockView, layBlocks};
+ghost use Rattle.report.specs.Report.{senderOf, senderView, noSender, reportBody, reportBlocks};
 
-// The extension lies between the places extension and body, where the padding starts; padding is its length.
+// The extension lies between the places extension and body, where the padding starts.
 pub struct SenderReport {
     pub ssrc: u32,
     pub ntp_timestamp: u64,
@@ -23,7 +24,7 @@ pub struct SenderReport {
     pub n_reports: usize,
     pub extension: usize,
     pub body: usize,
-    pub padding: usize,
+    pub padding_len: usize,
 }
 
 pub enum ParsedSenderReport {
@@ -48,26 +49,70 @@ impl SenderReport {
 
     pub const PACKET_TYPE: u8 = 200;
 
-    pub fn parse(s: &[u8]) -> ParsedSenderReport
-        ensures { λ r. ⌜ senderOf r ≡ mapOk senderView (readAs SR (now (s .entry))) ⌝ }
+    // The length of the body; 0 where the packet is refused.
+    pub fn body_of(s: &[u8]) -> usize
+        ensures { λ r. ⌜ r ≡ valueOr 0 reportBody (readAs SR (now (s .entry))) ⌝ }
     {
-        let checked = utils::parser::check_packet(
+        let body = utils::parser::body_of(
             s,
             SenderReport::MIN_PACKET_LEN,
             SenderReport::PACKET_TYPE,
         );
-        let CheckedPacket::Body(body) = checked else {
-            return ParsedSenderReport::Refused(checked.refusal());
-        };
+        if body == 0 {
+            return 0;
+        }
+        let n_reports = utils::parser::parse_count(s) as usize;
+        if body < SenderReport::MIN_PACKET_LEN + ReportBlock::EXPECTED_SIZE * n_reports {
+            return 0;
+        }
+        body
+    }
+
+    // Why it is refused; NothingLeft where it is not.
+    pub fn why(s: &[u8]) -> RtcpParseError
+        ensures { λ r. ⌜ parseRefusal r ≡ refusalIn (readAs SR (now (s .entry))) ⌝ }
+    {
+        let actual = utils::parser::body_of(
+            s,
+            SenderReport::MIN_PACKET_LEN,
+            SenderReport::PACKET_TYPE,
+        );
+        if actual == 0 {
+            return utils::parser::why_header(
+                s,
+                SenderReport::MIN_PACKET_LEN,
+                SenderReport::PACKET_TYPE,
+            );
+        }
+        let n_reports = utils::parser::parse_count(s) as usize;
+        let expected = SenderReport::MIN_PACKET_LEN + ReportBlock::EXPECTED_SIZE * n_reports;
+        if actual < expected {
+            return RtcpParseError::Truncated { expected, actual };
+        }
+        RtcpParseError::NothingLeft
+    }
+
+    // All 0, where the packet is refused.
+    pub fn read(s: &[u8]) -> SenderReport
+        ensures { λ r. ⌜ r ≡ valueOr noSender senderView (readAs SR (now (s .entry))) ⌝ }
+    {
+        let body = SenderReport::body_of(s);
+        if body == 0 {
+            return SenderReport {
+                ssrc: 0,
+                ntp_timestamp: 0,
+                rtp_timestamp: 0,
+                packet_count: 0,
+                octet_count: 0,
+                n_reports: 0,
+                extension: 0,
+                body: 0,
+                padding_len: 0,
+            };
+        }
         let n_reports = utils::parser::parse_count(s) as usize;
         let extension = SenderReport::MIN_PACKET_LEN + ReportBlock::EXPECTED_SIZE * n_reports;
-        if body < extension {
-            return ParsedSenderReport::Refused(RtcpParseError::Truncated {
-                expected: extension,
-                actual: body,
-            });
-        }
-        ParsedSenderReport::Report(SenderReport {
+        SenderReport {
             ssrc: utils::parser::parse_ssrc(s),
             ntp_timestamp: utils::parser::u64_from_be_bytes(s, 8),
             rtp_timestamp: utils::parser::u32_from_be_bytes(s, 16),
@@ -76,19 +121,28 @@ impl SenderReport {
             n_reports,
             extension,
             body,
-            padding: s.len() - body,
-        })
+            padding_len: s.len() - body,
+        }
+    }
+
+    pub fn parse(s: &[u8]) -> ParsedSenderReport
+        ensures { λ r. ⌜ senderOf r ≡ mapOk senderView (readAs SR (now (s .entry))) ⌝ }
+    {
+        let report = SenderReport::read(s);
+        if report.body == 0 {
+            return ParsedSenderReport::Refused(SenderReport::why(&s[0..]));
+        }
+        ParsedSenderReport::Report(report)
     }
 
     // The block with an index, from 0.
     pub fn report_block(s: &[u8], i: usize) -> ParsedReportBlock
         ensures { λ r. ⌜ parsedBlockOf r ≡ mapOk blockView (readBlockAt SR (now (s .entry)) i) ⌝ }
     {
-        let parsed = SenderReport::parse(s);
-        let ParsedSenderReport::Report(report) = parsed else {
-            return ParsedReportBlock::Refused(parsed.refusal());
-        };
-        let n = report.n_reports;
+        if SenderReport::body_of(s) == 0 {
+            return ParsedReportBlock::Refused(SenderReport::why(&s[0..]));
+        }
+        let n = utils::parser::parse_count(s) as usize;
         if n <= i {
             return ParsedReportBlock::Refused(RtcpParseError::NothingLeft);
         }
@@ -96,39 +150,32 @@ impl SenderReport {
         ParsedReportBlock::Block(super::report_block::parse_block_unchecked(s, at))
     }
 
-    // Seven numbers for each block, in the record's order, into a lent list.
-    pub fn report_blocks(s: &[u8], blocks: &mut [u32]) -> Listed
-        ensures { λ r. ⌜ (listedOf r, now (blocks .exit)) ≡ layList (mapOk reportNumbers (readAs SR (now (s .entry)))) (now (blocks .entry)) ⌝ }
+    // All blocks, into three lent lists: a fraction and a loss for each, and the five words that follow.
+    pub fn report_blocks(
+        s: &[u8],
+        fractions: &mut [u8],
+        losses: &mut [u32],
+        words: &mut [u32],
+    ) -> Listed
+        ensures { λ r. ⌜ (listedOf r, now (fractions .exit), now (losses .exit), now (words .exit)) ≡ layBlocks (mapOk reportBlocks (readAs SR (now (s .entry)))) (now (fractions .entry)) (now (losses .entry)) (now (words .entry)) ⌝ }
     {
-        let parsed = SenderReport::parse(s);
-        let ParsedSenderReport::Report(report) = parsed else {
-            return Listed::Refused(parsed.refusal());
-        };
-        let n = report.n_reports;
-        super::report_block::list_blocks_unchecked(s, SenderReport::MIN_PACKET_LEN, n, blocks)
+        if SenderReport::body_of(s) == 0 {
+            return Listed::Refused(SenderReport::why(&s[0..]));
+        }
+        let n = utils::parser::parse_count(s) as usize;
+        list_blocks_unchecked(s, SenderReport::MIN_PACKET_LEN, n, fractions, losses, words)
     }
 
-    // The bytes after the blocks.
-    pub fn extension(s: &[u8]) -> &[u8]
-        ensures { λ r. ⌜ now r ≡ extensionIn (readAs SR (now (s .entry))) ⌝ }
+    // The bytes after the blocks, of the packet that was parsed.
+    pub fn extension(self, s: &[u8]) -> &[u8]
+        ensures { λ r. ⌜ now r ≡ take (self .body - self .extension) (drop (self .extension) (now (s .entry))) ⌝ }
     {
-        let parsed = SenderReport::parse(s);
-        let ParsedSenderReport::Report(report) = parsed else {
-            return &s[..0];
-        };
-        let start = report.extension;
-        let end = report.body;
-        &s[start..end]
+        utils::parser::between(s, self.extension, self.body)
     }
 
-    pub fn padding_bytes(s: &[u8]) -> &[u8]
-        ensures { λ r. ⌜ now r ≡ paddingIn (readAs SR (now (s .entry))) ⌝ }
+    pub fn padding_bytes(self, s: &[u8]) -> &[u8]
+        ensures { λ r. ⌜ now r ≡ take (self .«padding_len») (drop (self .body) (now (s .entry))) ⌝ }
     {
-        let parsed = SenderReport::parse(s);
-        let ParsedSenderReport::Report(report) = parsed else {
-            return &s[..0];
-        };
-        let start = report.body;
-        &s[start..]
+        utils::parser::part(s, self.body, self.padding_len)
     }
 }

@@ -1,21 +1,168 @@
--- The blocks of a report laid one after the other, and their losses, over any list of blocks: a turn of a loop takes the next one off.
+-- Report blocks: their losses, by the one that decides, and their bytes, laid one after the other. A turn of a loop takes the next one off.
 use Prim.Native.Nat.{ℕ, zero, suc, _+_, _-_, _*_, _/_, _%_, _<_, _≤_, _^_}
 use mathlib.Core.Path.{_≡_, refl, sym, ap, _∙_}
+use mathlib.Core.Bool.{Bool, true, false, _&&_}
 use mathlib.Core.List.{List, [], _∷_, _++_}
-use native.Mathlib.Nat.{add-zero, mod-eq-of-lt}
+use native.Mathlib.Nat.{add-zero, add-assoc}
+use native.Mathlib.Numerals.{add-one}
 use native.Mathlib.Omega.{arith}
-use borrow.Author.Tests.{le-leb, lt-leb}
-use lib.ListN.{length, drop, length-append, length-drop, drop-of-length-le}
-use Rattle.rfc3550.specs.Answer.{Answer, ok, refused, refusal, need, _>>_}
+use borrow.Author.Tests.{not-true, not-false, le-leb, lt-leb, leb-true, leb-false, eq-eqb, ne-eqb, eqb-true, eqb-false}
+use lib.ListN.{length, drop, getD, length-append, length-drop, drop-of-length-le}
+use lib.Seq.{drop-cons, drop-drop, getD-drop}
+use lib.Bits.{bitOr, or-add-and, and-le-l, and-le-r, or-lt}
+use lib.Dec.{leb, eqb}
+use Rattle.rfc3550.specs.Answer.{Answer, ok, refused, refusal, need, pick, _>>_}
 use Rattle.rfc3550.specs.Bytes.{be, put, store}
-use Rattle.rfc3550.specs.Loss.{lossBits, lossIn, lossShown, lossMost}
+use Rattle.rfc3550.specs.Loss.{Loss, lossBits, lossIn, lossShown, lossMost}
 use Rattle.rfc3550.specs.Packet.{Block, blockWidths, blockFields, blocksBytes}
-use Rattle.rfc3550.specs.Write.{lossTests}
-use Rattle.rfc3550.proofs.Answer.{need-inv}
+use Rattle.rfc3550.specs.Write.{BlockLists, lentBlocks, blocksLent, blocksAgree, lossTests}
+use Rattle.rfc3550.proofs.Answer.{and-inv}
 use Rattle.rfc3550.proofs.Bytes.{length-store}
-use Rattle.rfc3550.proofs.Loss.{lossIn-fits}
+use Rattle.rfc3550.proofs.Write.{length-lentBlocks}
+use Rattle.utils.proofs.WriterCases.{writer}
 use Rattle.utils.proofs.WriterStores.{store-nil, store-store, stores, be-cons, be-one}
-use Rattle.report_write.specs.Report.{lossesSize}
+use Rattle.report_write.specs.Report.{blockLists, blockGiven, laterLoss, decisiveLoss}
+
+-- ---- the loss that decides
+
+pub later-next : (x y : ℕ) (t : Bool) → t ≡ lossIn x → t ≡ true → y ≡ laterLoss x y
+unfolding laterLoss
+later-next x y t e q = sym (rw (← e, q))
+
+pub later-kept : (x y : ℕ) (t : Bool) → t ≡ lossIn x → t ≡ false → x ≡ laterLoss x y
+unfolding laterLoss
+later-kept x y t e q = sym (rw (← e, q))
+
+module _ (xs : List ℕ) where
+  pub decisive-start : decisiveLoss 0 (drop 0 xs) ≡ decisiveLoss 0 xs
+  decisive-start = refl
+
+  module _ (i x : ℕ) (w : decisiveLoss x (drop i xs) ≡ decisiveLoss 0 xs) where
+    pub decisive-again : (y : ℕ) → i < length xs → y ≡ laterLoss x (getD xs i 0) → decisiveLoss y (drop (i + 1) xs) ≡ decisiveLoss 0 xs
+    unfolding decisiveLoss
+    decisive-again y h e = rw (e, add-one) (rw (drop-cons xs i 0 h) at w)
+
+    pub decisive-done : length xs ≤ i → x ≡ decisiveLoss 0 xs
+    unfolding decisiveLoss
+    decisive-done h = let z : drop i xs ≡ [] = drop-of-length-le xs {i = i} h in rw z at w
+
+-- the bits of two fit exactly if both do
+or-most-l : (a b : ℕ) → a ≤ bitOr a b
+or-most-l a b =
+    let e = or-add-and a b in
+    let h = and-le-r a b in
+    omega arith
+
+or-most-r : (a b : ℕ) → b ≤ bitOr a b
+or-most-r a b =
+    let e = or-add-and a b in
+    let h = and-le-l a b in
+    omega arith
+
+merged-fits : (x y : ℕ) → lossIn (bitOr x y) ≡ lossIn (laterLoss x y)
+unfolding lossIn laterLoss
+merged-fits x y = go (leb x 16777215) refl (leb y 16777215) refl
+  where
+    go : (a : Bool) → leb x 16777215 ≡ a → (b : Bool) → leb y 16777215 ≡ b → leb (bitOr x y) 16777215 ≡ leb (pick a y x) 16777215
+    go false p b q = let f = leb-false x 16777215 p in let g = or-most-l x y in rw (p, lt-leb (bitOr x y) 16777215 (omega arith))
+    go true p false q = let f = leb-false y 16777215 q in let g = or-most-r x y in rw (q, lt-leb (bitOr x y) 16777215 (omega arith))
+    go true p true q = let f = leb-true x 16777215 p in let h = leb-true y 16777215 q in let g = or-lt 24 x y (omega arith) (omega arith) in rw (q, le-leb (bitOr x y) 16777215 (omega arith))
+
+-- what decides goes by whether the loss so far fits, and by it where it does not
+decisive-over : (x : ℕ) (xs : List ℕ) → lossIn x ≡ false → decisiveLoss x xs ≡ x
+unfolding decisiveLoss laterLoss
+decisive-over x [] h = refl
+decisive-over x (y ∷ ys) h = rw h (decisive-over x ys h)
+
+decisive-same : (x y : ℕ) (xs : List ℕ) → lossIn x ≡ lossIn y → lossIn (decisiveLoss x xs) ≡ lossIn (decisiveLoss y xs)
+unfolding decisiveLoss laterLoss
+decisive-same x y [] h = h
+decisive-same x y (z ∷ zs) h = go (lossIn x) (lossIn y) h (decisive-same x y zs h)
+  where
+    go : (a b : Bool) → a ≡ b → lossIn (decisiveLoss x zs) ≡ lossIn (decisiveLoss y zs) → lossIn (decisiveLoss (pick a z x) zs) ≡ lossIn (decisiveLoss (pick b z y) zs)
+    go true b p e = rw (← p)
+    go false b p e = rw (← p) e
+
+module _ (xs : List ℕ) where
+  pub merged-start : lossIn (decisiveLoss 0 (drop 0 xs)) ≡ lossIn (decisiveLoss 0 xs)
+  merged-start = refl
+
+  module _ (i x : ℕ) (w : lossIn (decisiveLoss x (drop i xs)) ≡ lossIn (decisiveLoss 0 xs)) where
+    pub merged-again : (y : ℕ) → i < length xs → y ≡ bitOr x (getD xs i 0) → lossIn (decisiveLoss y (drop (i + 1) xs)) ≡ lossIn (decisiveLoss 0 xs)
+    unfolding decisiveLoss
+    merged-again y h e =
+        rw (add-one) (decisive-same y (laterLoss x (getD xs i 0)) (drop (suc i) xs) (ap lossIn e ∙ merged-fits x (getD xs i 0)) ∙ (rw (drop-cons xs i 0 h) at w))
+
+    pub merged-done : length xs ≤ i → lossIn x ≡ lossIn (decisiveLoss 0 xs)
+    unfolding decisiveLoss
+    merged-done h = let z : drop i xs ≡ [] = drop-of-length-le xs {i = i} h in rw z at w
+
+-- one loss decides for all
+over-first : (x : ℕ) (xs : List ℕ) → (need (lossIn x) 17 (lossShown x) lossMost >> lossTests xs) ≡ need (lossIn (decisiveLoss x xs)) 17 (lossShown (decisiveLoss x xs)) lossMost
+unfolding lossTests decisiveLoss laterLoss need _>>_
+over-first x [] = go (lossIn x)
+  where
+    go : (t : Bool) → (need t 17 (lossShown x) lossMost >> ok tt) ≡ need t 17 (lossShown x) lossMost
+    go true = refl
+    go false = refl
+over-first x (y ∷ ys) = go (lossIn x) refl (over-first y ys)
+  where
+    go : (t : Bool) → lossIn x ≡ t → (need (lossIn y) 17 (lossShown y) lossMost >> lossTests ys) ≡ need (lossIn (decisiveLoss y ys)) 17 (lossShown (decisiveLoss y ys)) lossMost
+        → (need t 17 (lossShown x) lossMost >> (need (lossIn y) 17 (lossShown y) lossMost >> lossTests ys)) ≡ need (lossIn (decisiveLoss (pick t y x) ys)) 17 (lossShown (decisiveLoss (pick t y x) ys)) lossMost
+    go true p e = e
+    go false p e = rw (decisive-over x ys p, p)
+
+pub losses-decided : (xs : List ℕ) → lossTests xs ≡ need (lossIn (decisiveLoss 0 xs)) 17 (lossShown (decisiveLoss 0 xs)) lossMost
+unfolding lossIn need _>>_
+losses-decided xs = over-first 0 xs
+
+-- ---- the lists
+
+module _ (fs ls ws : List ℕ) where
+  pub lists-loss : (length ls ≡ length fs → ⊥) → false ≡ blocksAgree (blockLists fs ls ws)
+  lists-loss h = sym (rw (ne-eqb _ _ h))
+
+  module _ (h : length ls ≡ length fs) where
+    words-differ : (length ws ≡ 5 * length fs → ⊥) → false ≡ blocksAgree (blockLists fs ls ws)
+    words-differ q = sym (rw (eq-eqb _ _ h, ne-eqb _ _ q))
+
+    pub lists-odd : (length ws % 5 ≡ 0 → ⊥) → false ≡ blocksAgree (blockLists fs ls ws)
+    lists-odd q = words-differ (λ e. q (omega arith))
+
+    pub lists-words : length ws % 5 ≡ 0 → eqb (length ws / 5) (length fs) ≡ blocksAgree (blockLists fs ls ws)
+    lists-words q = go (eqb (length ws / 5) (length fs)) refl
+      where
+        go : (t : Bool) → eqb (length ws / 5) (length fs) ≡ t → t ≡ blocksAgree (blockLists fs ls ws)
+        go true e = let f = eqb-true (length ws / 5) (length fs) e in sym (rw (eq-eqb _ _ h, eq-eqb (length ws) (5 * length fs) (omega arith)))
+        go false e = words-differ (λ f. eqb-false (length ws / 5) (length fs) e (omega arith))
+
+  module _ (a : blocksAgree (blockLists fs ls ws) ≡ true) where
+    pub agree-losses : length ls ≡ length fs
+    agree-losses = eqb-true _ _ (and-inv (eqb (length ls) (length fs)) (eqb (length ws) (5 * length fs)) a .0)
+
+    pub agree-words : length ws ≡ 5 * length fs
+    agree-words = eqb-true _ _ (and-inv (eqb (length ls) (length fs)) (eqb (length ws) (5 * length fs)) a .1)
+
+-- the block of index i
+abbrev pub blockAt : List ℕ → List ℕ → List ℕ → ℕ → Block
+blockAt fs ls ws i = blockGiven (getD ws (i * 5) 0) (getD fs i 0) (getD ls i 0) (getD ws (i * 5 + 1) 0) (getD ws (i * 5 + 2) 0) (getD ws (i * 5 + 3) 0) (getD ws (i * 5 + 4) 0)
+
+at-lent : (i : ℕ) (fs ls ws : List ℕ) (d : Block) → i < length fs → getD (lentBlocks fs ls ws) i d ≡ blockAt fs ls ws i
+unfolding lentBlocks
+at-lent i [] ls ws d h = absurd (omega arith)
+at-lent zero (f ∷ fs) ls ws d h = refl
+at-lent (suc i) (f ∷ fs) ls ws d h =
+    let e : suc i * 5 ≡ 5 + i * 5 = omega arith in
+    let o : 1 + i ≡ suc i = omega arith in
+    at-lent i fs (drop 1 ls) (drop 5 ws) d (omega arith) ∙ rw (e, getD-drop 1 ls i 0, o, getD-drop 5 ws (i * 5) 0, getD-drop 5 ws (i * 5 + 1) 0, getD-drop 5 ws (i * 5 + 2) 0, getD-drop 5 ws (i * 5 + 3) 0, getD-drop 5 ws (i * 5 + 4) 0, add-assoc 5 (i * 5) 1, add-assoc 5 (i * 5) 2, add-assoc 5 (i * 5) 3, add-assoc 5 (i * 5) 4)
+
+-- what is left of the blocks, one on
+next-lent : (i : ℕ) (fs ls ws : List ℕ) → i < length fs → drop i (lentBlocks fs ls ws) ≡ blockAt fs ls ws i ∷ drop (i + 1) (lentBlocks fs ls ws)
+next-lent i fs ls ws h =
+    let n = length-lentBlocks fs ls ws in
+    rw (add-one i) (drop-cons (lentBlocks fs ls ws) i (blockAt fs ls ws i) (omega arith) ∙ ap (λ (b : Block). b ∷ drop (suc i) (lentBlocks fs ls ws)) (at-lent i fs ls ws (blockAt fs ls ws i) h))
+
+-- ---- one block
 
 abbrev blockBytes : Block → List ℕ
 blockBytes b = put blockWidths (blockFields b)
@@ -29,40 +176,36 @@ unfolding blocksBytes
 length-blocks [] = refl
 length-blocks (b ∷ bs) = rw (length-append (blockBytes b) (blocksBytes bs), length-block b, length-blocks bs) (omega arith)
 
--- ---- one block
-
-loss-word : (f x : ℕ) (r : List ℕ) → x ≤ 16777215 → be 4 (f * 16777216 + x) ++ r ≡ be 1 f ++ (be 3 (lossBits x) ++ r)
+loss-word : (f x : ℕ) (r : List ℕ) → be 4 (f * 16777216 + x % 16777216) ++ r ≡ be 1 f ++ (be 3 (lossBits x) ++ r)
 unfolding lossBits
-loss-word f x r h = rw (be-cons 3 f x (omega arith), be-one f, mod-eq-of-lt {n = x} {m = 16777216} (omega arith))
+loss-word f x r = rw (be-cons 3 f (x % 16777216) (omega arith), be-one f)
 
-pub block-laid : (at : ℕ) (b : Block) (l l₁ l₂ l₃ l₄ l₅ l₆ : List ℕ) → at + 24 ≤ length l → b .lost ≤ 16777215
-    → l₁ ≡ store at (be 4 (b .ssrc)) l → l₂ ≡ store (at + 4) (be 4 (b .fraction * 16777216 + b .lost)) l₁ → l₃ ≡ store (at + 8) (be 4 (b .sequence)) l₂
-    → l₄ ≡ store (at + 12) (be 4 (b .jitter)) l₃ → l₅ ≡ store (at + 16) (be 4 (b .lsr)) l₄ → l₆ ≡ store (at + 20) (be 4 (b .dlsr)) l₅ → l₆ ≡ store at (put blockWidths (blockFields b)) l
+pub block-laid : (at ssrc fraction lost sequence jitter lsr dlsr : ℕ) (l l₁ l₂ l₃ l₄ l₅ l₆ : List ℕ) → at + 24 ≤ length l
+    → l₁ ≡ store at (be 4 ssrc) l → l₂ ≡ store (at + 4) (be 4 (fraction * 16777216 + lost % 16777216)) l₁ → l₃ ≡ store (at + 8) (be 4 sequence) l₂
+    → l₄ ≡ store (at + 12) (be 4 jitter) l₃ → l₅ ≡ store (at + 16) (be 4 lsr) l₄ → l₆ ≡ store (at + 20) (be 4 dlsr) l₅ → l₆ ≡ store at (put blockWidths (blockFields (blockGiven ssrc fraction lost sequence jitter lsr dlsr))) l
 unfolding put be
-block-laid at b l l₁ l₂ l₃ l₄ l₅ l₆ h f e₁ e₂ e₃ e₄ e₅ e₆ =
-    e₆ ∙ rw (e₅, e₄, e₃, e₂, e₁) (stores at (be 4 (b .ssrc)) (be 4 (b .fraction * 16777216 + b .lost) ∷ be 4 (b .sequence) ∷ be 4 (b .jitter) ∷ be 4 (b .lsr) ∷ be 4 (b .dlsr) ∷ []) l h)
-    ∙ ap (λ (bs : List ℕ). store at (be 4 (b .ssrc) ++ bs) l) (loss-word (b .fraction) (b .lost) _ f)
+block-laid at ssrc fraction lost sequence jitter lsr dlsr l l₁ l₂ l₃ l₄ l₅ l₆ h e₁ e₂ e₃ e₄ e₅ e₆ =
+    e₆ ∙ rw (e₅, e₄, e₃, e₂, e₁) (stores at (be 4 ssrc) (be 4 (fraction * 16777216 + lost % 16777216) ∷ be 4 sequence ∷ be 4 jitter ∷ be 4 lsr ∷ be 4 dlsr ∷ []) l h)
+    ∙ ap (λ (bs : List ℕ). store at (be 4 ssrc ++ bs) l) (loss-word fraction lost _)
 
 -- ---- the blocks, one after the other
 
 pub record Blocks (at : ℕ) (bs : List Block) (l : List ℕ) (i : ℕ) (l₁ : List ℕ) : Type 0 where
   pub within : i ≤ length bs
   pub long : length l₁ ≡ length l
-  pub low : lossTests (drop i bs) ≡ ok tt
   pub rest : store (at + i * 24) (blocksBytes (drop i bs)) l₁ ≡ store at (blocksBytes bs) l
 
 module _ (at : ℕ) (bs : List Block) (l : List ℕ) where
-  pub blocks-start : lossTests bs ≡ ok tt → Blocks at bs l 0 l
-  blocks-start h = record { within = omega arith; long = refl; low = h; rest = rw add-zero }
+  pub blocks-start : Blocks at bs l 0 l
+  blocks-start = record { within = omega arith; long = refl; rest = rw add-zero }
 
-  module _ (i : ℕ) (l₁ : List ℕ) (w : Blocks at bs l i l₁) (b : Block) (next : drop i bs ≡ b ∷ drop (i + 1) bs) where
-    pub block-low : b .lost ≤ 16777215
-    unfolding lossTests
-    block-low = lossIn-fits _ (need-inv _ _ _ _ _ (rw next at (w .low)) .0)
+  module _ (i : ℕ) (l₁ : List ℕ) (w : Blocks at bs l i l₁) where
+    pub blocks-room : at + length bs * 24 ≤ length l → i < length bs → at + i * 24 + 24 ≤ length l₁
+    blocks-room f h = let g = w .long in omega arith
 
-    pub block-next : (l₂ : List ℕ) → at + length bs * 24 ≤ length l → i < length bs → l₂ ≡ store (at + i * 24) (put blockWidths (blockFields b)) l₁ → Blocks at bs l (i + 1) l₂
-    unfolding lossTests blocksBytes
-    block-next l₂ f h e =
+    pub block-next : (b : Block) → drop i bs ≡ b ∷ drop (i + 1) bs → (l₂ : List ℕ) → at + length bs * 24 ≤ length l → i < length bs → l₂ ≡ store (at + i * 24) (put blockWidths (blockFields b)) l₁ → Blocks at bs l (i + 1) l₂
+    unfolding blocksBytes
+    block-next b next l₂ f h e =
         let m : length (blocksBytes (drop (i + 1) bs)) ≡ (length bs - (i + 1)) * 24 = length-blocks (drop (i + 1) bs) ∙ ap (λ (k : ℕ). k * 24) (length-drop (i + 1) bs) in
         let lb = length-block b in
         let g = w .long in
@@ -71,28 +214,31 @@ module _ (at : ℕ) (bs : List Block) (l : List ℕ) where
         record {
           within = omega arith;
           long = ap length e ∙ length-store (at + i * 24) (blockBytes b) l₁ (omega arith) ∙ w .long;
-          low = need-inv _ _ _ _ _ (rw next at (w .low)) .1;
           rest = s ∙ (rw next at (w .rest));
         }
 
-  pub blocks-laid : (i : ℕ) (l₁ : List ℕ) → Blocks at bs l i l₁ → length bs ≤ i → l₁ ≡ store at (blocksBytes bs) l
-  unfolding blocksBytes
-  blocks-laid i l₁ w h =
-      let z : drop i bs ≡ [] = drop-of-length-le bs {i = i} h in
-      sym (store-nil (at + i * 24) l₁) ∙ (rw z at (w .rest))
+    pub blocks-laid : length bs ≤ i → l₁ ≡ store at (blocksBytes bs) l
+    unfolding blocksBytes
+    blocks-laid h =
+        let z : drop i bs ≡ [] = drop-of-length-le bs {i = i} h in
+        sym (store-nil (at + i * 24) l₁) ∙ (rw z at (w .rest))
 
--- ---- the losses
+module _ (at : ℕ) (fs ls ws l : List ℕ) where
+  pub lent-start : Blocks at (lentBlocks fs ls ws) l 0 l
+  lent-start = blocks-start at (lentBlocks fs ls ws) l
 
-module _ (size : ℕ) (bs : List Block) (i : ℕ) (w : lossesSize (drop i bs) size ≡ lossesSize bs size) where
-  module _ (b : Block) (next : drop i bs ≡ b ∷ drop (i + 1) bs) where
-    pub loss-over : 16777215 < b .lost → refused (refusal 17 (b .lost) 16777215) ≡ lossesSize bs size
-    unfolding lossesSize lossTests lossIn lossShown need _>>_
-    loss-over f = rw (next, lt-leb _ _ f) at w
+  module _ (i : ℕ) (l₁ : List ℕ) (w : Blocks at (lentBlocks fs ls ws) l i l₁) where
+    pub lent-room : at + length fs * 24 ≤ length l → i < length fs → at + i * 24 + 24 ≤ length l₁
+    lent-room f h = let n = length-lentBlocks fs ls ws in blocks-room at (lentBlocks fs ls ws) l i l₁ w (omega arith) (omega arith)
 
-    pub loss-next : b .lost ≤ 16777215 → lossesSize (drop (i + 1) bs) size ≡ lossesSize bs size
-    unfolding lossesSize lossTests lossIn lossShown need _>>_
-    loss-next f = rw (next, le-leb _ _ f) at w
+    pub lent-again : (l₂ : List ℕ) → at + length fs * 24 ≤ length l → i < length fs
+        → l₂ ≡ store (at + i * 24) (put blockWidths (blockFields (blockGiven (getD ws (i * 5) 0) (getD fs i 0) (getD ls i 0) (getD ws (i * 5 + 1) 0) (getD ws (i * 5 + 2) 0) (getD ws (i * 5 + 3) 0) (getD ws (i * 5 + 4) 0)))) l₁
+        → Blocks at (lentBlocks fs ls ws) l (i + 1) l₂
+    lent-again l₂ f h e =
+        let n = length-lentBlocks fs ls ws in
+        block-next at (lentBlocks fs ls ws) l i l₁ w (blockAt fs ls ws i) (next-lent i fs ls ws h) l₂ (omega arith) (omega arith) e
 
-  pub losses-end : length bs ≤ i → ok size ≡ lossesSize bs size
-  unfolding lossesSize lossTests _>>_
-  losses-end h = let z : drop i bs ≡ [] = drop-of-length-le bs {i = i} h in rw z at w
+    pub lent-done : length fs ≤ i → l₁ ≡ store at (blocksBytes (lentBlocks fs ls ws)) l
+    lent-done h = let n = length-lentBlocks fs ls ws in blocks-laid at (lentBlocks fs ls ws) l i l₁ w (omega arith)
+
+pub ruleset blocks = (writer, not-true, not-false, later-next, later-kept, decisive-start, decisive-again, decisive-done, merged-start, merged-again, merged-done, lists-loss, lists-odd, lists-words, agree-losses, agree-words, block-laid, lent-start, lent-room, lent-again, lent-done)

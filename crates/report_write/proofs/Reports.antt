@@ -1,329 +1,253 @@
 -- The cases of a report's size and bytes, over the reporter, each from what the code has tested or called.
-use Prim.Native.Nat.{ℕ, _+_, _-_, _*_, _/_, _%_, _≤_, _<_}
+use Prim.Native.Nat.{ℕ, _+_, _-_, _*_, _^_, _≤_, _<_}
 use mathlib.Core.Path.{_≡_, refl, sym, ap, _∙_}
 use mathlib.Core.Bool.{Bool, true, false}
 use mathlib.Core.List.{List, [], _∷_, _++_, append-nil}
-use native.Mathlib.Nat.{add-zero}
 use native.Mathlib.Omega.{arith}
+use borrow.Author.Needs.{needs}
 use borrow.Author.Tests.{le-leb, lt-leb, leb-true, not-true, not-false}
-use lib.ListN.{length, length-append}
+use lib.ListN.{length, take, drop, length-append}
 use lib.Dec.{leb}
-use Rattle.rfc3550.specs.Answer.{Answer, ok, refused, refusal, need, _>>_, _>>=_}
+use Rattle.rfc3550.specs.Answer.{Refusal, Answer, ok, refused, refusal, need, _>>_}
 use Rattle.rfc3550.specs.Bytes.{be, put, store}
-use Rattle.rfc3550.specs.Packet.{Block, Reporter, receiver, sender, report, blocksBytes, receiverWidths, senderWidths, reporterWidths, reporterFields, contentBytes, type, layout}
-use Rattle.rfc3550.specs.Write.{giveReport, packetGiven, paddingBytes, paddingOk, lossTests, ownTests, calculateSize}
-use Rattle.rfc3550.proofs.Answer.{need-inv, ok-injective, refused≢ok}
+use Rattle.rfc3550.specs.Loss.{lossIn, lossShown, lossMost}
+use Rattle.rfc3550.specs.Packet.{Block, Reporter, receiver, sender, report, blocksBytes, senderWidths, reporterWidths, reporterFields, contentBytes, type, layout}
+use Rattle.rfc3550.specs.Write.{BlockLists, blocksLent, giveReport, blocksAgree, packetGiven, paddingBytes, paddingOk, lossTests, ownTests, calculateSize, write}
+use Rattle.rfc3550.proofs.Answer.{need-inv}
 use Rattle.rfc3550.proofs.Bytes.{length-be, length-store}
-use Rattle.utils.specs.Writer.{writtenOf, header}
-use Rattle.utils.specs.declared.error.RtcpWriteError.{RtcpWriteError}
-use Rattle.utils.specs.declared.writer.Written.{Written}
-use Rattle.utils.specs.declared.writer.Written.the-variants.{Size, Refused}
-use Rattle.utils.proofs.WriterStores.{stores, store-nil}
-use Rattle.utils.proofs.WriterPackets.{writes, write-refused, write-short, write-done, padding-most, sized, size-ok, size-refused, parts-laid, header-long, header-last, packet-laid}
+use Rattle.rfc3550.proofs.Write.{length-lentBlocks}
+use Rattle.utils.specs.Error.{orZero}
+use Rattle.utils.specs.Writer.{header, sizeRefusal}
+use Rattle.utils.proofs.Parts.{lent-again}
+use Rattle.utils.proofs.Sizes.{size-why, write-why, size-came, size-is, write-room, write-laid}
+use Rattle.utils.proofs.WriterStores.{stores}
+use Rattle.utils.proofs.WriterPackets.{writes, padding-most, sized, size-ok, size-refused, parts-laid, header-long, packet-laid}
 use Rattle.report_write.specs.declared.sender.SenderInfo.{SenderInfo}
-use Rattle.report_write.specs.Report.{senderOf, blocksLent, fractionsIn, BothFit, Plain, PlainIf, flatOk, flatBlocks, sizeBlocks, writeBlocks, countSize, lossesSize, reportSize, flatSize, ReportFits, headLaid}
-use Rattle.report_write.proofs.Blocks.{length-blocks}
-use Rattle.report_write.proofs.Flat.{length-lent, odd-list, whole-list, flats}
+use Rattle.report_write.specs.Report.{senderOf, leastOf, blockLists, decisiveLoss, countedSize, listsSize, SizeOf, AnswerOf, WhyNone, WhyCount, ReportFits, headLaid}
+use Rattle.report_write.proofs.Blocks.{length-blocks, losses-decided}
 
--- ---- the size
+-- ---- the size by what decides
 
-module _ (least n k : ℕ) where
-  pub too-many : 31 < n → refused (refusal 18 n 31) ≡ countSize least n k
-  unfolding countSize need _>>_
-  too-many h = simp (lt-leb _ _ h)
+pub loss-told : (x : ℕ) → leb x 16777215 ≡ lossIn x
+unfolding lossIn
+loss-told x = refl
 
-  pub count-plain : n ≤ 31 → k ≡ 0 → ok (least + n * 24) ≡ countSize least n k
-  unfolding countSize need _>>_
-  count-plain h e = rw e (simp (le-leb _ _ h, add-zero))
+module _ (least n x k : ℕ) where
+  over-count : 31 < n → refused (refusal 18 n 31) ≡ countedSize least n x k
+  unfolding countedSize need _>>_
+  over-count h = simp (lt-leb _ _ h)
 
   module _ (h : n ≤ 31) (t : Bool) (e : t ≡ paddingOk k) where
-    pub bad-padding : t ≡ false → refused (refusal 11 k 0) ≡ countSize least n k
-    unfolding countSize need _>>_
+    bad-padding : t ≡ false → refused (refusal 11 k 0) ≡ countedSize least n x k
+    unfolding countedSize need _>>_
     bad-padding q = simp (le-leb _ _ h, ← e, q)
 
-    pub count-fine : t ≡ true → ok (least + n * 24 + k) ≡ countSize least n k
-    unfolding countSize need _>>_
-    count-fine q = simp (le-leb _ _ h, ← e, q)
+    module _ (q : t ≡ true) (u : Bool) (f : u ≡ lossIn x) where
+      over-loss : u ≡ false → refused (refusal 17 x 16777215) ≡ countedSize least n x k
+      unfolding countedSize lossShown need _>>_
+      over-loss z = simp (le-leb _ _ h, ← e, q, ← f, z)
 
-module _ (least : ℕ) (bs : List Block) (k : ℕ) (w : Written) (e : writtenOf w ≡ countSize least (length bs) k) where
-  pub count-refused : (x : RtcpWriteError) → w ≡ Refused x → writtenOf w ≡ reportSize least bs k
-  unfolding reportSize _>>=_
-  count-refused x q = simp (← e, q)
+      counted : u ≡ true → ok (least + n * 24 + k) ≡ countedSize least n x k
+      unfolding countedSize need _>>_
+      counted z = simp (le-leb _ _ h, ← e, q, ← f, z)
 
-  pub count-sized : (m : ℕ) (v : Written) → w ≡ Size m → writtenOf v ≡ lossesSize bs m → writtenOf v ≡ reportSize least bs k
-  unfolding reportSize _>>=_
-  count-sized m v q f = f ∙ sym (simp (← e, q))
+-- the number and why of each
+module _ (n x k : ℕ) where
+  pub count-none : (least : ℕ) → 31 < n → 0 ≡ orZero (countedSize least n x k)
+  count-none least h = ap orZero (over-count least n x k h)
 
--- ---- of a flat list
+  pub count-why : 31 < n → WhyCount n x k (refusal 18 n 31)
+  count-why h = record { of = λ least. ap sizeRefusal (over-count least n x k h) }
 
-module _ (xs : List ℕ) where
-  pub flat-ok : flatOk xs ≡ true → flatBlocks xs ≡ ok (blocksLent xs)
-  unfolding flatBlocks need _>>_
-  flat-ok e = simp e
+  module _ (h : n ≤ 31) (t : Bool) (e : t ≡ paddingOk k) where
+    pub padding-none : (least : ℕ) → t ≡ false → 0 ≡ orZero (countedSize least n x k)
+    padding-none least q = ap orZero (bad-padding least n x k h t e q)
 
-  pub flat-refused : flatOk xs ≡ false → flatBlocks xs ≡ refused (refusal 24 0 0)
-  unfolding flatBlocks need _>>_
-  flat-refused e = simp e
+    pub padding-why : t ≡ false → WhyCount n x k (refusal 11 k 0)
+    padding-why q = record { of = λ least. ap sizeRefusal (bad-padding least n x k h t e q) }
 
-  module _ (least k : ℕ) where
-    pub odd-lent : (length xs % 7 ≡ 0 → ⊥) → refused (refusal 24 0 0) ≡ flatSize least (flatBlocks xs) k
-    unfolding flatSize _>>=_
-    odd-lent h = sym (rw (flat-refused (sym (odd-list xs h))))
+    module _ (q : t ≡ true) (u : Bool) (f : u ≡ lossIn x) where
+      pub loss-none : (least : ℕ) → u ≡ false → 0 ≡ orZero (countedSize least n x k)
+      loss-none least z = ap orZero (over-loss least n x k h t e q u f z)
 
-    module _ (z : length xs % 7 ≡ 0) (t : Bool) where
-      pub fraction-over : t ≡ fractionsIn (blocksLent xs) → t ≡ false → refused (refusal 24 0 0) ≡ flatSize least (flatBlocks xs) k
-      unfolding flatSize _>>=_
-      fraction-over e q = sym (rw (flat-refused (sym (whole-list xs t z e) ∙ q)))
+      pub loss-why : u ≡ false → WhyCount n x k (refusal 17 x 16777215)
+      loss-why z = record { of = λ least. ap sizeRefusal (over-loss least n x k h t e q u f z) }
 
-      module _ (q : t ≡ true) (w : Written) (f : writtenOf w ≡ countSize least (length xs / 7) k) where
-        counted : writtenOf w ≡ countSize least (length (blocksLent xs)) k
-        counted = rw (length-lent xs) f
+      pub counted-size : (least : ℕ) → u ≡ true → least + n * 24 + k ≡ orZero (countedSize least n x k)
+      counted-size least z = ap orZero (counted least n x k h t e q u f z)
 
-        pub flat-count-refused : t ≡ fractionsIn (blocksLent xs) → (x : RtcpWriteError) → w ≡ Refused x → writtenOf w ≡ flatSize least (flatBlocks xs) k
-        unfolding flatSize _>>=_
-        flat-count-refused e x p = rw (flat-ok (sym (whole-list xs t z e) ∙ q)) (count-refused least (blocksLent xs) k w counted x p)
+      pub counted-why : u ≡ true → WhyCount n x k (refusal 22 0 0)
+      counted-why z = record { of = λ least. ap sizeRefusal (counted least n x k h t e q u f z) }
 
-        pub flat-count-sized : t ≡ fractionsIn (blocksLent xs) → (m : ℕ) (v : Written) → w ≡ Size m → writtenOf v ≡ lossesSize (blocksLent xs) m → writtenOf v ≡ flatSize least (flatBlocks xs) k
-        unfolding flatSize _>>=_
-        flat-count-sized e m v p g = rw (flat-ok (sym (whole-list xs t z e) ∙ q)) (count-sized least (blocksLent xs) k w counted m v p g)
+  pub counted-in : (least : ℕ) (t : Bool) → least < 256 → n ≤ 31 → t ≡ paddingOk k → t ≡ true → least + n * 24 + k < 2 ^ 64
+  counted-in least t h f e q = let m = padding-most t k e q in omega arith
 
-    -- where every fraction and every loss fit, the count and the padding decide
-    pub flat-count : length xs % 7 ≡ 0 → BothFit xs → (w : Written) → writtenOf w ≡ countSize least (length xs / 7) k → writtenOf w ≡ flatSize least (flatBlocks xs) k
-    unfolding flatSize reportSize lossesSize _>>=_ _>>_
-    flat-count z b w f =
-        let o : flatOk xs ≡ true = sym (whole-list xs true z (sym (b .fractions))) in
-        let c : writtenOf w ≡ countSize least (length (blocksLent xs)) k = rw (length-lent xs) f in
-        rw (flat-ok o) (c ∙ go (countSize least (length (blocksLent xs)) k) (lossTests (blocksLent xs)) (b .losses))
-      where
-        go : (a : Answer ℕ) (c : Answer (Unit {0})) → c ≡ ok tt → a ≡ (a >>= (λ (n : ℕ). c >> ok n))
-        go (ok n) c h = sym (rw h)
-        go (refused x) c h = refl
+pub ruleset counts = (needs, not-true, not-false, loss-told, count-none, count-why, padding-none, padding-why, loss-none, loss-why, counted-size, counted-why, counted-in)
+
+-- ---- of lent lists
+
+-- a number goes by whether the loss fits, not by the loss
+number-same : (least n x y k : ℕ) → lossIn x ≡ lossIn y → orZero (countedSize least n x k) ≡ orZero (countedSize least n y k)
+unfolding countedSize need _>>_
+number-same least n x y k e = rw e (go (leb n 31) (paddingOk k) (lossIn y))
+  where
+    go : (a b c : Bool) → orZero (need a 18 n 31 >> need b 11 k 0 >> need c 17 (lossShown x) lossMost >> ok (least + n * 24 + k)) ≡ orZero (need a 18 n 31 >> need b 11 k 0 >> need c 17 (lossShown y) lossMost >> ok (least + n * 24 + k))
+    go false b c = refl
+    go true false c = refl
+    go true true false = refl
+    go true true true = refl
+
+module _ (l : BlockLists) (k : ℕ) (t : Bool) (a : t ≡ blocksAgree l) where
+  lists-counted : t ≡ true → (least : ℕ) → countedSize least (length (l .fractions)) (decisiveLoss 0 (l .losses)) k ≡ listsSize least l k
+  unfolding listsSize need _>>_
+  lists-counted q least = sym (rw (← a, q))
+
+  pub lists-none : (least : ℕ) → t ≡ false → 0 ≡ orZero (listsSize least l k)
+  unfolding listsSize need _>>_
+  lists-none least q = sym (rw (← a, q))
+
+  pub lists-size : (least x n : ℕ) → t ≡ true → lossIn x ≡ lossIn (decisiveLoss 0 (l .losses)) → n ≡ orZero (countedSize least (length (l .fractions)) x k) → n ≡ orZero (listsSize least l k)
+  lists-size least x n q f e = e ∙ number-same least (length (l .fractions)) x (decisiveLoss 0 (l .losses)) k f ∙ ap orZero (lists-counted q least)
 
 -- ---- over the reporter
 
-module _ (r : Reporter) (least : ℕ) (q : least ≡ 4 + length (put (reporterWidths r) (reporterFields r))) where
-  content-length : (bs : List Block) → 4 + length (contentBytes (report r bs [])) ≡ least + length bs * 24
+reporter-least : (r : Reporter) → leastOf r ≡ 4 + length (put (reporterWidths r) (reporterFields r))
+unfolding put be
+reporter-least (receiver ssrc) = refl
+reporter-least (sender ssrc ntp rtp packets octets) = refl
+
+least-most : (r : Reporter) → leastOf r ≤ 28
+least-most (receiver ssrc) = omega arith
+least-most (sender ssrc ntp rtp packets octets) = omega arith
+
+module _ (r : Reporter) (l : BlockLists) where
+  content-length : 4 + length (contentBytes (report r (blocksLent l) [])) ≡ leastOf r + length (l .fractions) * 24
   unfolding contentBytes
-  content-length bs = simp (append-nil, length-append) (omega (arith, length-blocks bs))
+  content-length = simp (append-nil, length-append) (omega (arith, reporter-least r, length-blocks (blocksLent l), length-lentBlocks (l .fractions) (l .losses) (l .words)))
 
-  pub report-size : least ≤ 28 → (bs : List Block) (k : ℕ) → reportSize least bs k ≡ calculateSize (giveReport r bs k)
-  unfolding reportSize countSize lossesSize ownTests need _>>_ _>>=_
-  report-size low bs k = go (leb (length bs) 31) refl (paddingOk k) refl (lossTests bs) refl
-    where
-      go : (x : Bool) → leb (length bs) 31 ≡ x → (y : Bool) → paddingOk k ≡ y → (z : Answer (Unit {0})) → lossTests bs ≡ z → reportSize least bs k ≡ calculateSize (giveReport r bs k)
-      go false a y b z c = simp a (size-refused (giveReport r bs k) (simp a))
-      go true a false b z c = simp (a, b) (size-refused (giveReport r bs k) (simp (a, b)))
-      go true a true b (refused z) c = simp (a, b, c) (size-refused (giveReport r bs k) (simp (a, b, c)))
-      go true a true b (ok tt) c =
-          let n : length bs ≤ 31 = leb-true _ _ a in
-          let m : k ≤ 252 = padding-most _ k refl b in
-          simp (a, b, c) (size-ok (giveReport r bs k) (least + length bs * 24 + k) (simp (a, b, c)) (omega (arith, content-length bs)) (omega arith))
+  module _ (k : ℕ) where
+    pub lists-report : listsSize (leastOf r) l k ≡ calculateSize (giveReport r l k)
+    unfolding listsSize countedSize ownTests need _>>_
+    lists-report = go (blocksAgree l) refl (leb (length (l .fractions)) 31) refl (paddingOk k) refl (lossIn (decisiveLoss 0 (l .losses))) refl
+      where
+        go : (a : Bool) → blocksAgree l ≡ a → (b : Bool) → leb (length (l .fractions)) 31 ≡ b → (c : Bool) → paddingOk k ≡ c → (d : Bool) → lossIn (decisiveLoss 0 (l .losses)) ≡ d → listsSize (leastOf r) l k ≡ calculateSize (giveReport r l k)
+        go false e b f c g d h = simp e (size-refused (giveReport r l k) (simp e))
+        go true e false f c g d h = simp (e, f) (size-refused (giveReport r l k) (simp (e, f)))
+        go true e true f false g d h = simp (e, f, g) (size-refused (giveReport r l k) (simp (e, f, g)))
+        go true e true f true g false h = simp (e, f, g, h) (size-refused (giveReport r l k) (simp (e, f, g, losses-decided (l .losses), h)))
+        go true e true f true g true h =
+            let n : length (l .fractions) ≤ 31 = leb-true _ _ f in
+            let m : k ≤ 252 = padding-most _ k refl g in
+            simp (e, f, g, h) (size-ok (giveReport r l k) (leastOf r + length (l .fractions) * 24 + k) (simp (e, f, g, losses-decided (l .losses), h)) (omega (arith, content-length)) (omega (arith, least-most r)))
 
-  pub report-fits : (bs : List Block) (k : ℕ) (n space : ℕ) → calculateSize (giveReport r bs k) ≡ ok n → n ≤ space → ReportFits least (length bs) bs k n space
-  unfolding ownTests
-  report-fits bs k n space e h =
-      let z = sized (giveReport r bs k) n e in
-      let a = need-inv _ _ _ _ _ (z .own) in
-      let b = need-inv _ _ _ _ _ (a .1) in
+module _ (l : BlockLists) (k : ℕ) (t : Bool) (a : t ≡ blocksAgree l) where
+  pub agree-why : t ≡ false → WhyNone l k (refusal 24 0 0)
+  unfolding listsSize need _>>_
+  agree-why q = record { of = λ r. rw (← lists-report r l k, ← a, q) }
+
+  pub lists-why : (x : ℕ) (v : Refusal) → t ≡ true → x ≡ decisiveLoss 0 (l .losses) → WhyCount (length (l .fractions)) x k v → WhyNone l k v
+  lists-why x v q f h =
       record {
-        many = refl;
-        count-fits = leb-true _ _ (a .0);
-        padding = padding-most _ k refl (b .0);
-        losses = b .1;
-        size = z .is ∙ omega (arith, content-length bs);
-        most = z .most;
-        room = h;
+        of =
+            λ r. h .of (leastOf r) ∙ ap (λ (y : ℕ). sizeRefusal (countedSize (leastOf r) (length (l .fractions)) y k)) f
+            ∙ ap sizeRefusal (lists-counted l k t a q (leastOf r) ∙ lists-report r l k);
       }
 
-  pub report-laid : (count : ℕ) (bs : List Block) (k t size : ℕ) (l l₂ l₃ l₄ : List ℕ) → t ≡ type (report r bs []) → ReportFits least count bs k size (length l)
-      → l₂ ≡ headLaid r t k count size l → l₃ ≡ store least (blocksBytes bs) l₂ → l₄ ≡ store (size - k) (paddingBytes k) l₃
-      → l₄ ≡ store 0 (layout (packetGiven (giveReport r bs k))) l
-  unfolding contentBytes
-  report-laid count bs k t size l l₂ l₃ l₄ u f e₂ e₃ e₄ =
-      let z = f .size in
-      let m = f .room in
-      let n = f .many in
-      let c = content-length bs in
-      let b = length-blocks bs in
-      let ln = header-long k count t size l (store 0 (header k count t size) l) (omega arith) refl in
-      let p = parts-laid 4 least (put (reporterWidths r) (reporterFields r)) (blocksBytes bs) (store 0 (header k count t size) l) l₂ l₃ e₂ e₃ (omega arith) (omega arith) in
-      packet-laid (report r bs []) k size (size - k) l (store 0 (header k count t size) l) l₃ l₄ (omega arith) m (omega arith) (rw (n, ← u)) (rw append-nil p) e₄
+pub report-size : (least n : ℕ) (l : BlockLists) (k : ℕ) → n ≡ orZero (listsSize least l k) → SizeOf least l k n
+report-size least n l k h = record { of = λ r e. h ∙ ap (λ (m : ℕ). orZero (listsSize m l k)) (sym e) ∙ ap orZero (lists-report r l k) }
 
--- ---- a report of a flat list
+-- what an accepted size leaves known
+pub sized-fits : (r : Reporter) (l : BlockLists) (k n space : ℕ) → calculateSize (giveReport r l k) ≡ ok n → n ≤ space → ReportFits (leastOf r) l k n space
+unfolding ownTests
+sized-fits r l k n space f h =
+    let z = sized (giveReport r l k) n f in
+    let a = need-inv _ _ _ _ _ (z .own) in
+    let b = need-inv _ _ _ _ _ (a .1) in
+    let c = need-inv _ _ _ _ _ (b .1) in
+    record {
+      agree = a .0;
+      count = leb-true _ _ (b .0);
+      padding = padding-most _ k refl (c .0);
+      size = z .is ∙ omega (arith, content-length r l);
+      most = z .most;
+      room = h;
+    }
 
--- what has a size has lists that agree
-accepted-if : (r : Reporter) (xs : List ℕ) (k : ℕ) (w : Written) (n : ℕ) → writtenOf w ≡ sizeBlocks r (flatBlocks xs) k → w ≡ Size n → (t : Bool) → flatOk xs ≡ t → flatOk xs ≡ true
-unfolding sizeBlocks _>>=_
-accepted-if r xs k w n e p true f = f
-accepted-if r xs k w n e p false f = absurd (refused≢ok (sym (rw (flat-refused xs f, p) at e)))
+-- what a size, or 0 and why, say of the report
+module _ (least n : ℕ) (l : BlockLists) (k : ℕ) (h : SizeOf least l k n) where
+  module _ (z : n ≡ 0) (v : Refusal) (w : WhyNone l k v) where
+    pub report-refused : AnswerOf least l k (refused v)
+    report-refused = record { of = λ r e. size-why (giveReport r l k) n (h .of r e) v z (w .of r) }
 
-pub flat-accepted : (r : Reporter) (xs : List ℕ) (k : ℕ) (w : Written) (n : ℕ) → writtenOf w ≡ sizeBlocks r (flatBlocks xs) k → w ≡ Size n → flatOk xs ≡ true
-flat-accepted r xs k w n e p = accepted-if r xs k w n e p (flatOk xs) refl
+    pub report-why : (r : Reporter) (s : List ℕ) → leastOf r ≡ least → (refused v, s) ≡ write (giveReport r l k) s
+    report-why r s e = write-why (giveReport r l k) n (h .of r e) v s z (w .of r)
 
-module _ (r : Reporter) (least : ℕ) (q : least ≡ 4 + length (put (reporterWidths r) (reporterFields r))) (low : least ≤ 28) (xs : List ℕ) (k : ℕ) where
-  flat-size : (w : Written) → writtenOf w ≡ flatSize least (flatBlocks xs) k → writtenOf w ≡ sizeBlocks r (flatBlocks xs) k
-  unfolding flatSize sizeBlocks
-  flat-size w e = e ∙ ap (λ (f : List Block → Answer ℕ). flatBlocks xs >>= f) (λ i bs. report-size r least q low bs k i)
+  module _ (z : n ≡ 0 → ⊥) where
+    pub report-sized : AnswerOf least l k (ok n)
+    report-sized = record { of = λ r e. size-is (giveReport r l k) n (h .of r e) z }
 
-  module _ (w : Written) (n : ℕ) (e : writtenOf w ≡ sizeBlocks r (flatBlocks xs) k) (p : w ≡ Size n) where
-    flat-sized : calculateSize (giveReport r (blocksLent xs) k) ≡ ok n
-    unfolding sizeBlocks _>>=_
-    flat-sized = sym (rw (flat-ok xs (flat-accepted r xs k w n e p), p) at e)
+    report-fits : (space : ℕ) (r : Reporter) → leastOf r ≡ least → n ≤ space → ReportFits least l k n space
+    report-fits space r e f = rw e at (sized-fits r l k n space (size-came (giveReport r l k) n (h .of r e) z) f)
 
-    flat-fits : (space : ℕ) → n ≤ space → ReportFits least (length xs / 7) (blocksLent xs) k n space
-    flat-fits space h =
-        let f = report-fits r least q (blocksLent xs) k n space flat-sized h in
-        let m = length-lent xs in
-        let z = f .size in
-        let c = f .count-fits in
-        record { many = m; count-fits = omega arith; padding = f .padding; losses = f .losses; size = omega arith; most = f .most; room = h }
+    module _ (r : Reporter) (s : List ℕ) (e : leastOf r ≡ least) where
+      pub report-room : length s < n → (refused (refusal 10 n 0), s) ≡ write (giveReport r l k) s
+      report-room f = write-room (giveReport r l k) n (h .of r e) z s f
 
-module _ (r : Reporter) (xs : List ℕ) (k : ℕ) (w : Written) (l : List ℕ) (h : writtenOf w ≡ sizeBlocks r (flatBlocks xs) k) where
-  -- where a size is refused, the lists are or the report is
-  pub flat-write-refused : (e : RtcpWriteError) → w ≡ Refused e → (writtenOf w, l) ≡ writeBlocks r (flatBlocks xs) k l
-  unfolding sizeBlocks writeBlocks _>>=_
-  flat-write-refused e q = go (flatBlocks xs) refl
-    where
-      go : (a : Answer (List Block)) → flatBlocks xs ≡ a → (writtenOf w, l) ≡ writeBlocks r (flatBlocks xs) k l
-      go (ok bs) f = rw f (write-refused (giveReport r bs k) w l (rw f at h) e q)
-      go (refused x) f = rw f (ap (λ (a : Answer ℕ). (a, l)) (rw f at h))
+      pub report-done : (s₁ : List ℕ) → n ≤ length s → s₁ ≡ store 0 (layout (packetGiven (giveReport r l k))) s → (ok n, s₁) ≡ write (giveReport r l k) s
+      report-done s₁ f q = write-laid (giveReport r l k) n (h .of r e) z s s₁ f q
 
-  module _ (n : ℕ) (q : w ≡ Size n) where
-    fine : flatOk xs ≡ true
-    fine = flat-accepted r xs k w n h q
+module _ (n : ℕ) (l : BlockLists) (k space : ℕ) where
+  pub receiver-fits : SizeOf 8 l k n → (n ≡ 0 → ⊥) → n ≤ space → ReportFits 8 l k n space
+  receiver-fits h z f = report-fits 8 n l k h z space (receiver 0) refl f
 
-    agreed : writtenOf w ≡ calculateSize (giveReport r (blocksLent xs) k)
-    unfolding sizeBlocks _>>=_
-    agreed = rw (flat-ok xs fine) at h
+  pub sender-fits : SizeOf 28 l k n → (n ≡ 0 → ⊥) → n ≤ space → ReportFits 28 l k n space
+  sender-fits h z f = report-fits 28 n l k h z space (sender 0 0 0 0 0) refl f
 
-    pub flat-write-short : length l < n → (refused (refusal 10 n 0), l) ≡ writeBlocks r (flatBlocks xs) k l
-    unfolding writeBlocks
-    flat-write-short f = rw (flat-ok xs fine) (write-short (giveReport r (blocksLent xs) k) w l agreed n q f)
+-- lists lent again are the same
+pub why-again : (fs ls ws : List ℕ) (k : ℕ) (v : Refusal) → WhyNone (blockLists (take (length fs - 0) (drop 0 fs)) (take (length ls - 0) (drop 0 ls)) (take (length ws - 0) (drop 0 ws))) k v → WhyNone (blockLists fs ls ws) k v
+why-again fs ls ws k v w = rw (lent-again fs, lent-again ls, lent-again ws) at w
 
-    pub flat-write-done : (l₁ : List ℕ) → n ≤ length l → l₁ ≡ store 0 (layout (packetGiven (giveReport r (blocksLent xs) k))) l → (ok n, l₁) ≡ writeBlocks r (flatBlocks xs) k l
-    unfolding writeBlocks
-    flat-write-done l₁ f e = rw (flat-ok xs fine) (write-done (giveReport r (blocksLent xs) k) w l agreed n l₁ q f e)
+-- ---- the bytes
 
--- ---- a plain report
+pub padding-fits : (least : ℕ) (l : BlockLists) (k n space m : ℕ) → ReportFits least l k n space → m ≡ space → (k ≤ 252) × (n - k + k ≤ m)
+padding-fits least l k n space m w e = let s = w .size in let o = w .room in (w .padding, omega arith)
 
-module _ (least : ℕ) (xs : List ℕ) (k space : ℕ) where
-  pub plain-not : PlainIf least xs k 0 space
-  plain-not = record { holds = λ h. absurd (omega arith) }
-
-  pub plain-is : k ≡ 0 → length xs ≤ 217 → length xs % 7 ≡ 0 → least + length xs / 7 * 24 ≤ space → (t : Bool) → (t ≡ true → BothFit xs) → t ≡ true → PlainIf least xs k (least + length xs / 7 * 24) space
-  plain-is e h z s t f q = record { holds = λ o. record { none = e; even = z; few = omega arith; fit = f q; size = refl; room = s } }
-
-module _ (r : Reporter) (least : ℕ) (q : least ≡ 4 + length (put (reporterWidths r) (reporterFields r))) (low : least ≤ 28) (xs : List ℕ) (k n space : ℕ) (f : Plain least xs k n space) where
-  plain-size : ok n ≡ sizeBlocks r (flatBlocks xs) k
-  plain-size = flat-size r least q low xs k (Size n) (flat-count xs least k (f .even) (f .fit) (Size n) (ap (λ (m : ℕ). ok m) (f .size) ∙ count-plain least (length xs / 7) k (f .few) (f .none)))
-
-  plain-fits : ReportFits least (length xs / 7) (blocksLent xs) k n space
-  plain-fits = flat-fits r least q low xs k (Size n) n plain-size refl space (f .room)
-
-  plain-fine : flatOk xs ≡ true
-  plain-fine = flat-accepted r xs k (Size n) n plain-size refl
-
-  plain-head : (length xs / 7 ≤ 31) × (least ≤ n) × (n ≤ 262144) × (n ≤ space)
-  plain-head = let s = f .size in (f .few, omega arith, plain-fits .most, f .room)
-
-module _ (r : Reporter) (least : ℕ) (q : least ≡ 4 + length (put (reporterWidths r) (reporterFields r))) (low : least ≤ 28) (xs : List ℕ) (k n : ℕ) (l : List ℕ) (f : Plain least xs k n (length l)) where
-  plain-room : (m : ℕ) → m ≡ length l → (flatOk xs ≡ true) × (least + length xs / 7 * 24 ≤ m) × (lossTests (blocksLent xs) ≡ ok tt)
-  plain-room m e = let s = f .size in let o = f .room in (plain-fine r least q low xs k n (length l) f, omega arith, f .fit .losses)
-
-  plain-done : (t : ℕ) (l₁ l₂ : List ℕ) → t ≡ type (report r (blocksLent xs) []) → l₁ ≡ headLaid r t 0 (length xs / 7) n l → l₂ ≡ store least (blocksBytes (blocksLent xs)) l₁ → (ok n, l₂) ≡ writeBlocks r (flatBlocks xs) k l
-  plain-done t l₁ l₂ u e₁ e₂ =
-      let z = f .none in
-      let g = plain-fits r least q low xs k n (length l) f in
-      let p : l₂ ≡ store (n - 0) (paddingBytes 0) l₂ = sym (store-nil (n - 0) l₂) in
-      let d = report-laid r least q (length xs / 7) (blocksLent xs) 0 t n l l₁ l₂ l₂ u (rw z at g) e₁ e₂ p in
-      flat-write-done r xs k (Size n) l (plain-size r least q low xs k n (length l) f) n refl l₂ (f .room) (rw z d)
-
--- ---- RR
-
-module _ (ssrc : ℕ) where
-  pub receiver-least : 8 ≡ 4 + length (put receiverWidths (ssrc ∷ []))
-  unfolding put be
-  receiver-least = refl
-
-  pub receiver-head : (k count size : ℕ) (l l₁ l₂ : List ℕ) → 8 ≤ length l → l₁ ≡ store 4 (be 4 ssrc) l → l₂ ≡ store 0 (header k count 201 size) l₁ → l₂ ≡ headLaid (receiver ssrc) 201 k count size l
-  unfolding put
-  receiver-head k count size l l₁ l₂ h e f = header-last k count 201 size (be 4 ssrc) l l₁ l₂ (omega (arith, length-be 4 ssrc)) e f ∙ rw append-nil
-
-  module _ (xs : List ℕ) (k : ℕ) where
-    pub receiver-size : (w : Written) → writtenOf w ≡ flatSize 8 (flatBlocks xs) k → writtenOf w ≡ sizeBlocks (receiver ssrc) (flatBlocks xs) k
-    receiver-size = flat-size (receiver ssrc) 8 receiver-least (omega arith) xs k
-
-    module _ (w : Written) (n : ℕ) (e : writtenOf w ≡ sizeBlocks (receiver ssrc) (flatBlocks xs) k) (p : w ≡ Size n) where
-      pub receiver-agree : flatOk xs ≡ true
-      receiver-agree = flat-accepted (receiver ssrc) xs k w n e p
-
-      pub receiver-fits : (space : ℕ) → n ≤ space → ReportFits 8 (length xs / 7) (blocksLent xs) k n space
-      receiver-fits = flat-fits (receiver ssrc) 8 receiver-least (omega arith) xs k w n e p
-
-    module _ (n : ℕ) (l : List ℕ) (f : PlainIf 8 xs k n (length l)) (h : 0 < n) where
-      pub receiver-plain-head : (length xs / 7 ≤ 31) × (8 ≤ n) × (n ≤ 262144) × (n ≤ length l)
-      receiver-plain-head = plain-head (receiver ssrc) 8 receiver-least (omega arith) xs k n (length l) (f .holds h)
-
-      pub receiver-plain-room : (m : ℕ) → m ≡ length l → (flatOk xs ≡ true) × (8 + length xs / 7 * 24 ≤ m) × (lossTests (blocksLent xs) ≡ ok tt)
-      receiver-plain-room = plain-room (receiver ssrc) 8 receiver-least (omega arith) xs k n l (f .holds h)
-
-      pub receiver-plain-done : (l₁ l₂ : List ℕ) → l₁ ≡ headLaid (receiver ssrc) 201 0 (length xs / 7) n l → l₂ ≡ store 8 (blocksBytes (blocksLent xs)) l₁ → (ok n, l₂) ≡ writeBlocks (receiver ssrc) (flatBlocks xs) k l
-      receiver-plain-done l₁ l₂ = plain-done (receiver ssrc) 8 receiver-least (omega arith) xs k n l (f .holds h) 201 l₁ l₂ refl
-
-    pub receiver-laid : (size : ℕ) (l l₂ l₃ l₄ : List ℕ) → ReportFits 8 (length xs / 7) (blocksLent xs) k size (length l)
-        → l₂ ≡ headLaid (receiver ssrc) 201 k (length xs / 7) size l → l₃ ≡ store 8 (blocksBytes (blocksLent xs)) l₂ → l₄ ≡ store (size - k) (paddingBytes k) l₃
-        → l₄ ≡ store 0 (layout (packetGiven (giveReport (receiver ssrc) (blocksLent xs) k))) l
-    receiver-laid size l l₂ l₃ l₄ f = report-laid (receiver ssrc) 8 receiver-least (length xs / 7) (blocksLent xs) k 201 size l l₂ l₃ l₄ refl f
-
--- ---- SR
+pub receiver-head : (ssrc k count size : ℕ) (l l₁ l₂ : List ℕ) → l₁ ≡ store 0 (header k count 201 size) l → l₂ ≡ store 4 (be 4 ssrc) l₁ → l₂ ≡ headLaid (receiver ssrc) k count size l
+unfolding put
+receiver-head ssrc k count size l l₁ l₂ e f = f ∙ rw (e, append-nil)
 
 module _ (i : SenderInfo) where
-  pub sender-least : 28 ≡ 4 + length (put senderWidths (reporterFields (senderOf i)))
-  unfolding put be
-  sender-least = refl
-
   pub info-laid : (l l₁ l₂ l₃ l₄ l₅ : List ℕ) → 28 ≤ length l → l₁ ≡ store 4 (be 4 (i .ssrc)) l → l₂ ≡ store 8 (be 8 (i .«ntp_timestamp»)) l₁ → l₃ ≡ store 16 (be 4 (i .«rtp_timestamp»)) l₂
       → l₄ ≡ store 20 (be 4 (i .«packet_count»)) l₃ → l₅ ≡ store 24 (be 4 (i .«octet_count»)) l₄ → l₅ ≡ store 4 (put senderWidths (reporterFields (senderOf i))) l
   unfolding put be
   info-laid l l₁ l₂ l₃ l₄ l₅ h e₁ e₂ e₃ e₄ e₅ =
       e₅ ∙ rw (e₄, e₃, e₂, e₁) (stores 4 (be 4 (i .ssrc)) (be 8 (i .«ntp_timestamp») ∷ be 4 (i .«rtp_timestamp») ∷ be 4 (i .«packet_count») ∷ be 4 (i .«octet_count») ∷ []) l h)
 
-  pub sender-head : (k count size : ℕ) (l l₁ l₂ : List ℕ) → 28 ≤ length l → l₁ ≡ store 4 (put senderWidths (reporterFields (senderOf i))) l → l₂ ≡ store 0 (header k count 200 size) l₁ → l₂ ≡ headLaid (senderOf i) 200 k count size l
-  sender-head k count size l l₁ l₂ h e f = header-last k count 200 size (put senderWidths (reporterFields (senderOf i))) l l₁ l₂ (omega (arith, sender-least)) e f
+  pub sender-head : (k count size : ℕ) (l l₁ l₂ : List ℕ) → l₁ ≡ store 0 (header k count 200 size) l → l₂ ≡ store 4 (put senderWidths (reporterFields (senderOf i))) l₁ → l₂ ≡ headLaid (senderOf i) k count size l
+  sender-head k count size l l₁ l₂ e f = f ∙ rw e
 
-  module _ (xs : List ℕ) (k : ℕ) where
-    pub sender-size : (w : Written) → writtenOf w ≡ flatSize 28 (flatBlocks xs) k → writtenOf w ≡ sizeBlocks (senderOf i) (flatBlocks xs) k
-    sender-size = flat-size (senderOf i) 28 sender-least (omega arith) xs k
+same-type : (r : Reporter) (bs : List Block) → type (report r [] []) ≡ type (report r bs [])
+same-type (receiver ssrc) bs = refl
+same-type (sender ssrc ntp rtp packets octets) bs = refl
 
-    module _ (w : Written) (n : ℕ) (e : writtenOf w ≡ sizeBlocks (senderOf i) (flatBlocks xs) k) (p : w ≡ Size n) where
-      pub sender-agree : flatOk xs ≡ true
-      sender-agree = flat-accepted (senderOf i) xs k w n e p
+-- head, blocks and padding are the report
+pub report-laid : (r : Reporter) (least : ℕ) (b : BlockLists) (k size : ℕ) (l l₂ l₃ l₄ : List ℕ) → ReportFits least b k size (length l) → leastOf r ≡ least
+    → l₂ ≡ headLaid r k (length (b .fractions)) size l → l₃ ≡ store least (blocksBytes (blocksLent b)) l₂ → l₄ ≡ store (size - k) (paddingBytes k) l₃
+    → l₄ ≡ store 0 (layout (packetGiven (giveReport r b k))) l
+unfolding contentBytes
+report-laid r least b k size l l₂ l₃ l₄ w q e₂ e₃ e₄ =
+    let z = w .size in
+    let m = w .room in
+    let n = length-lentBlocks (b .fractions) (b .losses) (b .words) in
+    let c = content-length r b in
+    let o = length-blocks (blocksLent b) in
+    let p = reporter-least r in
+    let h : List ℕ = store 0 (header k (length (b .fractions)) (type (report r [] [])) size) l in
+    let ln = header-long k (length (b .fractions)) (type (report r [] [])) size l h (omega arith) refl in
+    let p = parts-laid 4 least (put (reporterWidths r) (reporterFields r)) (blocksBytes (blocksLent b)) h l₂ l₃ e₂ e₃ (omega arith) (omega arith) in
+    packet-laid (report r (blocksLent b) []) k size (size - k) l h l₃ l₄ (omega arith) m (omega arith) (rw (n, ← same-type r (blocksLent b))) (rw append-nil p) e₄
 
-      pub sender-fits : (space : ℕ) → n ≤ space → ReportFits 28 (length xs / 7) (blocksLent xs) k n space
-      sender-fits = flat-fits (senderOf i) 28 sender-least (omega arith) xs k w n e p
-
-    module _ (n : ℕ) (l : List ℕ) (f : PlainIf 28 xs k n (length l)) (h : 0 < n) where
-      pub sender-plain-head : (length xs / 7 ≤ 31) × (28 ≤ n) × (n ≤ 262144) × (n ≤ length l)
-      sender-plain-head = plain-head (senderOf i) 28 sender-least (omega arith) xs k n (length l) (f .holds h)
-
-      pub sender-plain-room : (m : ℕ) → m ≡ length l → (flatOk xs ≡ true) × (28 + length xs / 7 * 24 ≤ m) × (lossTests (blocksLent xs) ≡ ok tt)
-      sender-plain-room = plain-room (senderOf i) 28 sender-least (omega arith) xs k n l (f .holds h)
-
-      pub sender-plain-done : (l₁ l₂ : List ℕ) → l₁ ≡ headLaid (senderOf i) 200 0 (length xs / 7) n l → l₂ ≡ store 28 (blocksBytes (blocksLent xs)) l₁ → (ok n, l₂) ≡ writeBlocks (senderOf i) (flatBlocks xs) k l
-      sender-plain-done l₁ l₂ = plain-done (senderOf i) 28 sender-least (omega arith) xs k n l (f .holds h) 200 l₁ l₂ refl
-
-    pub sender-laid : (size : ℕ) (l l₂ l₃ l₄ : List ℕ) → ReportFits 28 (length xs / 7) (blocksLent xs) k size (length l)
-        → l₂ ≡ headLaid (senderOf i) 200 k (length xs / 7) size l → l₃ ≡ store 28 (blocksBytes (blocksLent xs)) l₂ → l₄ ≡ store (size - k) (paddingBytes k) l₃
-        → l₄ ≡ store 0 (layout (packetGiven (giveReport (senderOf i) (blocksLent xs) k))) l
-    sender-laid size l l₂ l₃ l₄ f = report-laid (senderOf i) 28 sender-least (length xs / 7) (blocksLent xs) k 200 size l l₂ l₃ l₄ refl f
-
--- what a head leaves of a buffer's length
-pub head-long : (r : Reporter) (t k count size : ℕ) (l l₁ : List ℕ) → 4 + length (put (reporterWidths r) (reporterFields r)) ≤ length l → l₁ ≡ headLaid r t k count size l → length l₁ ≡ length l
-head-long r t k count size l l₁ h e =
-    let n = header-long k count t size l (store 0 (header k count t size) l) (omega arith) refl in
-    ap length e ∙ length-store 4 (put (reporterWidths r) (reporterFields r)) (store 0 (header k count t size) l) (omega arith) ∙ n
-
-pub ruleset reports = (writes, flats, not-true, not-false, plain-not, plain-is, too-many, count-plain, bad-padding, count-fine, odd-lent, fraction-over, flat-count-refused, flat-count-sized, flat-count, receiver-head, receiver-size, receiver-agree, receiver-fits, receiver-laid, receiver-plain-head, receiver-plain-room, receiver-plain-done, info-laid, sender-head, sender-size, sender-agree, sender-fits, sender-laid, sender-plain-head, sender-plain-room, sender-plain-done, flat-write-refused, flat-write-short, flat-write-done)
+pub ruleset reports = (writes, not-true, not-false, lists-none, lists-size, agree-why, lists-why, report-size, report-refused, report-why, why-again, report-sized, report-room, receiver-fits, sender-fits, report-done, padding-fits, receiver-head, info-laid, sender-head, report-laid)
 
 -- ---- the views lose nothing
 

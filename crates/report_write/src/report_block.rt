@@ -1,127 +1,188 @@
-// Report blocks, written (report_block.rs, `ReportBlockBuilder`). They are lent as one flat list: seven numbers for each, in the record's order.
+// Report blocks, written (report_block.rs, `ReportBlockBuilder`).
+use report::report_block::ReportBlock;
 use utils::error::RtcpWriteError;
 use utils::writer;
-use utils::writer::Written;
 ghost use mathlib.Core.Path.{_≡_};
 ghost use mathlib.Core.Bool.{true};
-ghost use Prim.Native.Nat.{_+_, _*_, _/_, _<_, _≤_};
-ghost use lib.ListN.{length, drop, getD};
-ghost use Rattle.rfc3550.specs.Answer.{ok};
-ghost use Rattle.rfc3550.specs.Bytes.{be, put, store};
+ghost use Prim.Native.Nat.{_+_, _*_, _≤_};
+ghost use lib.ListN.{length};
+ghost use Rattle.rfc3550.specs.Bytes.{put, store};
+ghost use Rattle.rfc3550.specs.Loss.{lossIn};
 ghost use Rattle.rfc3550.specs.Packet.{blockWidths, blockFields, blocksBytes};
-ghost use Rattle.rfc3550.specs.Write.{lossTests};
-ghost use Rattle.utils.specs.Writer.{writtenOf};
-ghost use Rattle.report_write.specs.Report.{flatBlock, blocksLent, fractionsIn, flatOk, flatBlocks, countSize, lossesSize, flatSize, BlockThere};
+ghost use Rattle.rfc3550.specs.Write.{blocksLent, blocksAgree};
+ghost use Rattle.utils.specs.Error.{orZero, writeRefusal};
+ghost use Rattle.report_write.specs.Report.{blockLists, blockGiven, laterLoss, decisiveLoss, countedSize, listsSize, WhyNone, WhyCount};
 
-// The fraction of every block fits a byte.
-fn check_fractions(blocks: &[u32]) -> bool
-    ensures { λ r. ⌜ r ≡ fractionsIn (blocksLent (now (blocks .entry))) ⌝ }
+const MAX_BLOCKS: u8 = 31;
+
+const MAX_LOSS: u32 = 16777215;
+
+// Cumulative lost fits its 24 bits.
+pub fn check_loss(loss: u32) -> bool
+    ensures { λ r. ⌜ r ≡ lossIn loss ⌝ }
 {
-    let n = blocks.len() / 7;
-    let mut i: usize = 0;
-    while i < n {
-        if 255 < blocks[i * 7 + 1] {
-            return false;
-        }
-        i += 1;
-    }
-    true
+    loss <= MAX_LOSS
 }
 
-// The size of a report of so many blocks with so many bytes before them, or why it is refused.
-pub fn check_count(count: usize, padding: u64, least: u8) -> Written
-    ensures { λ r. ⌜ writtenOf r ≡ countSize least count padding ⌝ }
+// Of a loss and the next one, the first if it does not fit.
+pub fn later_loss(loss: u32, next: u32) -> u32
+    ensures { λ r. ⌜ r ≡ laterLoss loss next ⌝ }
+{
+    if check_loss(loss) {
+        return next;
+    }
+    loss
+}
+
+// The first loss that does not fit, or else the last one.
+fn decisive_loss(losses: &[u32]) -> u32
+    ensures { λ r. ⌜ r ≡ decisiveLoss 0 (now (losses .entry)) ⌝ }
+{
+    let n = losses.len();
+    let mut i: usize = 0;
+    let mut loss: u32 = 0;
+    while i < n {
+        loss = later_loss(loss, losses[i]);
+        i += 1;
+    }
+    loss
+}
+
+// The bits of all losses: it fits exactly if all of them do, and is found without a branch for each.
+fn merged_losses(losses: &[u32]) -> u32
+    ensures { λ r. ⌜ lossIn r ≡ lossIn (decisiveLoss 0 (now (losses .entry))) ⌝ }
+{
+    let n = losses.len();
+    let mut i: usize = 0;
+    let mut bits: u32 = 0;
+    while i < n {
+        bits = bits | losses[i];
+        i += 1;
+    }
+    bits
+}
+
+// The size of a report of so many blocks with so many bytes before them; 0 where it is refused. One loss decides for all.
+pub fn size_of_count(count: usize, loss: u32, padding: u64, least: u8) -> usize
+    ensures { λ r. ⌜ r ≡ orZero (countedSize least count loss padding) ⌝ }
 {
     if 31 < count {
-        return Written::Refused(RtcpWriteError::TooManyReportBlocks { count, max: 31 });
-    }
-    if padding == 0 {
-        return Written::Size(least as usize + count * 24);
+        return 0;
     }
     if !writer::check_padding(padding) {
-        return Written::Refused(RtcpWriteError::InvalidPadding { padding });
+        return 0;
     }
-    Written::Size(least as usize + count * 24 + padding as usize)
+    if !check_loss(loss) {
+        return 0;
+    }
+    least as usize + count * ReportBlock::EXPECTED_SIZE + padding as usize
 }
 
-// The size, unless the loss of some block does not fit 24 bits.
-fn check_losses(blocks: &[u32], size: usize) -> Written
-    ensures { λ r. ⌜ writtenOf r ≡ lossesSize (blocksLent (now (blocks .entry))) size ⌝ }
+// Why such a report has no size; PacketTooLarge where it has one.
+pub fn why_count(count: usize, loss: u32, padding: u64) -> RtcpWriteError
+    ensures { λ r. ⌜ WhyCount count loss padding (writeRefusal r) ⌝ }
 {
-    let n = blocks.len() / 7;
+    if 31 < count {
+        return RtcpWriteError::TooManyReportBlocks {
+            count,
+            max: MAX_BLOCKS,
+        };
+    }
+    if !writer::check_padding(padding) {
+        return RtcpWriteError::InvalidPadding { padding };
+    }
+    if !check_loss(loss) {
+        return RtcpWriteError::CumulativeLostTooLarge {
+            value: loss,
+            max: MAX_LOSS,
+        };
+    }
+    RtcpWriteError::PacketTooLarge
+}
+
+// There are one loss and five words for each fraction.
+fn check_lists(fractions: &[u8], losses: &[u32], words: &[u32]) -> bool
+    ensures { λ r. ⌜ r ≡ blocksAgree (blockLists (now (fractions .entry)) (now (losses .entry)) (now (words .entry))) ⌝ }
+{
+    let n = fractions.len();
+    if losses.len() != n {
+        return false;
+    }
+    if words.len() % 5 != 0 {
+        return false;
+    }
+    words.len() / 5 == n
+}
+
+// The size of a report of lent blocks with so many bytes before them; 0 where it is refused.
+pub fn size_of(fractions: &[u8], losses: &[u32], words: &[u32], padding: u64, least: u8) -> usize
+    ensures { λ r. ⌜ r ≡ orZero (listsSize least (blockLists (now (fractions .entry)) (now (losses .entry)) (now (words .entry))) padding) ⌝ }
+{
+    if !check_lists(fractions, losses, words) {
+        return 0;
+    }
+    size_of_count(fractions.len(), merged_losses(losses), padding, least)
+}
+
+// Why a report of lent blocks has no size, whoever reports; PacketTooLarge where it has one.
+pub fn why_size(fractions: &[u8], losses: &[u32], words: &[u32], padding: u64) -> RtcpWriteError
+    ensures { λ r. ⌜ WhyNone (blockLists (now (fractions .entry)) (now (losses .entry)) (now (words .entry))) padding (writeRefusal r) ⌝ }
+{
+    if !check_lists(fractions, losses, words) {
+        return RtcpWriteError::ListsDisagree;
+    }
+    why_count(fractions.len(), decisive_loss(losses), padding)
+}
+
+// Lays a block of these seven numbers at index at: fraction lost and the 24 bits of cumulative lost are one word.
+pub fn write_block_unchecked(
+    buf: &mut [u8],
+    at: usize,
+    ssrc: u32,
+    fraction: u8,
+    loss: u32,
+    sequence: u32,
+    jitter: u32,
+    lsr: u32,
+    dlsr: u32,
+)
+    requires { ⌜ at + 24 ≤ length (now buf) ⌝ }
+    ensures { λ _. ⌜ now (buf .exit) ≡ store at (put blockWidths (blockFields (blockGiven ssrc fraction loss sequence jitter lsr dlsr))) (now (buf .entry)) ⌝ }
+{
+    writer::write_u32_unchecked(buf, at, ssrc);
+    writer::write_u32_unchecked(buf, at + 4, fraction as u32 * 16777216 + loss % 16777216);
+    writer::write_u32_unchecked(buf, at + 8, sequence);
+    writer::write_u32_unchecked(buf, at + 12, jitter);
+    writer::write_u32_unchecked(buf, at + 16, lsr);
+    writer::write_u32_unchecked(buf, at + 20, dlsr);
+}
+
+// Lays the blocks of lists that agree from index at on.
+pub fn write_blocks_unchecked(
+    buf: &mut [u8],
+    at: usize,
+    fractions: &[u8],
+    losses: &[u32],
+    words: &[u32],
+)
+    requires { ⌜ (blocksAgree (blockLists (now fractions) (now losses) (now words)) ≡ true) × (at + length (now fractions) * 24 ≤ length (now buf)) ⌝ }
+    ensures { λ _. ⌜ now (buf .exit) ≡ store at (blocksBytes (blocksLent (blockLists (now (fractions .entry)) (now (losses .entry)) (now (words .entry))))) (now (buf .entry)) ⌝ }
+{
+    let n = fractions.len();
     let mut i: usize = 0;
     while i < n {
-        let value = blocks[i * 7 + 2];
-        if 16777215 < value {
-            return Written::Refused(RtcpWriteError::CumulativeLostTooLarge {
-                value,
-                max: 16777215,
-            });
-        }
-        i += 1;
-    }
-    Written::Size(size)
-}
-
-// The size of a report with so many bytes before its blocks, or why it is refused.
-pub fn check_reports(blocks: &[u32], padding: u64, least: u8) -> Written
-    ensures { λ r. ⌜ writtenOf r ≡ flatSize least (flatBlocks (now (blocks .entry))) padding ⌝ }
-{
-    if blocks.len() % 7 != 0 {
-        return Written::Refused(RtcpWriteError::ListsDisagree);
-    }
-    if crate::check_both(blocks) {
-        return check_count(blocks.len() / 7, padding, least);
-    }
-    if !check_fractions(blocks) {
-        return Written::Refused(RtcpWriteError::ListsDisagree);
-    }
-    let checked = check_count(blocks.len() / 7, padding, least);
-    let Written::Size(size) = checked else {
-        return checked;
-    };
-    check_losses(blocks, size)
-}
-
-// Lays a number of the list at index at. It is read right before it is laid, so that its bytes are compiled to one store.
-fn write_number(buf: &mut [u8], at: usize, blocks: &[u32], i: usize)
-    requires { ⌜ (at + 4 ≤ length (now buf)) × (i < length (now blocks)) ⌝ }
-    ensures { λ _. ⌜ now (buf .exit) ≡ store at (be 4 (getD (now (blocks .entry)) i 0)) (now (buf .entry)) ⌝ }
-{
-    writer::write_u32_unchecked(buf, at, blocks[i]);
-}
-
-// Fraction lost and the 24 bits of cumulative lost are one word: the fraction goes over the word's first byte, which is 0.
-fn write_loss(buf: &mut [u8], at: usize, blocks: &[u32], from: usize)
-    requires { ⌜ (at + 4 ≤ length (now buf)) × BlockThere (now blocks) from ⌝ }
-    ensures { λ _. ⌜ now (buf .exit) ≡ store at (be 4 (getD (now (blocks .entry)) (from + 1) 0 * 16777216 + getD (now (blocks .entry)) (from + 2) 0)) (now (buf .entry)) ⌝ }
-{
-    write_number(buf, at, blocks, from + 2);
-    buf[at] = blocks[from + 1] as u8;
-}
-
-// Lays the block whose numbers start at an index, at index at.
-fn write_block(buf: &mut [u8], at: usize, blocks: &[u32], from: usize)
-    requires { ⌜ (at + 24 ≤ length (now buf)) × BlockThere (now blocks) from ⌝ }
-    ensures { λ _. ⌜ now (buf .exit) ≡ store at (put blockWidths (blockFields (flatBlock (drop from (now (blocks .entry)))))) (now (buf .entry)) ⌝ }
-{
-    write_number(buf, at, blocks, from);
-    write_loss(buf, at + 4, blocks, from);
-    write_number(buf, at + 8, blocks, from + 3);
-    write_number(buf, at + 12, blocks, from + 4);
-    write_number(buf, at + 16, blocks, from + 5);
-    write_number(buf, at + 20, blocks, from + 6);
-}
-
-// Lays blocks that passed their checks from index at on.
-pub fn write_blocks_unchecked(buf: &mut [u8], at: usize, blocks: &[u32])
-    requires { ⌜ (flatOk (now blocks) ≡ true) × (at + length (now blocks) / 7 * 24 ≤ length (now buf)) × (lossTests (blocksLent (now blocks)) ≡ ok tt) ⌝ }
-    ensures { λ _. ⌜ now (buf .exit) ≡ store at (blocksBytes (blocksLent (now (blocks .entry)))) (now (buf .entry)) ⌝ }
-{
-    let n = blocks.len() / 7;
-    let mut i: usize = 0;
-    while i < n {
-        write_block(buf, at + i * 24, blocks, i * 7);
+        let k = i * 5;
+        write_block_unchecked(
+            buf,
+            at + i * 24,
+            words[k],
+            fractions[i],
+            losses[i],
+            words[k + 1],
+            words[k + 2],
+            words[k + 3],
+            words[k + 4],
+        );
         i += 1;
     }
 }

@@ -5,16 +5,13 @@ use utils::error::RtcpWriteError;
 use utils::writer;
 use utils::writer::Written;
 ghost use mathlib.Core.Path.{_≡_};
-ghost use mathlib.Core.Bool.{true};
-ghost use Prim.Native.Nat.{_/_, _≤_};
+ghost use Prim.Native.Nat.{_≤_};
 ghost use lib.ListN.{length};
 ghost use Rattle.rfc3550.specs.Bytes.{put, store};
-ghost use Rattle.rfc3550.specs.Packet.{layout, senderWidths, reporterFields};
-ghost use Rattle.rfc3550.specs.Write.{giveReport, packetGiven};
+ghost use Rattle.rfc3550.specs.Packet.{senderWidths, reporterFields, layout};
+ghost use Rattle.rfc3550.specs.Write.{giveReport, packetGiven, write};
 ghost use Rattle.utils.specs.Writer.{writtenOf};
-ghost use Rattle.report_write.specs.Report.{senderOf, blocksLent, flatOk, flatBlocks, sizeBlocks, writeBlocks, ReportFits, headLaid};
-
-pub const MIN_PACKET_LEN: u8 = 28;
+ghost use Rattle.report_write.specs.Report.{senderOf, blockLists, SizeOf, AnswerOf, ReportFits, headLaid};
 
 // Who sends, and what was sent.
 pub struct SenderInfo {
@@ -25,11 +22,33 @@ pub struct SenderInfo {
     pub octet_count: u32,
 }
 
-// The size of a sender report, or why it is refused.
-pub fn calculate_size(info: SenderInfo, blocks: &[u32], padding: u64) -> Written
-    ensures { λ r. ⌜ writtenOf r ≡ sizeBlocks (senderOf info) (flatBlocks (now (blocks .entry))) padding ⌝ }
+// The size of a sender report, whatever it says of the sender; 0 where it is refused.
+pub fn size_of(fractions: &[u8], losses: &[u32], words: &[u32], padding: u64) -> usize
+    ensures { λ r. ⌜ SizeOf 28 (blockLists (now (fractions .entry)) (now (losses .entry)) (now (words .entry))) padding r ⌝ }
 {
-    report_block::check_reports(blocks, padding, MIN_PACKET_LEN)
+    report_block::size_of(
+        fractions,
+        losses,
+        words,
+        padding,
+        SenderReport::MIN_PACKET_LEN as u8,
+    )
+}
+
+// The size of a sender report, whatever it says of the sender, or why it is refused.
+pub fn calculate_size(fractions: &[u8], losses: &[u32], words: &[u32], padding: u64) -> Written
+    ensures { λ r. ⌜ AnswerOf 28 (blockLists (now (fractions .entry)) (now (losses .entry)) (now (words .entry))) padding (writtenOf r) ⌝ }
+{
+    let size = size_of(fractions, losses, words, padding);
+    if size == 0 {
+        return Written::Refused(report_block::why_size(
+            &fractions[0..],
+            &losses[0..],
+            &words[0..],
+            padding,
+        ));
+    }
+    Written::Size(size)
 }
 
 fn write_info(buf: &mut [u8], info: SenderInfo)
@@ -43,7 +62,7 @@ fn write_info(buf: &mut [u8], info: SenderInfo)
     writer::write_u32_unchecked(buf, 24, info.octet_count);
 }
 
-// What stands before so many blocks. The header is laid last: so the bytes of the SSRC are compiled to one store.
+// What stands before so many blocks.
 pub fn write_head_unchecked(
     buf: &mut [u8],
     info: SenderInfo,
@@ -52,45 +71,60 @@ pub fn write_head_unchecked(
     size: usize,
 )
     requires { ⌜ (count ≤ 31) × (28 ≤ size) × (size ≤ 262144) × (size ≤ length (now buf)) ⌝ }
-    ensures { λ _. ⌜ now (buf .exit) ≡ headLaid (senderOf info) 200 padding count size (now (buf .entry)) ⌝ }
+    ensures { λ _. ⌜ now (buf .exit) ≡ headLaid (senderOf info) padding count size (now (buf .entry)) ⌝ }
 {
-    write_info(buf, info);
     writer::write_header_unchecked(buf, padding, count as u8, SenderReport::PACKET_TYPE, size);
+    write_info(buf, info);
 }
 
+// Lays a sender report that has this size at the start of buf.
 pub fn write_into_unchecked(
     buf: &mut [u8],
     info: SenderInfo,
-    blocks: &[u32],
+    fractions: &[u8],
+    losses: &[u32],
+    words: &[u32],
     padding: u64,
     size: usize,
 )
-    requires { ⌜ (flatOk (now blocks) ≡ true) × ReportFits 28 (length (now blocks) / 7) (blocksLent (now blocks)) padding size (length (now buf)) ⌝ }
-    ensures { λ _. ⌜ now (buf .exit) ≡ store 0 (layout (packetGiven (giveReport (senderOf info) (blocksLent (now (blocks .entry))) padding))) (now (buf .entry)) ⌝ }
+    requires { ⌜ ReportFits 28 (blockLists (now fractions) (now losses) (now words)) padding size (length (now buf)) ⌝ }
+    ensures { λ _. ⌜ now (buf .exit) ≡ store 0 (layout (packetGiven (giveReport (senderOf info) (blockLists (now (fractions .entry)) (now (losses .entry)) (now (words .entry))) padding))) (now (buf .entry)) ⌝ }
 {
     let end = size - padding as usize;
-    write_head_unchecked(buf, info, blocks.len() / 7, padding, size);
-    report_block::write_blocks_unchecked(buf, 28, blocks);
+    write_head_unchecked(buf, info, fractions.len(), padding, size);
+    report_block::write_blocks_unchecked(
+        buf,
+        SenderReport::MIN_PACKET_LEN,
+        fractions,
+        losses,
+        words,
+    );
     writer::write_padding_unchecked(buf, end, padding);
 }
 
 // Writes a sender report at the start of buf.
-pub fn write_into(buf: &mut [u8], info: SenderInfo, blocks: &[u32], padding: u64) -> Written
-    ensures { λ r. ⌜ (writtenOf r, now (buf .exit)) ≡ writeBlocks (senderOf info) (flatBlocks (now (blocks .entry))) padding (now (buf .entry)) ⌝ }
+pub fn write_into(
+    buf: &mut [u8],
+    info: SenderInfo,
+    fractions: &[u8],
+    losses: &[u32],
+    words: &[u32],
+    padding: u64,
+) -> Written
+    ensures { λ r. ⌜ (writtenOf r, now (buf .exit)) ≡ write (giveReport (senderOf info) (blockLists (now (fractions .entry)) (now (losses .entry)) (now (words .entry))) padding) (now (buf .entry)) ⌝ }
 {
-    let plain = crate::plain_size(blocks, padding, MIN_PACKET_LEN, buf.len());
-    if 0 < plain {
-        write_head_unchecked(buf, info, blocks.len() / 7, 0, plain);
-        report_block::write_blocks_unchecked(buf, 28, blocks);
-        return Written::Size(plain);
+    let size = size_of(fractions, losses, words, padding);
+    if size == 0 {
+        return Written::Refused(report_block::why_size(
+            &fractions[0..],
+            &losses[0..],
+            &words[0..],
+            padding,
+        ));
     }
-    let checked = calculate_size(info, blocks, padding);
-    let Written::Size(size) = checked else {
-        return checked;
-    };
     if buf.len() < size {
         return Written::Refused(RtcpWriteError::OutputTooSmall(size as u64));
     }
-    write_into_unchecked(buf, info, blocks, padding, size);
+    write_into_unchecked(buf, info, fractions, losses, words, padding, size);
     Written::Size(size)
 }

@@ -1,129 +1,130 @@
-// Rows of document 01. Each line `NAME OP ARG.. HEX` of standard input names a C function and what it gets; the program writes NAME and the answer:
-// `ok` with every field, a part as OFFSET+LEN:HEX, or a refusal as N(a, b). HEX is `-` where there is no byte. Rows that write: write.rt.
-mod output;
-mod show;
+// Rows of document 01, each a line `NAME OPERATION NUMBER.. xBYTES`. The first line names the operations, in the order of their numbers here.
+// An operation is a C function, a part of a packet, or a form that lends records or holds its bytes; the program writes NAME, the answer's numbers and
+// the bytes.
+mod forms;
+mod held;
+mod lend;
+mod lists;
+mod print;
+mod read;
 mod text;
 mod write;
-mod write_report;
-mod write_sdes;
-mod write_single;
 
-use output::print;
-use rtcp::read_app;
-use rtcp::read_bye;
-use rtcp::read_report;
-use rtcp::read_sdes;
+use print::bytes;
+use print::print;
+ghost use mathlib.Core.Path.{_≡_};
+ghost use lib.ListN.{length};
 
-// Each of these four: whether the operation is one of its own.
-fn report(op: &[u8], s: &[u8], i: u64) -> bool {
-    let at = text::index_of(
-        op,
-        b"block_parse rr_parse sr_parse rr_report_block sr_report_block",
-    );
-    match at {
-        0 => show::block(read_report::rtcp_block_parse(s)),
-        1 => show::rr(s, read_report::rtcp_rr_parse(s)),
-        2 => show::sr(s, read_report::rtcp_sr_parse(s)),
-        3 => show::block(read_report::rtcp_rr_report_block(s, i)),
-        4 => show::block(read_report::rtcp_sr_report_block(s, i)),
-        _ => return false,
-    }
-    true
-}
-
-fn other(op: &[u8], s: &[u8], i: u64) -> bool {
-    let at = text::index_of(op, b"app_parse bye_parse bye_source sdes_parse");
-    match at {
-        0 => show::app(s, read_app::rtcp_app_parse(s)),
-        1 => show::bye(s, read_bye::rtcp_bye_parse(s)),
-        2 => show::source(read_bye::rtcp_bye_source(s, i)),
-        3 => show::sdes(s, read_sdes::rtcp_sdes_parse(s)),
-        _ => return false,
-    }
-    true
-}
-
-fn description(op: &[u8], s: &[u8]) -> bool {
-    let at = text::index_of(op, b"item_parse item_priv_prefix chunk_parse");
-    match at {
-        0 => show::item(s, read_sdes::rtcp_item_parse(s)),
-        1 => show::prefix(s, read_sdes::rtcp_item_priv_prefix(s)),
-        2 => show::chunk(read_sdes::rtcp_chunk_parse(s)),
-        _ => return false,
-    }
-    true
-}
-
-fn walk(op: &[u8], s: &[u8], at: u64, end: u64) -> bool {
-    let op = text::index_of(
-        op,
-        b"chunk_walk_open chunk_walk_step item_walk_open item_walk_step",
-    );
+// A packet is written alone, or added to a compound.
+fn run(
+    op: usize,
+    state: &mut [u64; 4],
+    buf: &mut [u8],
+    n: &[u64; 4096],
+    w: &[u32; 4096],
+    s: &[u8],
+) {
+    let alone = op < 42;
     match op {
-        0 => show::chunk_walk(read_sdes::rtcp_chunk_walk_open(s)),
-        1 => show::chunk_step(read_sdes::rtcp_chunk_walk_step(s, at, end)),
-        2 => show::item_walk(read_sdes::rtcp_item_walk_open(s)),
-        3 => show::item_step(s, read_sdes::rtcp_item_walk_step(s, at)),
-        _ => return false,
+        0..=7 => read::packet(op, s, n[0]),
+        8..=15 => read::description(op, s, n[0], n[1]),
+        16..=18 => read::datagram(op, s, n[0]),
+        19..=33 => read::part(op, s),
+        35 => write::chunk(buf, n, w, s),
+        36 => write::item(buf, n, s),
+        37 | 42 => write::rr(alone, state, buf, n, w, s),
+        38 | 43 => write::sr(alone, state, buf, n, w, s),
+        39 | 44 => write::sdes(alone, state, buf, n, w, s),
+        40 | 45 => write::bye(alone, state, buf, n, w, s),
+        41 | 46 => write::app(alone, state, buf, n, w, s),
+        49..=51 => forms::walk(op, s, n[0], n[1]),
+        52 | 54 => forms::rr(op == 52, state, buf, n, w, s),
+        53 | 55 => forms::sr(op == 53, state, buf, n, w, s),
+        34 | 47 | 48 => write::writer(op, state, n),
+        _ => print(b" no such operation"),
     }
-    true
 }
 
-fn answer(op: &[u8], s: &[u8], a: u64, b: u64) {
-    if report(op, s, a) {
-        return;
+// How many bytes are stale before a call: none where it adds to what is there.
+fn stale(op: usize) -> u64 {
+    match op {
+        34..=41 | 52 | 53 => 262400,
+        _ => 0,
     }
-    if other(op, s, a) {
-        return;
-    }
-    if description(op, s) {
-        return;
-    }
-    if walk(op, s, a, b) {
-        return;
-    }
-    print(b"no such operation");
 }
 
-fn read(line: &[u8]) {
-    let a = text::number_at(line, 2);
-    let b = text::number_at(line, 3);
-    let args = text::rest(text::rest(line));
-    let mut buf = io::buffer();
-    let n = text::unhex(text::last_word(args), &mut buf);
-    answer(text::nth(line, 1), &buf[..n], a, b);
-}
-
-fn is_write(op: &[u8]) -> bool {
-    if op.len() < 6 {
-        return false;
+// What writes shows its buffer after it.
+fn answer(
+    op: usize,
+    state: &mut [u64; 4],
+    buf: &mut [u8],
+    n: &[u64; 4096],
+    w: &[u32; 4096],
+    s: &[u8],
+) {
+    text::repeat(buf, 0, 0x5A, stale(op));
+    run(op, state, buf, n, w, s);
+    match op {
+        34..=48 | 52..=55 => bytes(buf),
+        _ => {}
     }
-    let from = op.len() - 6;
-    check::same(&op[from..], b"_write")
 }
 
-fn row(line: &[u8]) {
+fn row(
+    names: &[u8],
+    line: &[u8],
+    state: &mut [u64; 4],
+    out: &mut [u8],
+    n: &mut [u64; 4096],
+    w: &mut [u32; 4096],
+    space: &mut [u8],
+) {
     print(text::word(line));
-    print(b": ");
-    if is_write(text::nth(line, 1)) {
-        write::row(line);
-    } else {
-        read(line);
-    }
+    print(b":");
+    let rest = text::rest(line);
+    let op = text::index_of(text::word(rest), names);
+    let len = text::parse(text::rest(rest), n, w, space);
+    let room = lists::limited(n[0], out);
+    answer(op, state, &mut out[..room], n, w, &space[..len]);
     print(b"\n");
 }
 
-fn rows(lines: &[u8]) {
-    let mut at = 0;
+fn rows(
+    lines: &[u8],
+    state: &mut [u64; 4],
+    out: &mut [u8],
+    n: &mut [u64; 4096],
+    w: &mut [u32; 4096],
+    space: &mut [u8],
+) {
+    let first = text::find(lines, 0, b'\n');
+    let names = &lines[0..first];
+    let mut at = first + 1;
     while at < lines.len() {
         let end = text::find(lines, at, b'\n');
-        row(&lines[at..end]);
+        row(names, &lines[at..end], state, out, n, w, space);
         at = end + 1;
     }
 }
 
+// Lent where it is made, such an array takes seconds to prove.
+fn large() -> [u8; 524288]
+    ensures { λ r. ⌜ 524288 ≡ length r ⌝ }
+{
+    [0; 524288]
+}
+
+fn start(lines: &[u8]) {
+    let mut out = large();
+    let mut space = large();
+    let mut n = [0u64; 4096];
+    let mut w = [0u32; 4096];
+    let mut state = [0u64; 4];
+    rows(lines, &mut state, &mut out, &mut n, &mut w, &mut space);
+}
+
 fn main() {
-    let mut buf = text::large(0);
-    let n = io::read_full(0, &mut buf);
-    rows(&buf[..n]);
+    let mut lines = large();
+    let len = io::read_full(0, &mut lines);
+    start(&lines[..len]);
 }

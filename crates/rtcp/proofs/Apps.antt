@@ -1,17 +1,33 @@
 -- APP packets: what C gets, from what the reader answers.
 use mathlib.Core.Path.{_≡_, refl}
+use mathlib.Core.List.{List}
 use Prim.Native.Nat.{ℕ, _≤_}
 use native.Mathlib.Omega.{arith}
 use borrow.Author.Needs.{needs}
-use Rattle.rfc3550.specs.Answer.{Answer, mapOk}
+use lib.ListN.{take, drop}
+use Rattle.rfc3550.specs.Answer.{Answer, ok, mapOk}
 use Rattle.rfc3550.specs.Packet.{Packet}
-use Rattle.app.specs.App.{parsedOf, appView}
+use Rattle.rfc3550.specs.Read.{APP, readAs}
+use Rattle.app.specs.App.{parsedOf, appView, nameOf, dataOf}
 use Rattle.app.specs.declared.App.{App}
 use Rattle.app.specs.declared.ParsedApp.{ParsedApp}
 use Rattle.app.specs.declared.ParsedApp.the-variants as parsed
+use Rattle.app.proofs.Apps.{parts}
+use Rattle.rtcp.specs.App.{appResult}
+use Rattle.rtcp.specs.declared.read_app.RtcpApp.{RtcpApp}
 use Rattle.rtcp.proofs.Results.{viewed}
 
 pub app-order : (o : ParsedApp) (a : App) (x : Answer Packet) → o ≡ parsed.App a → parsedOf o ≡ mapOk appView x → 12 ≤ a .body
 app-order o a x = viewed parsedOf parsed.App (λ a. refl) appView (λ (a : App). 12 ≤ a .body) x (λ p e. omega arith) o a
+
+-- the bytes at C's places are the packet's fields
+pub record Places (s : List ℕ) (p : Packet) (r : RtcpApp) : Type 0 where
+  pub name : take (r .«name_len») (drop (r .name) s) ≡ nameOf (p .content)
+  pub payload : take (r .«data_len») (drop (r .«data») s) ≡ dataOf (p .content)
+  pub padding : take (r .«padding_len») (drop (r .padding) s) ≡ p .padding
+
+pub places : (s : List ℕ) (p : Packet) → readAs APP s ≡ ok p → Places s p (appResult (mapOk appView (readAs APP s)))
+unfolding mapOk
+places s p e = let h = parts s p e in rw e (record { name = h .name; payload = h .payload; padding = h .padding })
 
 pub ruleset apps = (needs, app-order)

@@ -1,16 +1,21 @@
 -- BYE packets: what C gets, from what the readers answer.
 use mathlib.Core.Path.{_≡_, refl}
+use mathlib.Core.List.{List}
 use Prim.Native.Nat.{ℕ, _+_, _-_, _^_, _<_, _≤_}
 use native.Mathlib.Omega.{arith}
 use borrow.Author.Needs.{needs}
-use Rattle.rfc3550.specs.Answer.{Answer, mapOk}
+use lib.ListN.{take, drop}
+use Rattle.rfc3550.specs.Answer.{Answer, ok, mapOk}
 use Rattle.rfc3550.specs.Packet.{Packet}
-use Rattle.bye.specs.Bye.{parsedOf, byeView}
+use Rattle.rfc3550.specs.Read.{BYE, readAs}
+use Rattle.bye.specs.Bye.{parsedOf, byeView, leaving, reasonBytes, tailBytes}
 use Rattle.bye.specs.declared.Bye.{Bye}
 use Rattle.bye.specs.declared.ParsedBye.{ParsedBye}
 use Rattle.bye.specs.declared.ParsedBye.the-variants as parsed
+use Rattle.bye.proofs.Byes.{parts}
 use Rattle.rtcp.specs.Result.{bit}
 use Rattle.rtcp.specs.Bye.{byeResult}
+use Rattle.rtcp.specs.declared.read_bye.RtcpBye.{RtcpBye}
 use Rattle.rtcp.proofs.Results.{handed, viewed}
 
 module _ (o : ParsedBye) (b : Bye) (x : Answer Packet) (p : o ≡ parsed.Bye b) (q : parsedOf o ≡ mapOk byeView x) where
@@ -32,8 +37,18 @@ pub bye-read : (o : ParsedBye) (b : Bye) (x : Answer Bye) (n : ℕ) → n ≡ bi
       tail = b .reason + b .«reason_len»;
       «tail_len» = b .body - (b .reason + b .«reason_len»);
       padding = b .body;
-      «padding_len» = b .padding;
+      «padding_len» = b .«padding_len»;
     } ≡ byeResult x
 bye-read o b x n h p q = rw h (handed byeResult parsedOf parsed.Bye (λ b. refl) o b x p q)
+
+-- the bytes at C's places are the packet's fields
+pub record Places (s : List ℕ) (p : Packet) (r : RtcpBye) : Type 0 where
+  pub because : take (r .«reason_len») (drop (r .reason) s) ≡ reasonBytes (leaving (p .content))
+  pub tail : take (r .«tail_len») (drop (r .tail) s) ≡ tailBytes (leaving (p .content))
+  pub padding : take (r .«padding_len») (drop (r .padding) s) ≡ p .padding
+
+pub places : (s : List ℕ) (p : Packet) → readAs BYE s ≡ ok p → Places s p (byeResult (mapOk byeView (readAs BYE s)))
+unfolding mapOk
+places s p e = let h = parts s p e in rw e (record { because = h .because; tail = h .tail; padding = h .padding })
 
 pub ruleset byes = (needs, bye-order, bye-fits, bye-read)

@@ -8,16 +8,16 @@ use lib.ListN.{length, drop, getD}
 use lib.Dec.{eqb, ltb}
 use borrow.Author.Needs.{needs}
 use borrow.Author.Tests.{eq-eqb, ne-eqb}
-use Rattle.rfc3550.specs.Answer.{Answer, ok, refused, _>>=_, mapOk, pick}
+use Rattle.rfc3550.specs.Answer.{refusal, Answer, ok, refused, _>>=_, mapOk, pick}
 use Rattle.rfc3550.specs.Packet.{Item, item, priv, itemRest, itemBytes}
-use Rattle.rfc3550.specs.Read.{readItem}
+use Rattle.rfc3550.specs.Read.{readItem, readPrefix}
 use Rattle.rfc3550.specs.Walk.{itemStep}
 use Rattle.rfc3550.proofs.Answer.{ok-injective, need-inv, bind-elim}
 use Rattle.utils.specs.Error.{parseRefusal}
 use Rattle.utils.specs.declared.error.RtcpParseError.{RtcpParseError}
-use Rattle.sdes_chunk.specs.Item.{itemView, itemFirst, prefixLength, valueStart, parsedItemOf}
+use Rattle.sdes_chunk.specs.Item.{itemView, itemFirst, prefixLength, valueStart, prefixIn, answerOf, parsedItemOf}
 use Rattle.sdes_chunk.specs.Walk.{itemStepped, steppedItemOf}
-use Rattle.sdes_chunk.proofs.Readings.{item-placed}
+use Rattle.sdes_chunk.proofs.Readings.{item-placed, Numbered, prefix-numbered}
 use Rattle.sdes_chunk.specs.declared.item.SdesItem.{SdesItem}
 use Rattle.sdes_chunk.specs.declared.item.ParsedItem.{ParsedItem}
 use Rattle.sdes_chunk.specs.declared.item.ParsedItem.the-variants as parsed
@@ -34,7 +34,7 @@ use Rattle.sdes.specs.declared.sdes.ChunkWalk.{ChunkWalk}
 use Rattle.sdes.specs.declared.sdes.SteppedChunk.{SteppedChunk}
 use Rattle.sdes.specs.declared.sdes.SteppedChunk.the-variants as steppedChunk
 use Rattle.rtcp.specs.Result.{bit}
-use Rattle.rtcp.specs.Sdes.{sdesResult, prefixStart, itemParts, itemResult, chunkStepResult, itemStepResult}
+use Rattle.rtcp.specs.Sdes.{sdesResult, prefixStart, itemParts, itemResult, prefixResult, chunkStepResult, itemStepResult}
 use Rattle.rtcp.specs.declared.read_sdes.ItemParts.{ItemParts}
 use Rattle.rtcp.specs.declared.read_sdes.RtcpChunkStep.{RtcpChunkStep}
 use Rattle.rtcp.specs.declared.read_sdes.RtcpItemStep.{RtcpItemStep}
@@ -49,7 +49,7 @@ pub sdes-read : (o : ParsedSdes) (p : Sdes) (x : Answer Sdes) (n : ℕ) → n �
       «has_cname» = n;
       body = p .body;
       padding = p .body;
-      «padding_len» = p .padding;
+      «padding_len» = p .«padding_len»;
     } ≡ sdesResult x
 sdes-read o p x n h e q = rw h (handed sdesResult parsedSdesOf sdes.Sdes (λ x. refl) o p x e q)
 
@@ -62,7 +62,7 @@ pub start-plain : (i : SdesItem) → (i .«type_» ≡ 8 → ⊥) → 2 ≡ pref
 start-plain i h = rw (ne-eqb (i .«type_») 8 h)
 
 pub parts-of : (i : SdesItem) (at start : ℕ) → start ≡ prefixStart i
-    → record { prefix = at + start; value = at + (start + i .prefix); «value_len» = 2 + i .length - (start + i .prefix) } ≡ itemParts at i
+    → record { prefix = at + start; value = at + (start + i .«prefix_len»); «value_len» = 2 + i .length - (start + i .«prefix_len») } ≡ itemParts at i
 parts-of i at start h = rw h
 
 start-by : (b : Bool) → pick b 3 2 + 0 ≡ pick b 3 2
@@ -76,14 +76,33 @@ in-item : (s : List ℕ) {x : Item × List ℕ} → readItem s ≡ ok x → pref
 in-item s {x} e = rw (starts (x .0)) (item-placed s e .start)
 
 module _ (o : ParsedItem) (i : SdesItem) (s : List ℕ) (p : o ≡ parsed.Item i) (q : parsedItemOf o ≡ mapOk itemFirst (readItem s)) where
-  pub item-order : prefixStart i + i .prefix ≤ 2 + i .length
-  item-order = viewed parsedItemOf parsed.Item (λ i. refl) itemFirst (λ (i : SdesItem). prefixStart i + i .prefix ≤ 2 + i .length) (readItem s) (λ x e. in-item s e) o i p q
+  pub item-order : prefixStart i + i .«prefix_len» ≤ 2 + i .length
+  item-order = viewed parsedItemOf parsed.Item (λ i. refl) itemFirst (λ (i : SdesItem). prefixStart i + i .«prefix_len» ≤ 2 + i .length) (readItem s) (λ x e. in-item s e) o i p q
 
   pub item-fits : length s < 2 ^ 64 → 0 + (2 + i .length) < 2 ^ 64
   item-fits l =
       let m : 2 + i .length ≤ length s =
       viewed parsedItemOf parsed.Item (λ i. refl) itemFirst (λ (i : SdesItem). 2 + i .length ≤ length s) (readItem s) (λ x e. item-placed s e .within) o i p q
       in omega arith
+
+-- ---- the prefix
+
+module _ (s : List ℕ) (p l : List ℕ) (e : (p ≡ prefixIn (readPrefix s)) × (l ≡ answerOf (readPrefix s))) where
+  pub prefix-none : (getD l 0 0 ≡ 0 → ⊥) → record { number = getD l 0 0; first = getD l 1 0; second = getD l 2 0; offset = 0; len = 0 } ≡ prefixResult (mapOk length (readPrefix s))
+  unfolding mapOk
+  prefix-none z = go (readPrefix s) (e .1)
+    where
+      go : (m : Answer (List ℕ)) → l ≡ answerOf m → record { number = getD l 0 0; first = getD l 1 0; second = getD l 2 0; offset = 0; len = 0 } ≡ prefixResult (mapOk length m)
+      go (ok x) q = absurd (z (ap (λ (l : List ℕ). getD l 0 0) q))
+      go (refused (refusal n a b)) q = rw q
+
+  pub prefix-some : getD l 0 0 ≡ 0 → record { number = 0; first = 0; second = 0; offset = 3; len = length p } ≡ prefixResult (mapOk length (readPrefix s))
+  unfolding mapOk
+  prefix-some z = go (readPrefix s) (prefix-numbered s) (e .0) (e .1)
+    where
+      go : (m : Answer (List ℕ)) → Numbered m → p ≡ prefixIn m → l ≡ answerOf m → record { number = 0; first = 0; second = 0; offset = 3; len = length p } ≡ prefixResult (mapOk length m)
+      go (ok x) n q r = rw q
+      go (refused (refusal n a b)) k q r = absurd (omega (arith, sym (ap (λ (l : List ℕ). getD l 0 0) r)))
 
 -- ---- the walk over items
 
@@ -105,8 +124,8 @@ module _ (o : SteppedItem) (i : SdesItem) (w : ItemWalk) (s : List ℕ) (at : �
   came : (P : SdesItem × ItemWalk → Type 0) → ((y : Item × ℕ) → itemStep s at ≡ ok y → P (itemStepped y)) → P (i, w)
   came P all = viewed steppedItemOf (λ (x : SdesItem × ItemWalk). steppedItem.Item (x .0) (x .1)) (λ x. refl) itemStepped P (itemStep s at) all o (i, w) p q
 
-  pub step-order : prefixStart i + i .prefix ≤ 2 + i .length
-  step-order = came (λ x. prefixStart (x .0) + x .0 .prefix ≤ 2 + x .0 .length) (λ y e. in-item (drop at s) (step-read s at e .1))
+  pub step-order : prefixStart i + i .«prefix_len» ≤ 2 + i .length
+  step-order = came (λ x. prefixStart (x .0) + x .0 .«prefix_len» ≤ 2 + x .0 .length) (λ y e. in-item (drop at s) (step-read s at e .1))
 
   pub step-fits : w .at < 2 ^ 64 → at + (2 + i .length) < 2 ^ 64
   step-fits l = let m = came (λ x. x .1 .at ≡ at + (2 + x .0 .length)) (λ y e. let g = step-read s at e .2 in omega arith) in omega arith
@@ -121,7 +140,7 @@ pub item-read : (o : ParsedItem) (i : SdesItem) (x : Answer SdesItem) (p : ItemP
       «type_» = i .«type_»;
       length = i .length;
       prefix = p .prefix;
-      «prefix_len» = i .prefix;
+      «prefix_len» = i .«prefix_len»;
       value = p .value;
       «value_len» = p .«value_len»;
     } ≡ itemResult x
@@ -136,7 +155,7 @@ pub item-stepped : (at : ℕ) (o : SteppedItem) (i : SdesItem) (w : ItemWalk) (x
       «type_» = i .«type_»;
       length = i .length;
       prefix = p .prefix;
-      «prefix_len» = i .prefix;
+      «prefix_len» = i .«prefix_len»;
       value = p .value;
       «value_len» = p .«value_len»;
       at = w .at;
@@ -156,4 +175,4 @@ pub chunk-turned : (at end : ℕ) (o : SteppedChunk) (e : RtcpParseError) (x : A
     → r ≡ chunkStepResult at end (refused (parseRefusal e)) → o ≡ steppedChunk.Refused e → steppedChunkOf o ≡ x → r ≡ chunkStepResult at end x
 chunk-turned at end = turned (chunkStepResult at end) steppedChunkOf steppedChunk.Refused (λ e. refl)
 
-pub ruleset descriptions = (needs, sdes-read, start-priv, start-plain, parts-of, item-order, item-fits, step-order, step-fits, item-read, item-stepped, chunk-stepped, item-turned, chunk-turned)
+pub ruleset descriptions = (needs, sdes-read, start-priv, start-plain, parts-of, item-order, item-fits, prefix-none, prefix-some, step-order, step-fits, item-read, item-stepped, chunk-stepped, item-turned, chunk-turned)

@@ -3,7 +3,7 @@ use Prim.Native.Nat.{ℕ, _<_}
 use mathlib.Core.Bool.{Bool, true, false}
 use mathlib.Core.Path.{_≡_, refl, sym, ap, _∙_}
 use native.Mathlib.Omega.{arith}
-use lib.Dec.{eqb, ltb}
+use lib.Dec.{eqb}
 use borrow.Author.Tests.{ne-eqb}
 use Rattle.rfc3550.specs.Answer.{Refusal, refusal, Answer, ok, refused, pick}
 use Rattle.rfc3550.specs.Writer.{Writer}
@@ -54,8 +54,8 @@ use Rattle.rtcp.specs.declared.read_compound.RtcpCompound.{RtcpCompound}
 use Rattle.rtcp.specs.declared.read_compound.RtcpWalk.{RtcpWalk}
 use Rattle.rtcp.specs.declared.read_compound.RtcpStep.{RtcpStep}
 use Rattle.rtcp.specs.declared.write_result.RtcpWritten.{RtcpWritten}
-use Rattle.rtcp.specs.declared.write_compound.RtcpWriter.{RtcpWriter}
 use Rattle.rtcp.specs.declared.write_compound.RtcpCall.{RtcpCall}
+use Rattle.rtcp.proofs.WriteCalls.{writerIn-writerOut}
 
 -- ---- every refusal has a number above 0
 
@@ -146,7 +146,7 @@ blockResult-injective =
 pub rrResult-injective : (a b : Answer ReceiverReport) → Numbered a → Numbered b → rrResult a ≡ rrResult b → a ≡ b
 rrResult-injective =
     keeps rrResult
-    (λ (r : RtcpRr). record { ssrc = r .ssrc; «n_reports» = r .«n_reports»; extension = r .extension; body = r .padding; padding = r .«padding_len» })
+    (λ (r : RtcpRr). record { ssrc = r .ssrc; «n_reports» = r .«n_reports»; extension = r .extension; body = r .padding; «padding_len» = r .«padding_len» })
     (λ (r : RtcpRr). (r .number, r .first, r .second))
     (λ a. refl)
     (λ x. refl)
@@ -154,7 +154,7 @@ rrResult-injective =
 pub srResult-injective : (a b : Answer SenderReport) → Numbered a → Numbered b → srResult a ≡ srResult b → a ≡ b
 srResult-injective =
     keeps srResult
-    (λ (r : RtcpSr). record { ssrc = r .ssrc; «ntp_timestamp» = r .«ntp_timestamp»; «rtp_timestamp» = r .«rtp_timestamp»; «packet_count» = r .«packet_count»; «octet_count» = r .«octet_count»; «n_reports» = r .«n_reports»; extension = r .extension; body = r .padding; padding = r .«padding_len» })
+    (λ (r : RtcpSr). record { ssrc = r .ssrc; «ntp_timestamp» = r .«ntp_timestamp»; «rtp_timestamp» = r .«rtp_timestamp»; «packet_count» = r .«packet_count»; «octet_count» = r .«octet_count»; «n_reports» = r .«n_reports»; extension = r .extension; body = r .padding; «padding_len» = r .«padding_len» })
     (λ (r : RtcpSr). (r .number, r .first, r .second))
     (λ a. refl)
     (λ x. refl)
@@ -162,7 +162,7 @@ srResult-injective =
 pub appResult-injective : (a b : Answer App) → Numbered a → Numbered b → appResult a ≡ appResult b → a ≡ b
 appResult-injective =
     keeps appResult
-    (λ (r : RtcpApp). record { ssrc = r .ssrc; subtype = r .subtype; body = r .padding; padding = r .«padding_len» })
+    (λ (r : RtcpApp). record { ssrc = r .ssrc; subtype = r .subtype; body = r .padding; «padding_len» = r .«padding_len» })
     (λ (r : RtcpApp). (r .number, r .first, r .second))
     (λ a. refl)
     (λ x. refl)
@@ -170,7 +170,7 @@ appResult-injective =
 pub byeResult-injective : (a b : Answer Bye) → Numbered a → Numbered b → byeResult a ≡ byeResult b → a ≡ b
 byeResult-injective =
     keeps byeResult
-    (λ (r : RtcpBye). record { «n_sources» = r .«n_sources»; «has_reason» = eqb (r .«has_reason») 1; reason = r .reason; «reason_len» = r .«reason_len»; body = r .padding; padding = r .«padding_len» })
+    (λ (r : RtcpBye). record { «n_sources» = r .«n_sources»; «has_reason» = eqb (r .«has_reason») 1; reason = r .reason; «reason_len» = r .«reason_len»; body = r .padding; «padding_len» = r .«padding_len» })
     (λ (r : RtcpBye). (r .number, r .first, r .second))
     (λ a. refl)
     (λ x. rw (bit-back (x .«has_reason»)))
@@ -186,7 +186,7 @@ sourceResult-injective =
 pub sdesResult-injective : (a b : Answer Sdes) → Numbered a → Numbered b → sdesResult a ≡ sdesResult b → a ≡ b
 sdesResult-injective =
     keeps sdesResult
-    (λ (r : RtcpSdes). record { «n_chunks» = r .«n_chunks»; «has_cname» = eqb (r .«has_cname») 1; body = r .body; padding = r .«padding_len» })
+    (λ (r : RtcpSdes). record { «n_chunks» = r .«n_chunks»; «has_cname» = eqb (r .«has_cname») 1; body = r .body; «padding_len» = r .«padding_len» })
     (λ (r : RtcpSdes). (r .number, r .first, r .second))
     (λ a. refl)
     (λ x. rw (bit-back (x .«has_cname»)))
@@ -194,7 +194,7 @@ sdesResult-injective =
 pub itemResult-injective : (a b : Answer SdesItem) → Numbered a → Numbered b → itemResult a ≡ itemResult b → a ≡ b
 itemResult-injective =
     keeps itemResult
-    (λ (r : RtcpItem). record { «type_» = r .«type_»; length = r .length; prefix = r .«prefix_len» })
+    (λ (r : RtcpItem). record { «type_» = r .«type_»; length = r .length; «prefix_len» = r .«prefix_len» })
     (λ (r : RtcpItem). (r .number, r .first, r .second))
     (λ a. refl)
     (λ x. refl)
@@ -242,7 +242,7 @@ itemWalkResult-injective =
 pub itemStepResult-injective : (at : ℕ) (a b : Answer (SdesItem × ItemWalk)) → Numbered a → Numbered b → (itemStepResult at) a ≡ (itemStepResult at) b → a ≡ b
 itemStepResult-injective at =
     keeps (itemStepResult at)
-    (λ (r : RtcpItemStep). (record { «type_» = r .«type_»; length = r .length; prefix = r .«prefix_len» }, record { at = r .at }))
+    (λ (r : RtcpItemStep). (record { «type_» = r .«type_»; length = r .length; «prefix_len» = r .«prefix_len» }, record { at = r .at }))
     (λ (r : RtcpItemStep). (r .number, r .first, r .second))
     (λ a. refl)
     (λ x. refl)
@@ -267,16 +267,16 @@ walkResult-injective =
 abbrev packetIn : RtcpStep → Packet
 packetIn r =
     pick (eqb (r .kind) 200)
-    (packet.Sr (record { ssrc = r .ssrc; «ntp_timestamp» = r .«ntp_timestamp»; «rtp_timestamp» = r .«rtp_timestamp»; «packet_count» = r .«packet_count»; «octet_count» = r .«octet_count»; «n_reports» = r .count; extension = r .extension; body = r .body; padding = r .«padding_len» }))
+    (packet.Sr (record { ssrc = r .ssrc; «ntp_timestamp» = r .«ntp_timestamp»; «rtp_timestamp» = r .«rtp_timestamp»; «packet_count» = r .«packet_count»; «octet_count» = r .«octet_count»; «n_reports» = r .count; extension = r .extension; body = r .body; «padding_len» = r .«padding_len» }))
     (pick (eqb (r .kind) 201)
-    (packet.Rr (record { ssrc = r .ssrc; «n_reports» = r .count; extension = r .extension; body = r .body; padding = r .«padding_len» }))
+    (packet.Rr (record { ssrc = r .ssrc; «n_reports» = r .count; extension = r .extension; body = r .body; «padding_len» = r .«padding_len» }))
     (pick (eqb (r .kind) 202)
-    (packet.Sdes (record { «n_chunks» = r .count; «has_cname» = eqb (r .«has_cname») 1; body = r .body; padding = r .«padding_len» }))
+    (packet.Sdes (record { «n_chunks» = r .count; «has_cname» = eqb (r .«has_cname») 1; body = r .body; «padding_len» = r .«padding_len» }))
     (pick (eqb (r .kind) 203)
-    (packet.Bye (record { «n_sources» = r .count; «has_reason» = eqb (r .«has_reason») 1; reason = r .reason; «reason_len» = r .«reason_len»; body = r .body; padding = r .«padding_len» }))
+    (packet.Bye (record { «n_sources» = r .count; «has_reason» = eqb (r .«has_reason») 1; reason = r .reason; «reason_len» = r .«reason_len»; body = r .body; «padding_len» = r .«padding_len» }))
     (pick (eqb (r .kind) 204)
-    (packet.App (record { ssrc = r .ssrc; subtype = r .count; body = r .body; padding = r .«padding_len» }))
-    (packet.Unknown (record { «packet_type» = r .«packet_type»; count = r .count; body = r .body; padding = r .«padding_len» }))))))
+    (packet.App (record { ssrc = r .ssrc; subtype = r .count; body = r .body; «padding_len» = r .«padding_len» }))
+    (packet.Unknown (record { «packet_type» = r .«packet_type»; count = r .count; body = r .body; «padding_len» = r .«padding_len» }))))))
 
 packet-back : (at : ℕ) (p : Packet) (w : Walk) → packetIn (stepResult at (ok (p, w))) ≡ p
 packet-back at (packet.Sr x) w = refl
@@ -296,20 +296,13 @@ stepResult-injective at =
 
 -- ---- a writer and a call
 
-flag-back : (b : Bool) → ltb 0 (bit b) ≡ b
-flag-back true = refl
-flag-back false = refl
-
-writer-back : (w : Writer) → writerIn (writerOut w) ≡ w
-writer-back w = rw (flag-back (w .padded), flag-back (w .cname), flag-back (w .closed))
-
 pub writerOut-injective : (v w : Writer) → writerOut v ≡ writerOut w → v ≡ w
-writerOut-injective v w e = sym (writer-back v) ∙ ap writerIn e ∙ writer-back w
+writerOut-injective v w e = sym (writerIn-writerOut v) ∙ ap writerIn e ∙ writerIn-writerOut w
 
-pub callResult-injective : (w : RtcpWriter) (a b : Answer Writer) → Numbered a → Numbered b → callResult w a ≡ callResult w b → a ≡ b
-callResult-injective w =
-    keeps (callResult w)
-    (λ (r : RtcpCall). writerIn (r .writer))
+pub callResult-injective : (a b : Answer (Unit {0})) → Numbered a → Numbered b → callResult a ≡ callResult b → a ≡ b
+callResult-injective =
+    keeps callResult
+    (λ (r : RtcpCall). tt)
     (λ (r : RtcpCall). (r .number, r .first, r .second))
     (λ a. refl)
-    (λ x. writer-back x)
+    (λ x. refl)

@@ -8,3 +8,8 @@ pub mod Datagrams
 pub mod WriteResults
 pub mod WriteReports
 pub mod WriteCalls
+pub mod Numbered
+pub mod Returned
+pub mod Places
+pub mod Lists
+pub mod BlockLists

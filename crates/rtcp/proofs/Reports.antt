@@ -1,42 +1,116 @@
 -- Reports: what C gets, from what the readers answer.
 use mathlib.Core.Path.{_≡_, refl, sym, ap, _∙_}
 use mathlib.Core.List.{List}
-use Prim.Native.Nat.{ℕ, _≤_}
+use Prim.Native.Nat.{ℕ, _+_, _-_, _*_, _≤_}
 use native.Mathlib.Omega.{arith}
 use borrow.Author.Needs.{needs}
-use Rattle.rfc3550.specs.Answer.{Refusal, Answer, ok, refused, mapOk}
-use Rattle.rfc3550.specs.Packet.{Packet}
+use lib.ListN.{length, take, drop}
+use Rattle.rfc3550.specs.Answer.{Answer, ok, refused, mapOk}
+use Rattle.rfc3550.specs.Packet.{Block, Reporter, Packet}
+use Rattle.rfc3550.specs.Read.{Kind, RR, SR, least, readBlocks, readAs}
+use Rattle.utils.specs.Error.{parseRefusal, refusalIn, valueOr}
+use Rattle.utils.specs.declared.error.RtcpParseError.{RtcpParseError}
 use Rattle.utils.specs.declared.list.Listed.{Listed}
 use Rattle.utils.specs.List.{listedOf}
-use Rattle.report.specs.Report.{receiverOf, receiverView, senderOf, senderView}
+use Rattle.utils.proofs.Reading.{parse-read}
+use Rattle.report.specs.Block.{layBlocks}
+use Rattle.report.specs.Report.{reportBlocks, reportBody, receiverView, noReceiver, senderView, noSender}
 use Rattle.report.specs.declared.receiver.ReceiverReport.{ReceiverReport}
-use Rattle.report.specs.declared.receiver.ParsedReceiverReport.{ParsedReceiverReport}
-use Rattle.report.specs.declared.receiver.ParsedReceiverReport.the-variants as receiver
 use Rattle.report.specs.declared.sender.SenderReport.{SenderReport}
-use Rattle.report.specs.declared.sender.ParsedSenderReport.{ParsedSenderReport}
-use Rattle.report.specs.declared.sender.ParsedSenderReport.the-variants as sender
-use Rattle.rtcp.specs.Report.{readOut, readBoth}
-use Rattle.rtcp.proofs.Results.{viewed}
+use Rattle.report.proofs.Reports.{Maker, receiver-maker, sender-maker, value-refused, value-blocks, value-within}
+use Rattle.rtcp.specs.Report.{rrResult, srResult, blocksOut, readOut, readBoth}
+use Rattle.rtcp.specs.WriteResult.{writtenOut}
+use Rattle.rtcp.specs.declared.read_report.RtcpRr.{RtcpRr}
+use Rattle.rtcp.specs.declared.read_report.RtcpSr.{RtcpSr}
+use Rattle.rtcp.specs.declared.write_result.RtcpWritten.{RtcpWritten}
 
-pub rr-order : (o : ParsedReceiverReport) (r : ReceiverReport) (x : Answer Packet) → o ≡ receiver.Report r → receiverOf o ≡ mapOk receiverView x → r .extension ≤ r .body
-rr-order o r x = viewed receiverOf receiver.Report (λ r. refl) receiverView (λ (r : ReceiverReport). r .extension ≤ r .body) x (λ p e. omega arith) o r
+-- of what the lists' call answers, whose constructor is known
+pub out-known : {A R : Type 0} (result : Answer A → R) (a : Answer A) (q k : Listed) (r : R) → q ≡ k → r ≡ readOut result a (listedOf k) → r ≡ readOut result a (listedOf q)
+out-known result a q k r e p = p ∙ ap (λ (q : Listed). readOut result a (listedOf q)) (sym e)
 
-pub sr-order : (o : ParsedSenderReport) (r : SenderReport) (x : Answer Packet) → o ≡ sender.Report r → senderOf o ≡ mapOk senderView x → r .extension ≤ r .body
-sr-order o r x = viewed senderOf sender.Report (λ r. refl) senderView (λ (r : SenderReport). r .extension ≤ r .body) x (λ p e. omega arith) o r
+pub lists-out : (q : Listed) (r : RtcpWritten) (f l w : List ℕ) (x : Answer ℕ × List ℕ × List ℕ × List ℕ) → r ≡ writtenOut (listedOf q) → (listedOf q, f, l, w) ≡ x → (r, f, l, w) ≡ blocksOut x
+lists-out q r f l w x h e = ap (λ (r : RtcpWritten). (r, f, l, w)) h ∙ ap blocksOut e
 
--- ---- a report and its blocks in one call
+-- ---- over the kind, its view and its result
 
-module _ {A R : Type 0} (result : Answer A → R) where
-  -- of what the list's call answers, whose constructor is known
-  pub out-known : (a : Answer A) (q k : Listed) (r : R) → q ≡ k → r ≡ readOut result a (listedOf k) → r ≡ readOut result a (listedOf q)
-  out-known a q k r e p = p ∙ ap (λ (q : Listed). readOut result a (listedOf q)) (sym e)
+module _ {k : Kind} {ws : List ℕ} {who : List ℕ → Reporter} (m : Maker k ws who) {O R : Type 0} (none : O) (view : Packet → O) (bodyIn countIn : O → ℕ) (z : bodyIn none ≡ 0)
+    (b : (p : Packet) → bodyIn (view p) ≡ reportBody p) (c : (p : Packet) → countIn (view p) ≡ length (reportBlocks p)) (result : Answer O → R) (s : List ℕ) (o : O) (h : o ≡ valueOr none view (readAs k s)) where
+  out-refused : (e : RtcpParseError) (r : R) → bodyIn o ≡ 0 → parseRefusal e ≡ refusalIn (readAs k (take (length s - 0) (drop 0 s))) → r ≡ result (refused (parseRefusal e)) → r ≡ result (mapOk view (readAs k s))
+  unfolding mapOk
+  out-refused e r n q p = p ∙ sym (ap (λ (a : Answer Packet). result (mapOk view a)) (value-refused m none view bodyIn countIn z b c s o h n (parseRefusal e) q))
 
-  pub both-refused : (x : Answer A) (y : Answer ℕ × List ℕ) (r : R) (k : Refusal) (l : List ℕ) → r ≡ result (refused k) → (refused k, l) ≡ y → (r, l) ≡ readBoth result x y
-  both-refused x y r k l p q = ap (λ (r : R). (r, l)) p ∙ ap (readBoth result x) q
+  out-read : (r : R) → (bodyIn o ≡ 0 → ⊥) → r ≡ result (ok o) → r ≡ result (mapOk view (readAs k s))
+  out-read r n p = p ∙ ap result (parse-read k s none view bodyIn z o h n)
 
-  pub both-read : {O : Type 0} (of : O → Answer A) (value : A → O) → ((a : A) → of (value a) ≡ ok a) → (o : O) (a : A) (x : Answer A) (z : Answer ℕ) (l : List ℕ) (y : Answer ℕ × List ℕ) (r : R)
-      → o ≡ value a → of o ≡ x → r ≡ readOut result (ok a) z → (z, l) ≡ y → (r, l) ≡ readBoth result x y
-  both-read of value h o a x z l y r e f p q =
-      ap (λ (r : R). (r, l)) (p ∙ ap (λ (x : Answer A). readOut result x z) (sym (h a) ∙ sym (ap of e) ∙ f)) ∙ ap (readBoth result x) q
+  module _ (f l w : List ℕ) where
+    both-refused : (e : RtcpParseError) (r : R) → bodyIn o ≡ 0 → parseRefusal e ≡ refusalIn (readAs k (take (length s - 0) (drop 0 s))) → r ≡ result (refused (parseRefusal e))
+        → (r, f, l, w) ≡ readBoth result (mapOk view (readAs k s)) (layBlocks (mapOk reportBlocks (readAs k s)) f l w)
+    unfolding mapOk layBlocks
+    both-refused e r n q p =
+        ap (λ (r : R). (r, f, l, w)) p
+        ∙ sym (ap (λ (a : Answer Packet). readBoth result (mapOk view a) (layBlocks (mapOk reportBlocks a) f l w)) (value-refused m none view bodyIn countIn z b c s o h n (parseRefusal e) q))
 
-pub ruleset reports = (needs, rr-order, sr-order)
+    both-read : (q : Listed) (r : R) (f₁ l₁ w₁ : List ℕ) → (bodyIn o ≡ 0 → ⊥) → r ≡ readOut result (ok o) (listedOf q)
+        → (listedOf q, f₁, l₁, w₁) ≡ layBlocks (ok (readBlocks (countIn o) (drop (least k) s))) f l w
+        → (r, f₁, l₁, w₁) ≡ readBoth result (mapOk view (readAs k s)) (layBlocks (mapOk reportBlocks (readAs k s)) f l w)
+    both-read q r f₁ l₁ w₁ n p e =
+        ap (λ (r : R). (r, f₁, l₁, w₁)) (p ∙ ap (λ (x : Answer O). readOut result x (listedOf q)) (parse-read k s none view bodyIn z o h n))
+        ∙ ap (readBoth result (mapOk view (readAs k s))) (e ∙ ap (λ (x : Answer (List Block)). layBlocks x f l w) (sym (value-blocks m none view bodyIn countIn z b c s o h n)))
+
+-- ---- receiver reports and sender reports
+
+module _ (s : List ℕ) (o : ReceiverReport) (h : o ≡ valueOr noReceiver receiverView (readAs RR s)) where
+  pub rr-order : o .extension ≤ o .body
+  rr-order = go (readAs RR s) h
+    where
+      go : (a : Answer Packet) → o ≡ valueOr noReceiver receiverView a → o .extension ≤ o .body
+      go (ok p) e = rw e (omega arith)
+      go (refused r) e = rw e (omega arith)
+
+  pub rr-within : (o .body ≡ 0 → ⊥) → 8 + o .«n_reports» * 24 ≤ length s
+  rr-within = value-within receiver-maker noReceiver receiverView (λ o. o .body) (λ o. o .«n_reports») refl (λ p. refl) (λ p. refl) s o h
+
+  pub rr-refused : (e : RtcpParseError) (r : RtcpRr) → o .body ≡ 0 → parseRefusal e ≡ refusalIn (readAs RR (take (length s - 0) (drop 0 s))) → r ≡ rrResult (refused (parseRefusal e)) → r ≡ rrResult (mapOk receiverView (readAs RR s))
+  rr-refused = out-refused receiver-maker noReceiver receiverView (λ o. o .body) (λ o. o .«n_reports») refl (λ p. refl) (λ p. refl) rrResult s o h
+
+  pub rr-read : (r : RtcpRr) → (o .body ≡ 0 → ⊥) → r ≡ rrResult (ok o) → r ≡ rrResult (mapOk receiverView (readAs RR s))
+  rr-read = out-read receiver-maker noReceiver receiverView (λ o. o .body) (λ o. o .«n_reports») refl (λ p. refl) (λ p. refl) rrResult s o h
+
+  module _ (f l w : List ℕ) where
+    pub rr-both-refused : (e : RtcpParseError) (r : RtcpRr) → o .body ≡ 0 → parseRefusal e ≡ refusalIn (readAs RR (take (length s - 0) (drop 0 s))) → r ≡ rrResult (refused (parseRefusal e))
+        → (r, f, l, w) ≡ readBoth rrResult (mapOk receiverView (readAs RR s)) (layBlocks (mapOk reportBlocks (readAs RR s)) f l w)
+    rr-both-refused = both-refused receiver-maker noReceiver receiverView (λ o. o .body) (λ o. o .«n_reports») refl (λ p. refl) (λ p. refl) rrResult s o h f l w
+
+    pub rr-both-read : (q : Listed) (r : RtcpRr) (f₁ l₁ w₁ : List ℕ) → (o .body ≡ 0 → ⊥) → r ≡ readOut rrResult (ok o) (listedOf q)
+        → (listedOf q, f₁, l₁, w₁) ≡ layBlocks (ok (readBlocks (o .«n_reports») (drop 8 s))) f l w
+        → (r, f₁, l₁, w₁) ≡ readBoth rrResult (mapOk receiverView (readAs RR s)) (layBlocks (mapOk reportBlocks (readAs RR s)) f l w)
+    rr-both-read = both-read receiver-maker noReceiver receiverView (λ o. o .body) (λ o. o .«n_reports») refl (λ p. refl) (λ p. refl) rrResult s o h f l w
+
+module _ (s : List ℕ) (o : SenderReport) (h : o ≡ valueOr noSender senderView (readAs SR s)) where
+  pub sr-order : o .extension ≤ o .body
+  sr-order = go (readAs SR s) h
+    where
+      go : (a : Answer Packet) → o ≡ valueOr noSender senderView a → o .extension ≤ o .body
+      go (ok p) e = rw e (omega arith)
+      go (refused r) e = rw e (omega arith)
+
+  pub sr-within : (o .body ≡ 0 → ⊥) → 28 + o .«n_reports» * 24 ≤ length s
+  sr-within = value-within sender-maker noSender senderView (λ o. o .body) (λ o. o .«n_reports») refl (λ p. refl) (λ p. refl) s o h
+
+  pub sr-refused : (e : RtcpParseError) (r : RtcpSr) → o .body ≡ 0 → parseRefusal e ≡ refusalIn (readAs SR (take (length s - 0) (drop 0 s))) → r ≡ srResult (refused (parseRefusal e)) → r ≡ srResult (mapOk senderView (readAs SR s))
+  sr-refused = out-refused sender-maker noSender senderView (λ o. o .body) (λ o. o .«n_reports») refl (λ p. refl) (λ p. refl) srResult s o h
+
+  pub sr-read : (r : RtcpSr) → (o .body ≡ 0 → ⊥) → r ≡ srResult (ok o) → r ≡ srResult (mapOk senderView (readAs SR s))
+  sr-read = out-read sender-maker noSender senderView (λ o. o .body) (λ o. o .«n_reports») refl (λ p. refl) (λ p. refl) srResult s o h
+
+  module _ (f l w : List ℕ) where
+    pub sr-both-refused : (e : RtcpParseError) (r : RtcpSr) → o .body ≡ 0 → parseRefusal e ≡ refusalIn (readAs SR (take (length s - 0) (drop 0 s))) → r ≡ srResult (refused (parseRefusal e))
+        → (r, f, l, w) ≡ readBoth srResult (mapOk senderView (readAs SR s)) (layBlocks (mapOk reportBlocks (readAs SR s)) f l w)
+    sr-both-refused = both-refused sender-maker noSender senderView (λ o. o .body) (λ o. o .«n_reports») refl (λ p. refl) (λ p. refl) srResult s o h f l w
+
+    pub sr-both-read : (q : Listed) (r : RtcpSr) (f₁ l₁ w₁ : List ℕ) → (o .body ≡ 0 → ⊥) → r ≡ readOut srResult (ok o) (listedOf q)
+        → (listedOf q, f₁, l₁, w₁) ≡ layBlocks (ok (readBlocks (o .«n_reports») (drop 28 s))) f l w
+        → (r, f₁, l₁, w₁) ≡ readBoth srResult (mapOk senderView (readAs SR s)) (layBlocks (mapOk reportBlocks (readAs SR s)) f l w)
+    sr-both-read = both-read sender-maker noSender senderView (λ o. o .body) (λ o. o .«n_reports») refl (λ p. refl) (λ p. refl) srResult s o h f l w
+
+pub ruleset reports = (needs, lists-out, rr-order, rr-within, rr-refused, rr-read, rr-both-refused, rr-both-read, sr-order, sr-within, sr-refused, sr-read, sr-both-refused, sr-both-read)

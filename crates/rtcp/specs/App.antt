@@ -18,5 +18,5 @@ appResult a =
       «data» = field (λ x. 12) a;
       «data_len» = field (λ x. x .body - 12) a;
       padding = field (λ x. x .body) a;
-      «padding_len» = field (λ x. x .padding) a;
+      «padding_len» = field (λ x. x .«padding_len») a;
     }

@@ -19,7 +19,7 @@ byeResult a =
       tail = field (λ x. x .reason + x .«reason_len») a;
       «tail_len» = field (λ x. x .body - (x .reason + x .«reason_len»)) a;
       padding = field (λ x. x .body) a;
-      «padding_len» = field (λ x. x .padding) a;
+      «padding_len» = field (λ x. x .«padding_len») a;
     }
 
 abbrev pub sourceResult : Answer ℕ → RtcpSource

@@ -6,3 +6,5 @@ pub mod Sdes
 pub mod Compound
 pub mod WriteResult
 pub mod WriteCompound
+pub mod Returned
+pub mod Places

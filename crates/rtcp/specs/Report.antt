@@ -8,7 +8,9 @@ use Rattle.report.specs.declared.sender.SenderReport.{SenderReport}
 use Rattle.rtcp.specs.declared.read_report.RtcpBlock.{RtcpBlock}
 use Rattle.rtcp.specs.declared.read_report.RtcpRr.{RtcpRr}
 use Rattle.rtcp.specs.declared.read_report.RtcpSr.{RtcpSr}
+use Rattle.rtcp.specs.declared.write_result.RtcpWritten.{RtcpWritten}
 use Rattle.rtcp.specs.Result.{numberOf, firstOf, secondOf, field}
+use Rattle.rtcp.specs.WriteResult.{writtenOut}
 
 abbrev pub blockResult : Answer ReportBlock → RtcpBlock
 blockResult a =
@@ -23,7 +25,6 @@ blockResult a =
       «interarrival_jitter» = field (λ b. b .«interarrival_jitter») a;
       «last_sender_report_timestamp» = field (λ b. b .«last_sender_report_timestamp») a;
       «delay_since_last_sender_report_timestamp» = field (λ b. b .«delay_since_last_sender_report_timestamp») a;
-      reserved = 0;
     }
 
 abbrev pub rrResult : Answer ReceiverReport → RtcpRr
@@ -37,7 +38,7 @@ rrResult a =
       extension = field (λ r. r .extension) a;
       «extension_len» = field (λ r. r .body - r .extension) a;
       padding = field (λ r. r .body) a;
-      «padding_len» = field (λ r. r .padding) a;
+      «padding_len» = field (λ r. r .«padding_len») a;
     }
 
 abbrev pub srResult : Answer SenderReport → RtcpSr
@@ -55,15 +56,18 @@ srResult a =
       extension = field (λ r. r .extension) a;
       «extension_len» = field (λ r. r .body - r .extension) a;
       padding = field (λ r. r .body) a;
-      «padding_len» = field (λ r. r .padding) a;
+      «padding_len» = field (λ r. r .«padding_len») a;
     }
 
--- ---- a report and its blocks in one call
+-- ---- blocks in three lists, by themselves and with the report in one call
+
+abbrev pub blocksOut : Answer ℕ × List ℕ × List ℕ × List ℕ → RtcpWritten × List ℕ × List ℕ × List ℕ
+blocksOut w = (writtenOut (w .0), w .1, w .2, w .3)
 
 -- the report, or why its blocks are not handed over
 abbrev pub readOut : {A R : Type 0} → (Answer A → R) → Answer A → Answer ℕ → R
 readOut result a (ok n) = result a
 readOut result a (refused e) = result (refused e)
 
-abbrev pub readBoth : {A R : Type 0} → (Answer A → R) → Answer A → Answer ℕ × List ℕ → R × List ℕ
-readBoth result a w = (readOut result a (w .0), w .1)
+abbrev pub readBoth : {A R : Type 0} → (Answer A → R) → Answer A → Answer ℕ × List ℕ × List ℕ × List ℕ → R × List ℕ × List ℕ × List ℕ
+readBoth result a w = (readOut result a (w .0), w .1, w .2, w .3)

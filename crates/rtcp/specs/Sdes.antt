@@ -29,7 +29,7 @@ sdesResult a =
       «has_cname» = field (λ x. bit (x .«has_cname»)) a;
       body = field (λ x. x .body) a;
       padding = field (λ x. x .body) a;
-      «padding_len» = field (λ x. x .padding) a;
+      «padding_len» = field (λ x. x .«padding_len») a;
     }
 
 -- ---- items
@@ -43,8 +43,8 @@ abbrev pub itemParts : ℕ → SdesItem → ItemParts
 itemParts at i =
     record {
       prefix = at + prefixStart i;
-      value = at + (prefixStart i + i .prefix);
-      «value_len» = 2 + i .length - (prefixStart i + i .prefix);
+      value = at + (prefixStart i + i .«prefix_len»);
+      «value_len» = 2 + i .length - (prefixStart i + i .«prefix_len»);
     }
 
 abbrev pub itemResult : Answer SdesItem → RtcpItem
@@ -56,7 +56,7 @@ itemResult a =
       «type_» = field (λ x. x .«type_») a;
       length = field (λ x. x .length) a;
       prefix = field (λ x. itemParts 0 x .prefix) a;
-      «prefix_len» = field (λ x. x .prefix) a;
+      «prefix_len» = field (λ x. x .«prefix_len») a;
       value = field (λ x. itemParts 0 x .value) a;
       «value_len» = field (λ x. itemParts 0 x .«value_len») a;
     }
@@ -128,7 +128,7 @@ itemStepResult at a =
       «type_» = field (λ x. x .0 .«type_») a;
       length = field (λ x. x .0 .length) a;
       prefix = field (λ x. itemParts at (x .0) .prefix) a;
-      «prefix_len» = field (λ x. x .0 .prefix) a;
+      «prefix_len» = field (λ x. x .0 .«prefix_len») a;
       value = field (λ x. itemParts at (x .0) .value) a;
       «value_len» = field (λ x. itemParts at (x .0) .«value_len») a;
       at = moved {A = SdesItem} {W = ItemWalk} (record { at = at }) a .at;

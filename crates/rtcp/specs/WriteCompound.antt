@@ -1,36 +1,31 @@
--- The compound writer as C gets it. A flag that is not 0 is set. A call hands on the writer after it, on a refusal the one that went in.
+-- The compound writer as C gets it. Its state is a lent list of numbers: the length so far, then a flag each for padded, CNAME and closed, set where
+-- it is not 0. A call leaves the state of the writer after it, and on a refusal the one that it was lent.
 use Prim.Native.Nat.{ℕ}
-use mathlib.Core.List.{List}
+use mathlib.Core.List.{List, [], _∷_}
+use lib.ListN.{getD}
 use lib.Dec.{ltb}
 use Rattle.rfc3550.specs.Answer.{Answer, ok, refused}
 use Rattle.rfc3550.specs.Writer.{Writer}
-use Rattle.rtcp.specs.declared.write_compound.RtcpWriter.{RtcpWriter}
 use Rattle.rtcp.specs.declared.write_compound.RtcpCall.{RtcpCall}
 use Rattle.rtcp.specs.Result.{numberOf, firstOf, secondOf, bit}
 
-abbrev pub writerIn : RtcpWriter → Writer
-writerIn w = record { len = w .length; padded = ltb 0 (w .padded); cname = ltb 0 (w .cname); closed = ltb 0 (w .closed) }
+abbrev pub writerIn : List ℕ → Writer
+writerIn s = record { len = getD s 0 0; padded = ltb 0 (getD s 1 0); cname = ltb 0 (getD s 2 0); closed = ltb 0 (getD s 3 0) }
 
-abbrev pub writerOut : Writer → RtcpWriter
-writerOut w = record { length = w .len; padded = bit (w .padded); cname = bit (w .cname); closed = bit (w .closed) }
+abbrev pub writerOut : Writer → List ℕ
+writerOut w = w .len ∷ bit (w .padded) ∷ bit (w .cname) ∷ bit (w .closed) ∷ []
 
-abbrev pub handedOn : Answer (Unit {0}) → Writer → Answer Writer
-handedOn (ok u) w = ok w
-handedOn (refused r) w = refused r
+abbrev pub stateAfter : List ℕ → Answer (Unit {0}) → Writer → List ℕ
+stateAfter s (ok u) w = writerOut w
+stateAfter s (refused r) w = s
 
-abbrev pub heldAfter : RtcpWriter → Answer Writer → RtcpWriter
-heldAfter w (ok v) = writerOut v
-heldAfter w (refused r) = w
+abbrev pub callResult : Answer (Unit {0}) → RtcpCall
+callResult a = record { number = numberOf a; first = firstOf a; second = secondOf a }
 
-abbrev pub callResult : RtcpWriter → Answer Writer → RtcpCall
-callResult w a =
-    record {
-      number = numberOf a;
-      first = firstOf a;
-      second = secondOf a;
-      writer = heldAfter w a;
-    }
+-- of the answer and the writer after it: the result, and the state that is left
+abbrev pub handedOn : List ℕ → Answer (Unit {0}) × Writer → RtcpCall × List ℕ
+handedOn s x = (callResult (x .0), stateAfter s (x .0) (x .1))
 
--- a call on the writer w: its result and beside it the buffer that is left
-abbrev pub calledOut : RtcpWriter → Answer (Unit {0}) × Writer × List ℕ → RtcpCall × List ℕ
-calledOut w x = (callResult w (handedOn (x .0) (x .1)), x .2)
+-- with the buffer that is left
+abbrev pub calledOut : List ℕ → Answer (Unit {0}) × Writer × List ℕ → RtcpCall × List ℕ × List ℕ
+calledOut s x = (callResult (x .0), stateAfter s (x .0) (x .1), x .2)

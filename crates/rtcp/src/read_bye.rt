@@ -85,7 +85,7 @@ pub extern "C" fn rtcp_bye_parse(s: &[u8]) -> RtcpBye
             tail: (bye.reason + bye.reason_len) as u64,
             tail_len: (bye.body - (bye.reason + bye.reason_len)) as u64,
             padding: bye.body as u64,
-            padding_len: bye.padding as u64,
+            padding_len: bye.padding_len as u64,
         },
         ParsedBye::Refused(e) => RtcpBye::refused(e),
     }

@@ -173,7 +173,7 @@ impl PacketNumbers {
     fn of_sr(sr: SenderReport) -> PacketNumbers
         ensures { λ r. ⌜ r ≡ srNumbers sr ⌝ }
     {
-        let mut n = PacketNumbers::bare(200, 200, sr.n_reports as u64, sr.body, sr.padding);
+        let mut n = PacketNumbers::bare(200, 200, sr.n_reports as u64, sr.body, sr.padding_len);
         n.ssrc = sr.ssrc as u64;
         n.ntp_timestamp = sr.ntp_timestamp;
         n.rtp_timestamp = sr.rtp_timestamp as u64;
@@ -186,7 +186,7 @@ impl PacketNumbers {
     fn of_rr(rr: ReceiverReport) -> PacketNumbers
         ensures { λ r. ⌜ r ≡ rrNumbers rr ⌝ }
     {
-        let mut n = PacketNumbers::bare(201, 201, rr.n_reports as u64, rr.body, rr.padding);
+        let mut n = PacketNumbers::bare(201, 201, rr.n_reports as u64, rr.body, rr.padding_len);
         n.ssrc = rr.ssrc as u64;
         n.extension = rr.extension as u64;
         n
@@ -195,7 +195,13 @@ impl PacketNumbers {
     fn of_sdes(sdes: Sdes) -> PacketNumbers
         ensures { λ r. ⌜ r ≡ sdesNumbers sdes ⌝ }
     {
-        let mut n = PacketNumbers::bare(202, 202, sdes.n_chunks as u64, sdes.body, sdes.padding);
+        let mut n = PacketNumbers::bare(
+            202,
+            202,
+            sdes.n_chunks as u64,
+            sdes.body,
+            sdes.padding_len,
+        );
         n.has_cname = bit(sdes.has_cname);
         n
     }
@@ -203,7 +209,7 @@ impl PacketNumbers {
     fn of_bye(bye: Bye) -> PacketNumbers
         ensures { λ r. ⌜ r ≡ byeNumbers bye ⌝ }
     {
-        let mut n = PacketNumbers::bare(203, 203, bye.n_sources as u64, bye.body, bye.padding);
+        let mut n = PacketNumbers::bare(203, 203, bye.n_sources as u64, bye.body, bye.padding_len);
         n.has_reason = bit(bye.has_reason);
         n.reason = bye.reason as u64;
         n.reason_len = bye.reason_len as u64;
@@ -213,7 +219,7 @@ impl PacketNumbers {
     fn of_app(app: App) -> PacketNumbers
         ensures { λ r. ⌜ r ≡ appNumbers app ⌝ }
     {
-        let mut n = PacketNumbers::bare(204, 204, app.subtype as u64, app.body, app.padding);
+        let mut n = PacketNumbers::bare(204, 204, app.subtype as u64, app.body, app.padding_len);
         n.ssrc = app.ssrc as u64;
         n
     }
@@ -221,7 +227,13 @@ impl PacketNumbers {
     fn of_unknown(u: Unknown) -> PacketNumbers
         ensures { λ r. ⌜ r ≡ unknownNumbers u ⌝ }
     {
-        PacketNumbers::bare(0, u.packet_type as u64, u.count as u64, u.body, u.padding)
+        PacketNumbers::bare(
+            0,
+            u.packet_type as u64,
+            u.count as u64,
+            u.body,
+            u.padding_len,
+        )
     }
 
     fn of(packet: Packet) -> PacketNumbers

@@ -1,11 +1,9 @@
 // Reports and their blocks.
 use super::write_result::RtcpWritten;
-use report::receiver::ParsedReceiverReport;
 use report::receiver::ReceiverReport;
 use report::report_block::ParsedReportBlock;
 use report::report_block::ReportBlock;
 use report::report_block::list_blocks_unchecked;
-use report::sender::ParsedSenderReport;
 use report::sender::SenderReport;
 use utils::error::Code;
 use utils::error::RtcpParseError;
@@ -15,25 +13,23 @@ ghost use Prim.Native.Nat.{_≤_};
 ghost use Rattle.rfc3550.specs.Answer.{ok, refused, mapOk};
 ghost use Rattle.rfc3550.specs.Read.{RR, SR, readAs, readBlock, readBlockAt};
 ghost use Rattle.utils.specs.Error.{parseRefusal, codeRefusal};
-ghost use Rattle.utils.specs.List.{listedOf, layList};
-ghost use Rattle.report.specs.Block.{parsedBlockOf, blockView};
-ghost use Rattle.report.specs.Report.{receiverView, senderView, reportNumbers};
-ghost use Rattle.rtcp.specs.Report.{blockResult, rrResult, srResult, readOut, readBoth};
-ghost use Rattle.rtcp.specs.WriteResult.{handedOut};
+ghost use Rattle.utils.specs.List.{listedOf};
+ghost use Rattle.report.specs.Block.{parsedBlockOf, blockView, layBlocks};
+ghost use Rattle.report.specs.Report.{receiverView, senderView, reportBlocks};
+ghost use Rattle.rtcp.specs.Report.{blockResult, rrResult, srResult, blocksOut, readOut, readBoth};
 
 #[repr(C)]
 pub struct RtcpBlock {
     pub number: u64,
     pub first: u64,
     pub second: u64,
-    pub ssrc: u32,
-    pub fraction_lost: u32,
-    pub cumulative_lost: u32,
-    pub extended_sequence_number: u32,
-    pub interarrival_jitter: u32,
-    pub last_sender_report_timestamp: u32,
-    pub delay_since_last_sender_report_timestamp: u32,
-    pub reserved: u32,
+    pub ssrc: u64,
+    pub fraction_lost: u64,
+    pub cumulative_lost: u64,
+    pub extended_sequence_number: u64,
+    pub interarrival_jitter: u64,
+    pub last_sender_report_timestamp: u64,
+    pub delay_since_last_sender_report_timestamp: u64,
 }
 
 #[repr(C)]
@@ -82,7 +78,6 @@ impl RtcpBlock {
             interarrival_jitter: 0,
             last_sender_report_timestamp: 0,
             delay_since_last_sender_report_timestamp: 0,
-            reserved: 0,
         }
     }
 
@@ -94,14 +89,13 @@ impl RtcpBlock {
                 number: 0,
                 first: 0,
                 second: 0,
-                ssrc: block.ssrc,
-                fraction_lost: block.fraction_lost as u32,
-                cumulative_lost: block.cumulative_lost,
-                extended_sequence_number: block.extended_sequence_number,
-                interarrival_jitter: block.interarrival_jitter,
-                last_sender_report_timestamp: block.last_sender_report_timestamp,
-                delay_since_last_sender_report_timestamp: block.delay_since_last_sender_report_timestamp,
-                reserved: 0,
+                ssrc: block.ssrc as u64,
+                fraction_lost: block.fraction_lost as u64,
+                cumulative_lost: block.cumulative_lost as u64,
+                extended_sequence_number: block.extended_sequence_number as u64,
+                interarrival_jitter: block.interarrival_jitter as u64,
+                last_sender_report_timestamp: block.last_sender_report_timestamp as u64,
+                delay_since_last_sender_report_timestamp: block.delay_since_last_sender_report_timestamp as u64,
             },
             ParsedReportBlock::Refused(e) => RtcpBlock::refused(e),
         }
@@ -145,7 +139,7 @@ impl RtcpRr {
             extension: rr.extension as u64,
             extension_len: (rr.body - rr.extension) as u64,
             padding: rr.body as u64,
-            padding_len: rr.padding as u64,
+            padding_len: rr.padding_len as u64,
         }
     }
 
@@ -184,7 +178,7 @@ impl RtcpSr {
             extension: sr.extension as u64,
             extension_len: (sr.body - sr.extension) as u64,
             padding: sr.body as u64,
-            padding_len: sr.padding as u64,
+            padding_len: sr.padding_len as u64,
         }
     }
 
@@ -243,20 +237,22 @@ pub extern "C" fn rtcp_block_parse(s: &[u8]) -> RtcpBlock
 pub extern "C" fn rtcp_rr_parse(s: &[u8]) -> RtcpRr
     ensures { λ r. ⌜ r ≡ rrResult (mapOk receiverView (readAs RR (now (s .entry)))) ⌝ }
 {
-    match ReceiverReport::parse(s) {
-        ParsedReceiverReport::Report(rr) => RtcpRr::from_report(rr),
-        ParsedReceiverReport::Refused(e) => RtcpRr::refused(e),
+    let rr = ReceiverReport::read(s);
+    if rr.body == 0 {
+        return RtcpRr::refused(ReceiverReport::why(&s[0..]));
     }
+    RtcpRr::from_report(rr)
 }
 
 #[no_mangle]
 pub extern "C" fn rtcp_sr_parse(s: &[u8]) -> RtcpSr
     ensures { λ r. ⌜ r ≡ srResult (mapOk senderView (readAs SR (now (s .entry)))) ⌝ }
 {
-    match SenderReport::parse(s) {
-        ParsedSenderReport::Report(sr) => RtcpSr::from_report(sr),
-        ParsedSenderReport::Refused(e) => RtcpSr::refused(e),
+    let sr = SenderReport::read(s);
+    if sr.body == 0 {
+        return RtcpSr::refused(SenderReport::why(&s[0..]));
     }
+    RtcpSr::from_report(sr)
 }
 
 // The block with an index, from 0.
@@ -274,42 +270,76 @@ pub extern "C" fn rtcp_sr_report_block(s: &[u8], i: u64) -> RtcpBlock
     RtcpBlock::from_parsed(SenderReport::report_block(s, i as usize))
 }
 
-// Seven numbers for each block, in the record's order, into a lent list.
+// All blocks, into three lent lists: a fraction and a loss for each, and the five words that follow.
 #[no_mangle]
-pub extern "C" fn rtcp_rr_report_blocks(s: &[u8], blocks: &mut [u32]) -> RtcpWritten
-    ensures { λ r. ⌜ (r, now (blocks .exit)) ≡ handedOut (layList (mapOk reportNumbers (readAs RR (now (s .entry)))) (now (blocks .entry))) ⌝ }
+pub extern "C" fn rtcp_rr_report_blocks(
+    s: &[u8],
+    fractions: &mut [u8],
+    losses: &mut [u32],
+    words: &mut [u32],
+) -> RtcpWritten
+    ensures { λ r. ⌜ (r, now (fractions .exit), now (losses .exit), now (words .exit)) ≡ blocksOut (layBlocks (mapOk reportBlocks (readAs RR (now (s .entry)))) (now (fractions .entry)) (now (losses .entry)) (now (words .entry))) ⌝ }
 {
-    RtcpWritten::from_listed(ReceiverReport::report_blocks(s, blocks))
+    RtcpWritten::from_listed(ReceiverReport::report_blocks(s, fractions, losses, words))
 }
 
 #[no_mangle]
-pub extern "C" fn rtcp_sr_report_blocks(s: &[u8], blocks: &mut [u32]) -> RtcpWritten
-    ensures { λ r. ⌜ (r, now (blocks .exit)) ≡ handedOut (layList (mapOk reportNumbers (readAs SR (now (s .entry)))) (now (blocks .entry))) ⌝ }
+pub extern "C" fn rtcp_sr_report_blocks(
+    s: &[u8],
+    fractions: &mut [u8],
+    losses: &mut [u32],
+    words: &mut [u32],
+) -> RtcpWritten
+    ensures { λ r. ⌜ (r, now (fractions .exit), now (losses .exit), now (words .exit)) ≡ blocksOut (layBlocks (mapOk reportBlocks (readAs SR (now (s .entry)))) (now (fractions .entry)) (now (losses .entry)) (now (words .entry))) ⌝ }
 {
-    RtcpWritten::from_listed(SenderReport::report_blocks(s, blocks))
+    RtcpWritten::from_listed(SenderReport::report_blocks(s, fractions, losses, words))
 }
 
 // The report's own numbers, and its blocks as rtcp_rr_report_blocks lays them, in one reading of the packet.
 #[no_mangle]
-pub extern "C" fn rtcp_rr_read(s: &[u8], blocks: &mut [u32]) -> RtcpRr
-    ensures { λ r. ⌜ (r, now (blocks .exit)) ≡ readBoth rrResult (mapOk receiverView (readAs RR (now (s .entry)))) (layList (mapOk reportNumbers (readAs RR (now (s .entry)))) (now (blocks .entry))) ⌝ }
+pub extern "C" fn rtcp_rr_read(
+    s: &[u8],
+    fractions: &mut [u8],
+    losses: &mut [u32],
+    words: &mut [u32],
+) -> RtcpRr
+    ensures { λ r. ⌜ (r, now (fractions .exit), now (losses .exit), now (words .exit)) ≡ readBoth rrResult (mapOk receiverView (readAs RR (now (s .entry)))) (layBlocks (mapOk reportBlocks (readAs RR (now (s .entry)))) (now (fractions .entry)) (now (losses .entry)) (now (words .entry))) ⌝ }
 {
-    let parsed = ReceiverReport::parse(s);
-    let ParsedReceiverReport::Report(rr) = parsed else {
-        return RtcpRr::refused(parsed.refusal());
-    };
-    let listed = list_blocks_unchecked(s, ReceiverReport::MIN_PACKET_LEN, rr.n_reports, blocks);
+    let rr = ReceiverReport::read(s);
+    if rr.body == 0 {
+        return RtcpRr::refused(ReceiverReport::why(&s[0..]));
+    }
+    let listed = list_blocks_unchecked(
+        s,
+        ReceiverReport::MIN_PACKET_LEN,
+        rr.n_reports,
+        fractions,
+        losses,
+        words,
+    );
     RtcpRr::from_listed(rr, listed)
 }
 
 #[no_mangle]
-pub extern "C" fn rtcp_sr_read(s: &[u8], blocks: &mut [u32]) -> RtcpSr
-    ensures { λ r. ⌜ (r, now (blocks .exit)) ≡ readBoth srResult (mapOk senderView (readAs SR (now (s .entry)))) (layList (mapOk reportNumbers (readAs SR (now (s .entry)))) (now (blocks .entry))) ⌝ }
+pub extern "C" fn rtcp_sr_read(
+    s: &[u8],
+    fractions: &mut [u8],
+    losses: &mut [u32],
+    words: &mut [u32],
+) -> RtcpSr
+    ensures { λ r. ⌜ (r, now (fractions .exit), now (losses .exit), now (words .exit)) ≡ readBoth srResult (mapOk senderView (readAs SR (now (s .entry)))) (layBlocks (mapOk reportBlocks (readAs SR (now (s .entry)))) (now (fractions .entry)) (now (losses .entry)) (now (words .entry))) ⌝ }
 {
-    let parsed = SenderReport::parse(s);
-    let ParsedSenderReport::Report(sr) = parsed else {
-        return RtcpSr::refused(parsed.refusal());
-    };
-    let listed = list_blocks_unchecked(s, SenderReport::MIN_PACKET_LEN, sr.n_reports, blocks);
+    let sr = SenderReport::read(s);
+    if sr.body == 0 {
+        return RtcpSr::refused(SenderReport::why(&s[0..]));
+    }
+    let listed = list_blocks_unchecked(
+        s,
+        SenderReport::MIN_PACKET_LEN,
+        sr.n_reports,
+        fractions,
+        losses,
+        words,
+    );
     RtcpSr::from_listed(sr, listed)
 }

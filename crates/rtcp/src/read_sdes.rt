@@ -11,7 +11,6 @@ use sdes_chunk::chunk::ParsedChunk;
 use sdes_chunk::chunk::SdesChunk;
 use sdes_chunk::chunk::SteppedItem;
 use sdes_chunk::item::ParsedItem;
-use sdes_chunk::item::PrefixLen;
 use sdes_chunk::item::SdesItem;
 use utils::error::RtcpParseError;
 ghost use mathlib.Core.Path.{_≡_};
@@ -152,21 +151,6 @@ impl RtcpItem {
     }
 }
 
-impl RtcpPart {
-    fn refused(e: RtcpParseError) -> RtcpPart
-        ensures { λ r. ⌜ r ≡ prefixResult (refused (parseRefusal e)) ⌝ }
-    {
-        let code = e.code();
-        RtcpPart {
-            number: code.number,
-            first: code.first,
-            second: code.second,
-            offset: 0,
-            len: 0,
-        }
-    }
-}
-
 impl RtcpChunk {
     fn refused(e: RtcpParseError) -> RtcpChunk
         ensures { λ r. ⌜ r ≡ chunkResult (refused (parseRefusal e)) ⌝ }
@@ -269,11 +253,11 @@ struct ItemParts {
 
 impl ItemParts {
     fn of(item: SdesItem, at: usize) -> ItemParts
-        requires { ⌜ (prefixStart item + item .prefix ≤ 2 + item .length) × (at + (2 + item .length) < 2 ^ 64) ⌝ }
+        requires { ⌜ (prefixStart item + item .«prefix_len» ≤ 2 + item .length) × (at + (2 + item .length) < 2 ^ 64) ⌝ }
         ensures { λ r. ⌜ r ≡ itemParts at item ⌝ }
     {
         let start = prefix_start(item);
-        let value = start + item.prefix;
+        let value = start + item.prefix_len;
         ItemParts {
             prefix: (at + start) as u64,
             value: (at + value) as u64,
@@ -295,7 +279,7 @@ pub extern "C" fn rtcp_sdes_parse(s: &[u8]) -> RtcpSdes
             has_cname: bit(sdes.has_cname),
             body: sdes.body as u64,
             padding: sdes.body as u64,
-            padding_len: sdes.padding as u64,
+            padding_len: sdes.padding_len as u64,
         },
         ParsedSdes::Refused(e) => RtcpSdes::refused(e),
     }
@@ -316,7 +300,7 @@ pub extern "C" fn rtcp_item_parse(s: &[u8]) -> RtcpItem
                 type_: item.type_ as u64,
                 length: item.length as u64,
                 prefix: parts.prefix,
-                prefix_len: item.prefix as u64,
+                prefix_len: item.prefix_len as u64,
                 value: parts.value,
                 value_len: parts.value_len,
             }
@@ -330,15 +314,24 @@ pub extern "C" fn rtcp_item_parse(s: &[u8]) -> RtcpItem
 pub extern "C" fn rtcp_item_priv_prefix(s: &[u8]) -> RtcpPart
     ensures { λ r. ⌜ r ≡ prefixResult (mapOk length (readPrefix (now (s .entry)))) ⌝ }
 {
-    match SdesItem::priv_prefix_len(s) {
-        PrefixLen::Len(len) => RtcpPart {
-            number: 0,
-            first: 0,
-            second: 0,
-            offset: 3,
-            len: len as u64,
-        },
-        PrefixLen::Refused(e) => RtcpPart::refused(e),
+    let mut answer: [u64; 3] = [0, 0, 0];
+    let prefix = SdesItem::priv_prefix(s, &mut answer);
+    let number = answer[0];
+    if number != 0 {
+        return RtcpPart {
+            number,
+            first: answer[1],
+            second: answer[2],
+            offset: 0,
+            len: 0,
+        };
+    }
+    RtcpPart {
+        number: 0,
+        first: 0,
+        second: 0,
+        offset: 3,
+        len: prefix.len() as u64,
     }
 }
 
@@ -430,7 +423,7 @@ pub extern "C" fn rtcp_item_walk_step(s: &[u8], at: u64) -> RtcpItemStep
                 type_: item.type_ as u64,
                 length: item.length as u64,
                 prefix: parts.prefix,
-                prefix_len: item.prefix as u64,
+                prefix_len: item.prefix_len as u64,
                 value: parts.value,
                 value_len: parts.value_len,
                 at: next.at as u64,

@@ -16,7 +16,7 @@ pub extern "C" fn rtcp_app_write(
 ) -> RtcpWritten
     ensures { λ r. ⌜ (r, now (buf .exit)) ≡ handedOut (write (giveApp subtype ssrc (now (name .entry)) (now («data» .entry)) padding) (now (buf .entry))) ⌝ }
 {
-    RtcpWritten::from_written(app_write::write_into(buf, ssrc, subtype, name, data, padding))
+    RtcpWritten::from_written(app::write::write_into(buf, subtype, ssrc, name, data, padding))
 }
 
 // The size is the same for every SSRC.
@@ -24,5 +24,5 @@ pub extern "C" fn rtcp_app_write(
 pub extern "C" fn rtcp_app_size(subtype: u64, name: &[u8], data: &[u8], padding: u64) -> RtcpWritten
     ensures { λ r. ⌜ ((ssrc : ℕ) → r ≡ writtenOut (calculateSize (giveApp subtype ssrc (now (name .entry)) (now («data» .entry)) padding))) ⌝ }
 {
-    RtcpWritten::from_written(app_write::calculate_size(0, subtype, name, data, padding))
+    RtcpWritten::from_written(app::write::calculate_size(subtype, 0, name, data, padding))
 }

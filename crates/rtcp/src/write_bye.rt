@@ -13,12 +13,12 @@ pub extern "C" fn rtcp_bye_write(
 ) -> RtcpWritten
     ensures { λ r. ⌜ (r, now (buf .exit)) ≡ handedOut (write (giveBye (now (sources .entry)) (now (reason .entry)) padding) (now (buf .entry))) ⌝ }
 {
-    RtcpWritten::from_written(bye_write::write_into(buf, sources, reason, padding))
+    RtcpWritten::from_written(bye::write::write_into(buf, sources, reason, padding))
 }
 
 #[no_mangle]
 pub extern "C" fn rtcp_bye_size(sources: &[u32], reason: &[u8], padding: u64) -> RtcpWritten
     ensures { λ r. ⌜ r ≡ writtenOut (calculateSize (giveBye (now (sources .entry)) (now (reason .entry)) padding)) ⌝ }
 {
-    RtcpWritten::from_written(bye_write::calculate_size(sources, reason, padding))
+    RtcpWritten::from_written(bye::write::calculate_size(sources, reason, padding))
 }

@@ -70,7 +70,7 @@ pub extern "C" fn rtcp_sdes_write(
 ) -> RtcpWritten
     ensures { λ r. ⌜ (r, now (buf .exit)) ≡ handedOut (write (giveSdes (lists (now (ssrcs .entry)) (now (counts .entry)) (now (types .entry)) (now (prefixes .entry)) (now (values .entry)) (now (bytes .entry))) padding) (now (buf .entry))) ⌝ }
 {
-    RtcpWritten::from_written(sdes_write::sdes::write_into(
+    RtcpWritten::from_written(sdes_write::write_into(
         buf,
         ssrcs,
         counts,
@@ -94,7 +94,7 @@ pub extern "C" fn rtcp_sdes_size(
 ) -> RtcpWritten
     ensures { λ r. ⌜ r ≡ writtenOut (calculateSize (giveSdes (lists (now (ssrcs .entry)) (now (counts .entry)) (now (types .entry)) (now (prefixes .entry)) (now (values .entry)) (now (bytes .entry))) padding)) ⌝ }
 {
-    RtcpWritten::from_written(sdes_write::sdes::calculate_size(
+    RtcpWritten::from_written(sdes_write::calculate_size(
         ssrcs,
         counts,
         types,

@@ -1,4 +1,7 @@
 pub mod Packets
 pub mod Walks
 pub mod Injective
-pub mod Scans
+pub mod Returned
+pub mod ItemPlaces
+pub mod ItemTurns
+pub mod ItemEntries

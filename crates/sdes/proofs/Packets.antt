@@ -1,122 +1,114 @@
 -- The turns over a packet's chunks, and the packet.
-use Prim.Native.Nat.{ℕ, zero, suc, _+_, _-_, _^_, _<_, _≤_}
-use mathlib.Core.Path.{_≡_, refl, sym, ap, _∙_, subst}
-use mathlib.Core.Bool.{Bool, true, false, _||_}
+use Prim.Native.Nat.{ℕ, zero, suc, _+_, _-_, _<_, _≤_}
+use mathlib.Core.Path.{_≡_, refl, sym, ap, _∙_}
+use mathlib.Core.Bool.{Bool, _||_}
 use mathlib.Core.List.{List, [], _∷_}
 use native.Mathlib.Omega.{arith}
 use borrow.Author.Needs.{needs}
+use borrow.Author.Tests.{lt-ltb}
 use lib.Dec.{ltb}
-use lib.ListN.{length, getD, take, drop, length-drop, drop-of-length-le}
-use lib.Seq.{drop-cons, drop-drop, length-take-le}
-use Rattle.rfc3550.specs.Answer.{Refusal, Answer, ok, refused, refuse, _>>=_, mapOk}
+use lib.ListN.{length, take, drop, length-drop}
+use lib.Seq.{drop-drop, length-take-le}
+use Rattle.rfc3550.specs.Answer.{Refusal, refusal, Answer, ok, refused, refuse, _>>=_, mapOk}
 use Rattle.rfc3550.specs.Packet.{some, Chunk, chunkBytes, chunkHasCname, Content, Packet, sdes, contentBytes}
 use Rattle.rfc3550.specs.Read.{SDES, lowIn, checkPacket, readChunk, readChunks, readContent, readAs}
 use Rattle.rfc3550.proofs.Answer.{mapOk-inv, or-assoc, or-false}
-use Rattle.utils.specs.declared.error.RtcpParseError.{RtcpParseError}
-use Rattle.utils.specs.declared.parser.CheckedPacket.{CheckedPacket}
-use Rattle.utils.specs.declared.parser.CheckedPacket.the-variants as checked
-use Rattle.utils.specs.Error.{parseRefusal, refusalIn}
-use Rattle.utils.specs.Parser.{checkedOf}
-use Rattle.utils.specs.Parts.{partIn, paddingIn}
+use Rattle.utils.specs.Error.{refusalIn, valueOr, orZero}
+use Rattle.utils.proofs.Values.{value-is, none-is}
+use Rattle.utils.proofs.Parts.{drop-take}
 use Rattle.utils.proofs.Headers.{Accepted}
-use Rattle.utils.proofs.Reading.{packetOf, contentIn, Got, got, header-refused, header-passed, header-accepted, part-refused, padding-is}
-use Rattle.sdes_chunk.specs.declared.chunk.SdesChunk.{SdesChunk}
-use Rattle.sdes_chunk.specs.declared.chunk.ParsedChunk.{ParsedChunk}
-use Rattle.sdes_chunk.specs.declared.chunk.ParsedChunk.the-variants as chunk
+use Rattle.utils.proofs.Reading.{packetOf, contentIn, Got, got, none-at-header, why-at-header, body-accepted, body-content, padding-is}
+use Rattle.sdes_chunk.specs.declared.chunk.Chunks.{Chunks}
 use Rattle.sdes.specs.declared.sdes.Sdes.{Sdes}
-use Rattle.sdes.specs.declared.sdes.ParsedSdes.{ParsedSdes}
-use Rattle.sdes.specs.declared.sdes.ParsedSdes.the-variants as parsed
-use Rattle.sdes.specs.declared.sdes.ReadChunks.{ReadChunks}
-use Rattle.sdes.specs.declared.sdes.ReadChunks.the-variants as chunks
-use Rattle.sdes_chunk.specs.Chunk.{chunkFirst, parsedChunkOf}
-use Rattle.sdes.specs.Sdes.{sdesView, parsedSdesOf, chunksReadOf}
-use Rattle.sdes_chunk.proofs.Answers.{rest-is, map-refusal, map-same, map-bind}
+use Rattle.sdes_chunk.specs.Chunk.{chunkFirst, firstPlace, chunksFrom}
+use Rattle.sdes.specs.Sdes.{sdesView, noSdes}
+use Rattle.sdes_chunk.proofs.Answers.{rest-is}
 use Rattle.sdes_chunk.proofs.Chunks.{chunk-cname}
 use Rattle.sdes_chunk.proofs.Readings.{chunk-in, chunks-in}
 
--- ---- the turns over the chunks
+-- ---- a run over chunks, and reading them
 
-pub or-known : (b : Bool) (n : ℕ) → b ≡ true → true ≡ (b || ltb 0 n)
-or-known b n e = rw e
+first-or : (a b : ℕ) → ltb 0 (firstPlace a b) ≡ (ltb 0 a || ltb 0 b)
+first-or zero b = refl
+first-or (suc a) b = rw (lt-ltb 0 (suc a) (omega arith))
 
-pub or-left : (b : Bool) (n : ℕ) → b ≡ false → ltb 0 n ≡ (b || ltb 0 n)
-or-left b n e = rw e
+-- what a run over n chunks at the start of s says of reading them, in a body of any length
+record Ran (n cname at : ℕ) (s : List ℕ) (r : Chunks) : Type 0 where
+  pub size : ℕ
+  pub place : r .at ≡ at + size
+  pub within : size ≤ length s
+  pub stops : (body : ℕ) → 0 < r .left → readChunks n body s ≡ refused (refusalIn (readChunk (drop size s)))
+  pub more : (body : ℕ) → r .left ≤ 0 → size < length s → readChunks n body s ≡ refuse 3 (body - (length s - size)) body
+  pub all : (body : ℕ) → r .left ≤ 0 → length s ≤ size → (cs : List Chunk) × (readChunks n body s ≡ ok cs) × ((ltb 0 cname || some chunkHasCname cs) ≡ ltb 0 (r .cname))
 
-abbrev named : ℕ → List ℕ → Answer Bool
-named n s = mapOk (some chunkHasCname) (readChunks n (length s) (drop 4 s))
+ran-none : (cname at : ℕ) (s : List ℕ) (r : Chunks) → r ≡ record { at = at; left = 0; cname = cname } → Ran 0 cname at s r
+unfolding readChunks
+ran-none cname at s r e =
+    record {
+      size = 0;
+      place = omega (arith, ap (λ (r : Chunks). r .at) e);
+      within = omega arith;
+      stops = λ body l. absurd (omega (arith, ap (λ (r : Chunks). r .left) e));
+      more = λ body l m. behind s body m;
+      all = λ body l m. ([], nothing s body m, or-false (ltb 0 cname) ∙ ap (λ (r : Chunks). ltb 0 (r .cname)) (sym e));
+    }
+  where
+    behind : (s : List ℕ) (body : ℕ) → 0 < length s → readChunks 0 body s ≡ refuse 3 (body - (length s - 0)) body
+    behind [] body m = absurd (omega arith)
+    behind (b ∷ s) body m = ap (λ (n : ℕ). refuse 3 (body - n) body) {x = length (b ∷ s)} {y = length (b ∷ s) - 0} (omega arith)
 
-abbrev orNamed : Bool → List Chunk → Bool
-orNamed b cs = b || some chunkHasCname cs
+    nothing : (s : List ℕ) (body : ℕ) → length s ≤ 0 → readChunks 0 body s ≡ ok []
+    nothing [] body m = refl
+    nothing (b ∷ s) body m = absurd (omega arith)
 
--- what is known before each turn: the chunks that are left give the answer
-pub record Walking (s : List ℕ) (n at left : ℕ) (b : Bool) : Type 0 where
-  pub within : at ≤ length s
-  pub same : named n s ≡ mapOk (orNamed b) (readChunks left (length s) (drop at s))
-
-pub walk-start : (s : List ℕ) (n : ℕ) → 4 ≤ length s → Walking s n 4 n false
-walk-start s n h = record { within = h; same = refl }
-
-walk-refused₁ : (t : ℕ) (s : List ℕ) (at body : ℕ) (b : Bool) (k : Refusal) → 0 < t → readChunk (drop at s) ≡ refused k
-    → refused k ≡ mapOk (orNamed b) (readChunks t body (drop at s))
-unfolding readChunks _>>=_ mapOk
-walk-refused₁ zero s at body b k l e = absurd (omega arith)
-walk-refused₁ (suc t) s at body b k l e = rw e
-
-walk-again₁ : (t : ℕ) (s : List ℕ) (at body : ℕ) (b : Bool) (x : Chunk × List ℕ) → 0 < t → readChunk (drop at s) ≡ ok x
-    → mapOk (orNamed b) (readChunks t body (drop at s)) ≡ mapOk (orNamed (b || chunkHasCname (x .0))) (readChunks (t - 1) body (drop (at + length (chunkBytes (x .0))) s))
+ran-refused : (n cname at : ℕ) (s : List ℕ) (r : Chunks) (k : Refusal) → readChunk s ≡ refused k → r ≡ record { at = at; left = suc n; cname = cname } → Ran (suc n) cname at s r
 unfolding readChunks _>>=_
-walk-again₁ zero s at body b x l e = absurd (omega arith)
-walk-again₁ (suc t) s at body b x l e =
-    let r : x .1 ≡ drop (at + length (chunkBytes (x .0))) s = chunk-in (drop at s) e .rest ∙ drop-drop (length (chunkBytes (x .0))) at s in
-    let d : suc t - 1 ≡ t = omega arith in
-    rw (d, e, ← r)
-    (map-bind (orNamed b) (λ (cs : List Chunk). x .0 ∷ cs) (readChunks t body (x .1))
-    ∙ map-same _ _ (readChunks t body (x .1)) (λ cs. sym (or-assoc b (chunkHasCname (x .0)) (some chunkHasCname cs))))
+ran-refused n cname at s r k q e =
+    let k : r .left ≡ suc n = ap (λ (r : Chunks). r .left) e in
+    record {
+      size = 0;
+      place = omega (arith, ap (λ (r : Chunks). r .at) e);
+      within = omega arith;
+      stops = λ body l. rw q;
+      more = λ body l m. absurd (omega arith);
+      all = λ body l m. absurd (omega arith);
+    }
 
-walk-more₁ : (s : List ℕ) (at : ℕ) (b : Bool) → at < length s → refuse 3 at (length s) ≡ mapOk (orNamed b) (readChunks 0 (length s) (drop at s))
-unfolding readChunks mapOk
-walk-more₁ s at b l =
-    let e = drop-cons s at 0 l in
-    let n : length s - length (getD s at 0 ∷ drop (suc at) s) ≡ at = omega (arith, ap length e, length-drop at s) in
-    rw (e, n)
+ran-more : (n cname at : ℕ) (s : List ℕ) (r : Chunks) (x : Chunk × List ℕ) → readChunk s ≡ ok x
+    → Ran n (firstPlace cname (chunkFirst x .cname)) (at + length (chunkBytes (x .0))) (x .1) r → Ran (suc n) cname at s r
+unfolding readChunks _>>=_
+ran-more n cname at s r x q w =
+    let g = chunk-in s q in
+    let c = length (chunkBytes (x .0)) in
+    record {
+      size = c + w .size;
+      place = omega (arith, w .place);
+      within = omega (arith, g .size, w .within);
+      stops = λ body l.
+          let d : drop (w .size) (x .1) ≡ drop (c + w .size) s = ap (drop (w .size)) (g .rest) ∙ drop-drop (w .size) c s in
+          rw (q, w .stops body l, d);
+      more = λ body l m.
+          let d : length (x .1) - w .size ≡ length s - (c + w .size) = omega (arith, g .size) in
+          rw (q, w .more body l (omega (arith, g .size)), d);
+      all = λ body l m.
+          let y = w .all body l (omega (arith, g .size)) in (
+            x .0 ∷ y .0,
+            rw (q, y .1),
+            sym (or-assoc (ltb 0 cname) (chunkHasCname (x .0)) (some chunkHasCname (y .0)))
+                ∙ ap (λ (b : Bool). (ltb 0 cname || b) || some chunkHasCname (y .0)) (sym (chunk-cname (x .0)))
+                ∙ ap (λ (b : Bool). b || some chunkHasCname (y .0)) (sym (first-or cname (chunkFirst x .cname)))
+                ∙ y .2,
+          );
+    }
 
-walk-done₁ : (s : List ℕ) (at : ℕ) (b : Bool) → length s ≤ at → ok b ≡ mapOk (orNamed b) (readChunks 0 (length s) (drop at s))
-unfolding readChunks mapOk
-walk-done₁ s at b l = rw (drop-of-length-le s l, or-false b)
-
-module _ (s : List ℕ) (n at left : ℕ) (b : Bool) (g : Walking s n at left b) where
-  module _ (o : ParsedChunk) (h : parsedChunkOf o ≡ mapOk chunkFirst (readChunk (take (length s - at) (drop at s)))) where
-    here : parsedChunkOf o ≡ mapOk chunkFirst (readChunk (drop at s))
-    here = h ∙ ap (λ (bs : List ℕ). mapOk chunkFirst (readChunk bs)) (rest-is s at)
-
-    pub walk-refused : (v : RtcpParseError) (k : Refusal) → o ≡ chunk.Refused v → k ≡ refusalIn (parsedChunkOf o) → 0 < left → refused k ≡ named n s
-    walk-refused v k e q l =
-        let w = map-refusal chunkFirst (readChunk (drop at s)) (parseRefusal v) (sym (ap parsedChunkOf e) ∙ here) in
-        ap refused (q ∙ rw e) ∙ walk-refused₁ left s at (length s) b (parseRefusal v) l w ∙ sym (g .same)
-
-    module _ (c : SdesChunk) (e : o ≡ chunk.Chunk c) where
-      came : (x : Chunk × List ℕ) × (readChunk (drop at s) ≡ ok x) × (chunkFirst x ≡ c)
-      came = mapOk-inv chunkFirst (readChunk (drop at s)) (sym here ∙ ap parsedChunkOf e)
-
-      walk-within : at + c .length ≤ length s
-      walk-within =
-          let m : length (chunkBytes (came .0 .0)) ≡ c .length = ap (λ (c : SdesChunk). c .length) (came .2) in
-          omega (arith, chunk-in (drop at s) (came .1) .size, length-drop at s, g .within)
-
-      pub walk-fits : length s < 2 ^ 64 → at + c .length < 2 ^ 64
-      walk-fits l = let m = walk-within in omega arith
-
-      pub walk-again : (d : Bool) → 0 < left → d ≡ (b || ltb 0 (c .cname)) → Walking s n (at + c .length) (left - 1) d
-      walk-again d l q =
-          let m : length (chunkBytes (came .0 .0)) ≡ c .length = ap (λ (c : SdesChunk). c .length) (came .2) in
-          let k : chunkHasCname (came .0 .0) ≡ ltb 0 (c .cname) = sym (chunk-cname (came .0 .0)) ∙ ap (λ (c : SdesChunk). ltb 0 (c .cname)) (came .2) in
-          record { within = walk-within; same = rw (q, ← m, ← k) (g .same ∙ walk-again₁ left s at (length s) b (came .0) l (came .1)) }
-
-  pub walk-more : left ≤ 0 → at < length s → refuse 3 at (length s) ≡ named n s
-  walk-more z l = let q : left ≡ 0 = omega arith in walk-more₁ s at b l ∙ ap (λ (t : ℕ). mapOk (orNamed b) (readChunks t (length s) (drop at s))) (sym q) ∙ sym (g .same)
-
-  pub walk-done : left ≤ 0 → length s ≤ at → ok b ≡ named n s
-  walk-done z l = let q : left ≡ 0 = omega arith in walk-done₁ s at b l ∙ ap (λ (t : ℕ). mapOk (orNamed b) (readChunks t (length s) (drop at s))) (sym q) ∙ sym (g .same)
+ran : (n cname at : ℕ) (s : List ℕ) (r : Chunks) → r ≡ chunksFrom n at cname s → Ran n cname at s r
+unfolding chunksFrom
+ran zero cname at s r e = ran-none cname at s r e
+ran (suc n) cname at s r e = go (λ c a t q. ran n c a t r q) (readChunk s) refl
+  where
+    go : ((c a : ℕ) (t : List ℕ) → r ≡ chunksFrom n a c t → Ran n c a t r) → (m : Answer (Chunk × List ℕ)) → readChunk s ≡ m → Ran (suc n) cname at s r
+    go again (refused k) q = ran-refused n cname at s r k q (e ∙ rw q)
+    go again (ok x) q = ran-more n cname at s r x q (again _ _ (x .1) (e ∙ rw q))
 
 -- ---- the packet
 
@@ -145,9 +137,9 @@ sdes-body s p g =
     let w = mapOk-inv sdes (readChunks (lowIn s) (length (take (g .body) s)) (drop 4 (take (g .body) s))) (sym (content-chunks s (g .body) (g .enough) (g .within)) ∙ g .content) in
     ap (λ (c : Content). 4 + length (contentBytes c)) (sym (w .2)) ∙ chunks-body s (g .body) (g .enough) (g .within) (w .1)
 
-module _ (s : List ℕ) (o : CheckedPacket) (h : checkedOf o ≡ checkPacket SDES s) (b : ℕ) (e : o ≡ checked.Body b) where
+module _ (s : List ℕ) (b : ℕ) (h : b ≡ orZero (checkPacket SDES s)) (z : b ≡ 0 → ⊥) where
   body : Accepted 4 s b
-  body = header-accepted SDES s o b e h
+  body = body-accepted SDES s b h z
 
   pub body-long : 4 ≤ length s
   body-long = let w = body in omega arith
@@ -155,67 +147,107 @@ module _ (s : List ℕ) (o : CheckedPacket) (h : checkedOf o ≡ checkPacket SDE
   pub body-within : b ≤ length s
   body-within = body .within
 
-  pub body-length : b ≡ length (take b s)
-  body-length = sym (body-is s b (body .enough) (body .within))
+  rest : List ℕ
+  rest = drop 4 (take b s)
 
-  pub body-least : 4 ≤ length (take b s)
-  body-least = let w = body in omega (arith, body-length)
+  rest-part : take (b - 4) (drop 4 s) ≡ rest
+  unfolding rest
+  rest-part = sym (drop-take 4 b s)
 
-  module _ (n : ℕ) (p : ReadChunks) (f : chunksReadOf p ≡ named n (take b s)) (c : n ≡ lowIn s) where
-    read : Answer (List Chunk)
-    read = readChunks (lowIn s) (length (take b s)) (drop 4 (take b s))
+  rest-length : length rest ≡ b - 4
+  unfolding rest
+  rest-length = rw length-drop (omega (arith, body-is s b (body .enough) (body .within)))
 
-    same : chunksReadOf p ≡ mapOk (some chunkHasCname) read
+  pub body-least : 4 ≤ b
+  body-least = body .enough
+
+  read : Answer (List Chunk)
+  read = readChunks (lowIn s) (length (take b s)) rest
+
+  whole : readAs SDES s ≡ mapOk (packetOf s b) (mapOk sdes read)
+  unfolding read rest
+  whole = body-content SDES s b h z ∙ ap (mapOk (packetOf s b)) (content-chunks s b (body .enough) (body .within))
+
+  stops : (k : Refusal) → read ≡ refused k → readAs SDES s ≡ refused k
+  unfolding mapOk
+  stops k e = whole ∙ rw e
+
+  module _ (n : ℕ) (r : Chunks) (g : r ≡ chunksFrom n 0 0 (take (b - 4) (drop 4 s))) (c : n ≡ lowIn s) where
+    reads : Ran (lowIn s) 0 0 rest r
+    reads = ran (lowIn s) 0 0 rest r (g ∙ rw (c, rest-part))
+
+    reads-place : r .at ≡ reads .size
+    reads-place = omega (arith, reads .place)
+
+    pub chunks-inside : r .at ≤ length (take (b - 4) (drop 4 s))
+    chunks-inside = rw rest-part (omega (arith, reads .within, reads .place))
+
+    -- a chunk that is refused
+    at-chunk : 0 < r .left → readAs SDES s ≡ refused (refusalIn (readChunk (drop (r .at) rest)))
     unfolding read
-    same = rw c at f
+    at-chunk l = rw reads-place (stops _ (reads .stops (length (take b s)) l))
 
-    whole : mapOk sdesView (mapOk (packetOf s b) (mapOk sdes read)) ≡ mapOk sdesView (readAs SDES s)
-    unfolding read
-    whole =
-        ap (λ (a : Answer Content). mapOk sdesView (mapOk (packetOf s b) a)) (sym (content-chunks s b (body .enough) (body .within)))
-        ∙ header-passed SDES s sdesView o h b e
+    pub none-at-chunk : (o : Sdes) → o ≡ noSdes → 0 < r .left → o ≡ valueOr noSdes sdesView (readAs SDES s)
+    none-at-chunk o q l = q ∙ sym (ap (valueOr noSdes sdesView) (at-chunk l))
 
-    pub chunks-refused : (v : RtcpParseError) (k : Refusal) → p ≡ chunks.Refused v → k ≡ refusalIn (chunksReadOf p) → refused k ≡ mapOk sdesView (readAs SDES s)
-    unfolding mapOk
-    chunks-refused v k d q =
-        let w = map-refusal (some chunkHasCname) read (parseRefusal v) (sym (ap chunksReadOf d) ∙ same) in
-        let r : refusalIn (chunksReadOf p) ≡ parseRefusal v = rw d in
-        ap refused (q ∙ r) ∙ ap (λ (a : Answer (List Chunk)). mapOk sdesView (mapOk (packetOf s b) (mapOk sdes a))) (sym w) ∙ whole
+    pub why-at-chunk : (k : Refusal) → 0 < r .left → k ≡ refusalIn (readChunk (take (length (take (b - 4) (drop 4 s)) - r .at) (drop (r .at) (take (b - 4) (drop 4 s))))) → k ≡ refusalIn (readAs SDES s)
+    why-at-chunk k l q =
+        q ∙ ap (λ (s : List ℕ). refusalIn (readChunk s)) (rest-is (take (b - 4) (drop 4 s)) (r .at) ∙ ap (drop (r .at)) rest-part) ∙ sym (ap refusalIn (at-chunk l))
 
-    pub chunks-read : (d : Bool) → p ≡ chunks.HasCname d
-        → ok (record { «n_chunks» = n; «has_cname» = d; body = b; padding = length s - b }) ≡ mapOk sdesView (readAs SDES s)
-    unfolding read mapOk
-    chunks-read d q =
-        let w = mapOk-inv (some chunkHasCname) read (sym same ∙ ap chunksReadOf q) in
-        go (w .0) (w .1) (w .2)
-      where
-        go : (cs : List Chunk) → read ≡ ok cs → some chunkHasCname cs ≡ d
-            → ok (record { «n_chunks» = n; «has_cname» = d; body = b; padding = length s - b }) ≡ mapOk sdesView (readAs SDES s)
-        go cs r t =
-            let g : length cs ≡ n = chunks-in (lowIn s) (length (take b s)) (drop 4 (take b s)) r .0 ∙ sym c in
-            let m : 4 + length (contentBytes (sdes cs)) ≡ b = chunks-body s b (body .enough) (body .within) r in
-            let v : sdesView (packetOf s b (sdes cs)) ≡ record { «n_chunks» = n; «has_cname» = d; body = b; padding = length s - b } = rw (g, t, m, length-drop b s) in
-            ap ok (sym v) ∙ ap (λ (a : Answer (List Chunk)). mapOk sdesView (mapOk (packetOf s b) (mapOk sdes a))) (sym r) ∙ whole
+    module _ (l : r .left ≤ 0) where
+      -- bytes behind the last chunk
+      at-end : r .at < b - 4 → readAs SDES s ≡ refuse 3 (4 + r .at) b
+      unfolding read
+      at-end m =
+          let t : length (take b s) ≡ b = body-is s b (body .enough) (body .within) in
+          let d : length (take b s) - (length rest - reads .size) ≡ 4 + r .at = omega (arith, rest-length, reads .place) in
+          stops _ (reads .more (length (take b s)) l (omega (arith, rest-length, reads .place)) ∙ rw (d, t))
 
-module _ (s : List ℕ) (o : ParsedSdes) (h : parsedSdesOf o ≡ mapOk sdesView (readAs SDES s)) where
-  pub padding-refused : (v : RtcpParseError) → o ≡ parsed.Refused v → [] ≡ paddingIn (readAs SDES s)
-  padding-refused v e = part-refused sdesView (parsedSdesOf o) (parseRefusal v) (λ p. p .padding) (readAs SDES s) (ap parsedSdesOf e) h
+      pub none-at-end : (o : Sdes) → o ≡ noSdes → r .at < b - 4 → o ≡ valueOr noSdes sdesView (readAs SDES s)
+      none-at-end o q m = q ∙ sym (ap (valueOr noSdes sdesView) (at-end m))
 
-  module _ (p : Sdes) (e : o ≡ parsed.Sdes p) where
-    found : (x : Packet) × (readAs SDES s ≡ ok x) × (sdesView x ≡ p)
-    found = mapOk-inv sdesView (readAs SDES s) (sym h ∙ ap parsedSdesOf e)
+      pub why-at-end : r .at < b - 4 → refusal 3 (4 + r .at) b ≡ refusalIn (readAs SDES s)
+      why-at-end m = sym (ap refusalIn (at-end m))
 
-    ends : (x : Packet) (g : Got SDES s x) → sdesView x ≡ p → g .body ≡ p .body
-    ends x g v = sym (sdes-body s x g) ∙ ap (λ (p : Sdes). p .body) v
+      module _ (m : b - 4 ≤ r .at) where
+        all : (cs : List Chunk) × (read ≡ ok cs) × (some chunkHasCname cs ≡ ltb 0 (r .cname))
+        unfolding read
+        all = reads .all (length (take b s)) l (omega (arith, rest-length, reads .place))
 
-    pub padding-start : p .body ≤ length s
-    padding-start = let g = got SDES s (found .0) (found .1) in rw (← ends (found .0) g (found .2)) (g .within)
+        packet : readAs SDES s ≡ ok (packetOf s b (sdes (all .0)))
+        unfolding mapOk
+        packet = whole ∙ rw (all .1)
 
-    pub padding-part : take (length s - p .body) (drop (p .body) s) ≡ paddingIn (readAs SDES s)
-    unfolding partIn
-    padding-part =
-        let g = got SDES s (found .0) (found .1) in
-        subst (λ (n : ℕ). take (length s - n) (drop n s) ≡ found .0 .padding) (ends (found .0) g (found .2)) (padding-is SDES s (found .0) g)
-        ∙ ap paddingIn (sym (found .1))
+        pub sdes-read : (d : Bool) → d ≡ ltb 0 (r .cname) → record { «n_chunks» = n; «has_cname» = d; body = b; «padding_len» = length s - b } ≡ valueOr noSdes sdesView (readAs SDES s)
+        unfolding read rest
+        sdes-read d y =
+            let q : length (all .0) ≡ n = chunks-in (lowIn s) (length (take b s)) (drop 4 (take b s)) (all .1) .0 ∙ sym c in
+            let t : 4 + length (contentBytes (sdes (all .0))) ≡ b = chunks-body s b (body .enough) (body .within) (all .1) in
+            let v : sdesView (packetOf s b (sdes (all .0))) ≡ record { «n_chunks» = n; «has_cname» = d; body = b; «padding_len» = length s - b } = rw (q, all .2, y, t, length-drop b s) in
+            sym (ap (valueOr noSdes sdesView) packet ∙ v)
 
-pub ruleset packets = (needs, or-known, or-left, walk-start, walk-refused, walk-fits, walk-again, walk-more, walk-done, header-refused, body-long, body-within, body-length, body-least, chunks-refused, chunks-read, padding-refused, padding-start, padding-part)
+        pub why-none : refusal 25 0 0 ≡ refusalIn (readAs SDES s)
+        why-none = sym (ap refusalIn packet)
+
+pub none-header : (s : List ℕ) (b : ℕ) (r : Sdes) → b ≡ orZero (checkPacket SDES s) → b ≡ 0 → r ≡ noSdes → r ≡ valueOr noSdes sdesView (readAs SDES s)
+none-header s b r h z q = q ∙ none-at-header SDES s b h noSdes sdesView z
+
+pub why-header : (s : List ℕ) (b : ℕ) (r : Refusal) → b ≡ orZero (checkPacket SDES s) → b ≡ 0 → r ≡ refusalIn (checkPacket SDES s) → r ≡ refusalIn (readAs SDES s)
+why-header s b r h z q = why-at-header SDES s b h r z q
+
+module _ (s : List ℕ) (o : Sdes) (h : o ≡ valueOr noSdes sdesView (readAs SDES s)) where
+  pub sdes-refused : (k : Refusal) → o .body ≡ 0 → k ≡ refusalIn (readAs SDES (take (length s - 0) (drop 0 s))) → refused k ≡ mapOk sdesView (readAs SDES s)
+  sdes-refused k z q =
+      none-is noSdes sdesView (λ o. o .body) refl (λ p. omega arith) sdesView (readAs SDES s) o k h z (q ∙ ap (λ (s : List ℕ). refusalIn (readAs SDES s)) (rest-is s 0))
+
+  pub sdes-parsed : (o .body ≡ 0 → ⊥) → ok o ≡ mapOk sdesView (readAs SDES s)
+  sdes-parsed z = value-is noSdes sdesView (λ o. o .body) refl (readAs SDES s) o h z
+
+-- the part that padding_bytes hands over is the packet's padding
+pub padding-field : (s : List ℕ) (p : Packet) → readAs SDES s ≡ ok p → take (sdesView p .«padding_len») (drop (sdesView p .body) s) ≡ p .padding
+padding-field s p e =
+    let g = got SDES s p e in
+    let n : length s - g .body ≡ length (p .padding) = sym (length-drop (g .body) s) ∙ ap length (g .padding) in
+    rw (sdes-body s p g, ← n) (padding-is SDES s p g)
+
+pub ruleset packets = (needs, body-long, body-within, body-least, chunks-inside, none-at-chunk, why-at-chunk, none-at-end, why-at-end, sdes-read, why-none, none-header, why-header, sdes-refused, sdes-parsed)

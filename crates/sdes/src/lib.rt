@@ -1,2 +1,3 @@
 // Source descriptions (sdes.rs of rtcp-types).
+pub mod items;
 pub mod sdes;

@@ -1,5 +1,4 @@
 -- The interpretations lose nothing: each has an inverse on what it gives.
-use Prim.Native.Nat.{ℕ}
 use mathlib.Core.Path.{_≡_, refl, ap}
 use Rattle.rfc3550.specs.Answer.{Answer, ok, refused}
 use Rattle.utils.specs.declared.error.RtcpParseError.{RtcpParseError}
@@ -7,10 +6,6 @@ use Rattle.utils.proofs.Injective.{injective, parseError, parseRefusal-back}
 use Rattle.sdes_chunk.specs.declared.item.SdesItem.{SdesItem}
 use Rattle.sdes_chunk.specs.declared.item.ParsedItem.{ParsedItem}
 use Rattle.sdes_chunk.specs.declared.item.ParsedItem.the-variants as item
-use Rattle.sdes_chunk.specs.declared.item.PrefixLen.{PrefixLen}
-use Rattle.sdes_chunk.specs.declared.item.PrefixLen.the-variants as prefix
-use Rattle.sdes_chunk.specs.declared.item.ItemEnd.{ItemEnd}
-use Rattle.sdes_chunk.specs.declared.item.ItemEnd.the-variants as end
 use Rattle.sdes_chunk.specs.declared.chunk.ParsedChunk.{ParsedChunk}
 use Rattle.sdes_chunk.specs.declared.chunk.ParsedChunk.the-variants as chunk
 use Rattle.sdes_chunk.specs.declared.chunk.ItemWalk.{ItemWalk}
@@ -18,7 +13,7 @@ use Rattle.sdes_chunk.specs.declared.chunk.OpenedItems.{OpenedItems}
 use Rattle.sdes_chunk.specs.declared.chunk.OpenedItems.the-variants as opened
 use Rattle.sdes_chunk.specs.declared.chunk.SteppedItem.{SteppedItem}
 use Rattle.sdes_chunk.specs.declared.chunk.SteppedItem.the-variants as stepped
-use Rattle.sdes_chunk.specs.Item.{parsedItemOf, prefixLenOf, itemEndOf}
+use Rattle.sdes_chunk.specs.Item.{parsedItemOf}
 use Rattle.sdes_chunk.specs.Chunk.{parsedChunkOf}
 use Rattle.sdes_chunk.specs.Walk.{openedItemsOf, steppedItemOf}
 
@@ -33,23 +28,6 @@ parsedItemOf-back (item.Refused e) = ap item.Refused (parseRefusal-back e)
 
 pub parsedItemOf-injective : (o p : ParsedItem) → parsedItemOf o ≡ parsedItemOf p → o ≡ p
 parsedItemOf-injective = injective parsedItemOf (fromAnswer item.Item item.Refused) parsedItemOf-back
-
-prefixLenOf-back : (o : PrefixLen) → fromAnswer prefix.Len prefix.Refused (prefixLenOf o) ≡ o
-prefixLenOf-back (prefix.Len n) = refl
-prefixLenOf-back (prefix.Refused e) = ap prefix.Refused (parseRefusal-back e)
-
-pub prefixLenOf-injective : (o p : PrefixLen) → prefixLenOf o ≡ prefixLenOf p → o ≡ p
-prefixLenOf-injective = injective prefixLenOf (fromAnswer prefix.Len prefix.Refused) prefixLenOf-back
-
-abbrev itemEnd : SdesItem × ℕ → ItemEnd
-itemEnd x = end.At (x .0) (x .1)
-
-itemEndOf-back : (o : ItemEnd) → fromAnswer itemEnd end.Refused (itemEndOf o) ≡ o
-itemEndOf-back (end.At i n) = refl
-itemEndOf-back (end.Refused e) = ap end.Refused (parseRefusal-back e)
-
-pub itemEndOf-injective : (o p : ItemEnd) → itemEndOf o ≡ itemEndOf p → o ≡ p
-itemEndOf-injective = injective itemEndOf (fromAnswer itemEnd end.Refused) itemEndOf-back
 
 parsedChunkOf-back : (o : ParsedChunk) → fromAnswer chunk.Chunk chunk.Refused (parsedChunkOf o) ≡ o
 parsedChunkOf-back (chunk.Chunk c) = refl

@@ -4,3 +4,4 @@ pub mod Items
 pub mod Chunks
 pub mod Walks
 pub mod Injective
+pub mod Returned

@@ -7,9 +7,9 @@ use native.Mathlib.Omega.{arith}
 use native.Mathlib.Nat.{add-zero, add-assoc}
 use lib.ListN.{length, take, drop, replicate, length-append, length-drop, take-append-drop}
 use lib.Seq.{length-take-le, take-append-seam, drop-append-seam, drop-drop}
-use lib.Dec.{eqb}
+use lib.Dec.{leb, eqb}
 use borrow.Author.Tests.{leb-true, eqb-true, eq-eqb}
-use Rattle.rfc3550.specs.Answer.{ok, refuse, _>>=_, _>>_, mapOk}
+use Rattle.rfc3550.specs.Answer.{refusal, Answer, ok, refused, refuse, need, _>>=_, _>>_, mapOk}
 use Rattle.rfc3550.specs.Packet.{Item, item, priv, itemType, itemRest, itemBytes, itemsBytes, fill, Chunk, chunkBytes, chunksBytes}
 use Rattle.rfc3550.specs.Read.{itemOf, readItem, readItems, readChunk, readChunks, prefixOf, readPrefix}
 use Rattle.rfc3550.proofs.Answer.{need-inv, bind-elim, ok-injective, refused≢ok, true≢false}
@@ -62,7 +62,7 @@ item-rest s {x} e = sym (drop-append-seam (itemBytes (x .0)) (x .1)) ∙ ap (dro
 pub record Placed (s : List ℕ) (i : SdesItem) (v : List ℕ) : Type 0 where
   pub within : 2 + i .length ≤ length s
   pub start : valueStart i ≤ 2 + i .length
-  pub room : (m : ℕ) → 4 ≤ m → length s < m → 3 + i .prefix < m
+  pub room : (m : ℕ) → 4 ≤ m → length s < m → 3 + i .«prefix_len» < m
   pub value : take (2 + i .length - valueStart i) (drop (valueStart i) s) ≡ v
 
 placed-bytes : (i : Item) (r : List ℕ) → isPriv i ≡ eqb (itemType i) 8 → Placed (itemBytes i ++ r) (itemView i) (valueOf i)
@@ -96,8 +96,8 @@ prefix-own (item t v) k h = absurd (true≢false (sym (k ∙ eq-eqb t 8 h)))
 prefix-own (priv p v) k h = refl
 
 module _ (s : List ℕ) {x : Item × List ℕ} (e : readItem s ≡ ok x) where
-  pub prefix-not : (itemType (x .0) ≡ 8 → ⊥) → mapOk length (readPrefix s) ≡ refuse 30 (itemType (x .0)) 0
-  unfolding readPrefix _>>=_ mapOk
+  pub prefix-not : (itemType (x .0) ≡ 8 → ⊥) → readPrefix s ≡ refuse 30 (itemType (x .0)) 0
+  unfolding readPrefix _>>=_
   prefix-not h = rw (e, prefix-other (x .0) (item-in s e .kind) h)
 
   pub prefix-length : itemType (x .0) ≡ 8 → mapOk length (readPrefix s) ≡ ok (prefixLength (x .0))
@@ -120,6 +120,42 @@ prefix-in s {p} e = bind-elim _ _ e (λ x q e₁. subst (PrefixIn p) (item-in s 
 -- the part from 3 on that has the prefix's length
 pub prefix-taken : (s : List ℕ) (n : ℕ) {p : List ℕ} → readPrefix s ≡ ok p → length p ≡ n → (3 + n ≤ length s) × (take (3 + n - 3) (drop 3 s) ≡ p)
 prefix-taken s n {p} e h = let m : 3 + length p - 3 ≡ length p = omega arith in rw (← h) (prefix-in s e .0, rw m (prefix-in s e .1))
+
+-- ---- a refusal has a number that is not 0
+
+abbrev pub Numbered : {A : Type 0} → Answer A → Type 0
+Numbered (ok a) = Unit {0}
+Numbered (refused (refusal number first second)) = 0 < number
+
+need-numbered : {A : Type 0} (b : Bool) (n x y : ℕ) (m : Answer A) → 0 < n → Numbered m → Numbered (need b n x y >> m)
+unfolding need _>>_
+need-numbered true n x y m h g = g
+need-numbered false n x y m h g = h
+
+bind-numbered : {A B : Type 0} (m : Answer A) (f : A → Answer B) → Numbered m → ((a : A) → Numbered (f a)) → Numbered (m >>= f)
+unfolding _>>=_
+bind-numbered (ok a) f g h = h a
+bind-numbered (refused (refusal number first second)) f g h = g
+
+itemOf-numbered : (b : Bool) (t : ℕ) (v : List ℕ) → Numbered (itemOf b t v)
+unfolding itemOf
+itemOf-numbered false t v = tt
+itemOf-numbered true t [] = omega arith
+itemOf-numbered true t (p ∷ v) = need-numbered (leb p (length v)) 5 p (length v) (ok (priv (take p v) (drop p v))) (omega arith) tt
+
+item-numbered : (s : List ℕ) → Numbered (readItem s)
+unfolding readItem
+item-numbered [] = omega arith
+item-numbered (t ∷ []) = omega arith
+item-numbered (t ∷ n ∷ s) = need-numbered _ _ _ _ _ (omega arith) (bind-numbered (itemOf (eqb t 8) t (take n s)) _ (itemOf-numbered (eqb t 8) t (take n s)) (λ i. tt))
+
+prefixOf-numbered : (i : Item) → Numbered (prefixOf i)
+prefixOf-numbered (item t v) = omega arith
+prefixOf-numbered (priv p v) = tt
+
+pub prefix-numbered : (s : List ℕ) → Numbered (readPrefix s)
+unfolding readPrefix
+prefix-numbered s = bind-numbered (readItem s) _ (item-numbered s) (λ x. prefixOf-numbered (x .0))
 
 -- ---- a chunk
 

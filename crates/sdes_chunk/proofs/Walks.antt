@@ -1,69 +1,87 @@
 -- The steps of the walk over a chunk's items.
-use Prim.Native.Nat.{ℕ, _+_, _<_, _≤_}
-use mathlib.Core.Path.{_≡_, sym, ap, _∙_}
+use Prim.Native.Nat.{ℕ, _+_, _-_, _^_, _<_, _≤_}
+use native.Mathlib.Omega.{arith}
+use mathlib.Core.Path.{_≡_, refl, sym, ap, _∙_}
+use mathlib.Core.Bool.{not}
 use mathlib.Core.List.{List}
+use lib.Dec.{ltb, eqb}
 use borrow.Author.Needs.{needs}
-use borrow.Author.Tests.{lt-ltb, le-ltb, ne-eqb}
-use lib.ListN.{length, getD, drop}
+use borrow.Author.Tests.{lt-ltb, ne-eqb}
+use lib.ListN.{length, getD, take, drop, length-drop}
 use Rattle.rfc3550.specs.Answer.{Refusal, Answer, ok, refused, refuse, need, _>>_, _>>=_, mapOk}
-use Rattle.rfc3550.specs.Packet.{Item, itemBytes, Chunk}
+use Rattle.rfc3550.specs.Packet.{Item}
 use Rattle.rfc3550.specs.Read.{readItem, readChunk}
 use Rattle.rfc3550.specs.Walk.{openItems, itemStep}
-use Rattle.rfc3550.proofs.Answer.{mapOk-inv}
-use Rattle.utils.specs.declared.error.RtcpParseError.{RtcpParseError}
-use Rattle.utils.specs.Error.{parseRefusal, refusalIn}
+use Rattle.rfc3550.proofs.Answer.{need-inv, bind-elim, ok-injective}
+use Rattle.utils.specs.Error.{refusalIn, valueOr}
+use Rattle.utils.proofs.Values.{value-came, none-came}
 use Rattle.sdes_chunk.specs.declared.item.SdesItem.{SdesItem}
-use Rattle.sdes_chunk.specs.declared.item.ItemEnd.{ItemEnd}
-use Rattle.sdes_chunk.specs.declared.item.ItemEnd.the-variants as end
 use Rattle.sdes_chunk.specs.declared.chunk.SdesChunk.{SdesChunk}
-use Rattle.sdes_chunk.specs.declared.chunk.ParsedChunk.{ParsedChunk}
-use Rattle.sdes_chunk.specs.declared.chunk.ParsedChunk.the-variants as chunk
-use Rattle.sdes_chunk.specs.Item.{itemView, itemAt, itemEndOf}
-use Rattle.sdes_chunk.specs.Chunk.{chunkFirst, parsedChunkOf}
+use Rattle.sdes_chunk.specs.Item.{itemFirst, itemSize, itemEnd, stepEnd}
+use Rattle.sdes_chunk.specs.Chunk.{chunkFirst, noChunk}
 use Rattle.sdes_chunk.specs.Walk.{itemWalk, itemStepped}
-use Rattle.sdes_chunk.proofs.Answers.{map-refusal}
+use Rattle.sdes_chunk.proofs.Answers.{rest-is}
+use Rattle.sdes_chunk.proofs.Items.{Steps, steps}
+use Rattle.sdes_chunk.proofs.Chunks.{chunk-long}
 
-module _ (s : List ℕ) (o : ParsedChunk) (h : parsedChunkOf o ≡ mapOk chunkFirst (readChunk s)) where
-  pub items-not-opened : (v : RtcpParseError) (k : Refusal) → o ≡ chunk.Refused v → k ≡ refusalIn (parsedChunkOf o) → refused k ≡ mapOk itemWalk (openItems s)
+module _ (s : List ℕ) (c : SdesChunk) (h : c ≡ valueOr noChunk chunkFirst (readChunk s)) where
+  pub items-not-opened : (k : Refusal) → c .length ≡ 0 → k ≡ refusalIn (readChunk (take (length s - 0) (drop 0 s))) → refused k ≡ mapOk itemWalk (openItems s)
   unfolding openItems _>>=_ mapOk
-  items-not-opened v k e q =
-      let w = map-refusal chunkFirst (readChunk s) (parseRefusal v) (sym (ap parsedChunkOf e) ∙ h) in
-      rw (w, q, e)
+  items-not-opened k z q =
+      let w = none-came noChunk chunkFirst (λ c. c .length) refl chunk-long (readChunk s) c h z in
+      rw w (ap refused (q ∙ ap (λ (s : List ℕ). refusalIn (readChunk s)) (rest-is s 0)))
 
-  pub items-opened : (c : SdesChunk) → o ≡ chunk.Chunk c → ok (record { at = 4 }) ≡ mapOk itemWalk (openItems s)
+  pub items-opened : (c .length ≡ 0 → ⊥) → ok (record { at = 4 }) ≡ mapOk itemWalk (openItems s)
   unfolding openItems _>>=_ mapOk
-  items-opened c e =
-      let w = mapOk-inv chunkFirst (readChunk s) (sym h ∙ ap parsedChunkOf e) in
-      go (readChunk s) (w .1)
-    where
-      go : (m : Answer (Chunk × List ℕ)) {x : Chunk × List ℕ} → m ≡ ok x → ok (record { at = 4 }) ≡ mapOk itemWalk (_>>=_ {B = ℕ} m (λ x. ok 4))
-      go m e = rw e
+  items-opened z = let w = value-came noChunk chunkFirst (λ c. c .length) refl (readChunk s) c h z in rw (w .1)
 
-pub item-past-end : (s : List ℕ) (at : ℕ) → length s ≤ at → refuse 25 0 0 ≡ mapOk itemStepped (itemStep s at)
-unfolding itemStep need _>>_ mapOk
-item-past-end s at l = rw (le-ltb at (length s) l)
+-- a step that gives an item goes on
+step-kept : (s : List ℕ) (at : ℕ) {y : Item × ℕ} → itemStep s at ≡ ok y → at < y .1
+unfolding itemStep
+step-kept s at {y} e =
+    let a = need-inv (ltb at (length s)) 25 0 0 _ e in
+    let b = need-inv (not (eqb (getD s at 0) 0)) 25 0 0 _ (a .1) in
+    bind-elim (readItem (drop at s)) _ (b .1) (λ x f g. let m : itemEnd at x ≡ y .1 = ap (λ (z : Item × ℕ). z .1) (ok-injective g) in omega arith)
 
-pub item-at-zero : (s : List ℕ) (at : ℕ) → at < length s → getD s at 0 ≡ 0 → refuse 25 0 0 ≡ mapOk itemStepped (itemStep s at)
-unfolding itemStep need _>>_ mapOk
-item-at-zero s at l z = rw (lt-ltb at (length s) l, z)
+step-refused : (s : List ℕ) (at n : ℕ) → n ≡ stepEnd s at → n ≡ 0 → (m : Answer (Item × ℕ)) → itemStep s at ≡ m → itemStep s at ≡ refused (refusalIn (itemStep s at))
+step-refused s at n h e (refused r) q = rw q
+step-refused s at n h e (ok y) q = absurd (go (step-kept s at q))
+  where
+    go : at < y .1 → ⊥
+    go l = absurd (omega (arith, ap (valueOr 0 (λ (x : Item × ℕ). x .1)) q))
 
-module _ (s : List ℕ) (at : ℕ) (l : at < length s) (z : getD s at 0 ≡ 0 → ⊥) (o : ItemEnd) (h : itemEndOf o ≡ mapOk (itemAt at) (readItem (drop at s))) where
-  pub item-not-stepped : (v : RtcpParseError) (k : Refusal) → o ≡ end.Refused v → k ≡ refusalIn (itemEndOf o) → refused k ≡ mapOk itemStepped (itemStep s at)
-  unfolding itemStep need _>>_ _>>=_ mapOk
-  item-not-stepped v k e q =
-      let w = map-refusal (itemAt at) (readItem (drop at s)) (parseRefusal v) (sym (ap itemEndOf e) ∙ h) in
-      rw (lt-ltb at (length s) l, ne-eqb (getD s at 0) 0 z, w, q, e)
+module _ (s : List ℕ) (at n : ℕ) (h : n ≡ stepEnd s at) where
+  pub item-not-stepped : (k : Refusal) → n ≡ 0 → k ≡ refusalIn (itemStep (take (length s - 0) (drop 0 s)) at) → refused k ≡ mapOk itemStepped (itemStep s at)
+  unfolding mapOk
+  item-not-stepped k e q = rw (step-refused s at n h e (itemStep s at) refl) (ap refused (q ∙ ap (λ (s : List ℕ). refusalIn (itemStep s at)) (rest-is s 0)))
 
-  pub item-stepped : (i : SdesItem) (n : ℕ) → o ≡ end.At i n → ok (i, record { at = n }) ≡ mapOk itemStepped (itemStep s at)
-  unfolding itemStep need _>>_ _>>=_ mapOk
-  item-stepped i n e =
-      let w = mapOk-inv (itemAt at) (readItem (drop at s)) (sym h ∙ ap itemEndOf e) in
-      go (w .0) (w .1) (w .2)
-    where
-      go : (x : Item × List ℕ) → readItem (drop at s) ≡ ok x → itemAt at x ≡ (i, n) → ok (i, record { at = n }) ≡ mapOk itemStepped (itemStep s at)
-      go x r m =
-          let a : itemView (x .0) ≡ i = ap (λ (p : SdesItem × ℕ). p .0) m in
-          let b : at + length (itemBytes (x .0)) ≡ n = ap (λ (p : SdesItem × ℕ). p .1) m in
-          rw (lt-ltb at (length s) l, ne-eqb (getD s at 0) 0 z, r, ← a, ← b)
+  module _ (p : n ≡ 0 → ⊥) where
+    on : Steps s at n
+    on = steps s at n h p
 
-pub ruleset walks = (needs, items-not-opened, items-opened, item-past-end, item-at-zero, item-not-stepped, item-stepped)
+    pub step-inside : at ≤ length s
+    step-inside = let l = on .inside in omega arith
+
+    pub step-after : at ≤ n
+    step-after = let w = on in omega (arith, w .end)
+
+    pub step-size : n - at ≡ valueOr 0 itemSize (readItem (take (length s - at) (drop at s)))
+    step-size = go (on .read) (on .reads) (on .end)
+      where
+        go : (x : Item × List ℕ) → readItem (drop at s) ≡ ok x → itemEnd at x ≡ n → n - at ≡ valueOr 0 itemSize (readItem (take (length s - at) (drop at s)))
+        go x r m = rw (rest-is s at, r) (omega arith)
+
+    pub step-some : n - at ≡ 0 → ⊥
+    step-some e = let w = on in absurd (omega (arith, w .end))
+
+    pub item-stepped : (i : SdesItem) → ok i ≡ mapOk itemFirst (readItem (take (length s - at) (drop at s)))
+        → ok (i, record { at = n }) ≡ mapOk itemStepped (itemStep s at)
+    unfolding itemStep need _>>_ _>>=_ mapOk
+    item-stepped i q = go (on .read) (on .reads) (on .end) (on .inside) (on .item)
+      where
+        go : (x : Item × List ℕ) → readItem (drop at s) ≡ ok x → itemEnd at x ≡ n → at < length s → (getD s at 0 ≡ 0 → ⊥) → ok (i, record { at = n }) ≡ mapOk itemStepped (itemStep s at)
+        go x r m l z =
+            let v : i ≡ itemFirst x = ok-injective (q ∙ ap (λ (s : List ℕ). mapOk itemFirst (readItem s)) (rest-is s at) ∙ rw r) in
+            rw (lt-ltb at (length s) l, ne-eqb (getD s at 0) 0 z, r, v, ← m)
+
+pub ruleset walks = (needs, items-not-opened, items-opened, item-not-stepped, step-inside, step-after, step-size, step-some, item-stepped)

@@ -9,25 +9,17 @@
 --     +-+-+-+-+-+-+-+-+-+-+-+-+-+-+-+-+-+-+-+-+-+-+-+-+-+-+-+-+-+-+-+-+
 --
 -- What the code hands over of an item: numbers that its layout fixes.
-use Prim.Native.Nat.{ℕ, _+_}
-use mathlib.Core.List.{List, []}
+use Prim.Native.Nat.{ℕ, _+_, _-_}
+use mathlib.Core.List.{List, [], _∷_}
 use lib.ListN.{length}
 use lib.Dec.{eqb}
-use Rattle.rfc3550.specs.Answer.{Answer, ok, refused, pick}
+use Rattle.rfc3550.specs.Answer.{refusal, Answer, ok, refused, pick}
 use Rattle.rfc3550.specs.Packet.{Item, item, priv, itemType, itemRest, itemBytes}
-use Rattle.utils.specs.Error.{parseRefusal}
+use Rattle.rfc3550.specs.Walk.{itemStep}
+use Rattle.utils.specs.Error.{parseRefusal, valueOr}
 use Rattle.sdes_chunk.specs.declared.item.SdesItem.{SdesItem}
 use Rattle.sdes_chunk.specs.declared.item.ParsedItem.{ParsedItem}
 use Rattle.sdes_chunk.specs.declared.item.ParsedItem.the-variants as parsed
-use Rattle.sdes_chunk.specs.declared.item.PrefixLen.{PrefixLen}
-use Rattle.sdes_chunk.specs.declared.item.PrefixLen.the-variants as prefix
-use Rattle.sdes_chunk.specs.declared.item.ItemEnd.{ItemEnd}
-use Rattle.sdes_chunk.specs.declared.item.ItemEnd.the-variants as end
-
--- the part that an answer gives, empty where it is a refusal
-abbrev pub part : Answer (List ℕ) → List ℕ
-part (ok p) = p
-part (refused r) = []
 
 -- ---- views
 
@@ -36,7 +28,7 @@ prefixLength (item t v) = 0
 prefixLength (priv p v) = length p
 
 abbrev pub itemView : Item → SdesItem
-itemView i = record { «type_» = itemType i; length = length (itemRest i); prefix = prefixLength i }
+itemView i = record { «type_» = itemType i; length = length (itemRest i); «prefix_len» = prefixLength i }
 
 abbrev pub valueOf : Item → List ℕ
 valueOf (item t v) = v
@@ -46,16 +38,25 @@ valueOf (priv p v) = v
 abbrev pub itemFirst : Item × List ℕ → SdesItem
 itemFirst x = itemView (x .0)
 
-abbrev pub itemValue : Item × List ℕ → List ℕ
-itemValue x = valueOf (x .0)
+-- how many bytes the item takes
+abbrev pub itemSize : Item × List ℕ → ℕ
+itemSize x = length (itemBytes (x .0))
 
--- of an item that stands at `at`: its view, and the place after it
-abbrev pub itemAt : ℕ → Item × List ℕ → SdesItem × ℕ
-itemAt at x = (itemView (x .0), at + length (itemBytes (x .0)))
+-- where an item that stands at `at` ends
+abbrev pub itemEnd : ℕ → Item × List ℕ → ℕ
+itemEnd at x = at + itemSize x
+
+-- where the step over the item at `at` leads; 0 where there is none
+abbrev pub stepEnd : List ℕ → ℕ → ℕ
+stepEnd s at = valueOr 0 (λ (x : Item × ℕ). x .1) (itemStep s at)
 
 -- where the value starts, counted from the item's start
 abbrev pub valueStart : SdesItem → ℕ
-valueStart i = pick (eqb (i .«type_») 8) (3 + i .prefix) 2
+valueStart i = pick (eqb (i .«type_») 8) (3 + i .«prefix_len») 2
+
+-- the value ends with the item
+abbrev pub valueLen : SdesItem → ℕ
+valueLen i = 2 + i .length - valueStart i
 
 -- ---- answers
 
@@ -63,10 +64,12 @@ abbrev pub parsedItemOf : ParsedItem → Answer SdesItem
 parsedItemOf (parsed.Item i) = ok i
 parsedItemOf (parsed.Refused e) = refused (parseRefusal e)
 
-abbrev pub prefixLenOf : PrefixLen → Answer ℕ
-prefixLenOf (prefix.Len n) = ok n
-prefixLenOf (prefix.Refused e) = refused (parseRefusal e)
+-- the part that is handed over for a prefix: none where it is refused
+abbrev pub prefixIn : Answer (List ℕ) → List ℕ
+prefixIn (ok p) = p
+prefixIn (refused r) = []
 
-abbrev pub itemEndOf : ItemEnd → Answer (SdesItem × ℕ)
-itemEndOf (end.At i e) = ok (i, e)
-itemEndOf (end.Refused e) = refused (parseRefusal e)
+-- the three numbers beside it
+abbrev pub answerOf : Answer (List ℕ) → List ℕ
+answerOf (ok p) = 0 ∷ 0 ∷ 0 ∷ []
+answerOf (refused (refusal number first second)) = number ∷ first ∷ second ∷ []

@@ -1,3 +1,4 @@
 pub mod Item
 pub mod Chunk
 pub mod Walk
+pub mod Returned

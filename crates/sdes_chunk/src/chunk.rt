@@ -1,17 +1,16 @@
 // An SDES chunk.
-use super::item::ItemEnd;
 use super::item::SdesItem;
 use utils::error::RtcpParseError;
 use utils::parser;
 ghost use mathlib.Core.Path.{_≡_};
 ghost use Prim.Native.Nat.{_+_, _^_, _<_, _≤_};
-ghost use lib.ListN.{length, drop};
+ghost use lib.ListN.{length, getD};
 ghost use Rattle.rfc3550.specs.Answer.{mapOk};
 ghost use Rattle.rfc3550.specs.Packet.{fill};
-ghost use Rattle.rfc3550.specs.Read.{readFill, readChunk};
+ghost use Rattle.rfc3550.specs.Read.{readChunk};
 ghost use Rattle.rfc3550.specs.Walk.{openItems, itemStep};
-ghost use Rattle.utils.specs.Error.{parseRefusal, refusalIn};
-ghost use Rattle.sdes_chunk.specs.Chunk.{chunkFirst, firstCname, boundary, closing, placeIn, refusedItems, zerosEndOf, parsedChunkOf};
+ghost use Rattle.utils.specs.Error.{parseRefusal, refusalIn, valueOr};
+ghost use Rattle.sdes_chunk.specs.Chunk.{noChunk, chunkFirst, noEnd, chunkEnd, chunksFrom, zeroAt, firstCname, ItemsEnd, ZerosEnd, parsedChunkOf};
 ghost use Rattle.sdes_chunk.specs.Walk.{itemWalk, itemStepped, openedItemsOf, steppedItemOf};
 
 // The SSRC, the number of bytes that the chunk takes, and the place of its first CNAME, counted from its start: 0 where there is none.
@@ -38,133 +37,209 @@ impl ParsedChunk {
     }
 }
 
-// The place where the items end, at a zero or at the end of the bytes, and that of the first CNAME among them.
-enum ItemsEnd {
-    At(usize, usize),
-    Refused(RtcpParseError),
-}
-
-impl ItemsEnd {
-    // Why it is refused; NothingLeft where it is not.
-    fn refusal(self) -> RtcpParseError
-        ensures { λ r. ⌜ parseRefusal r ≡ refusalIn (refusedItems self) ⌝ }
-    {
-        match self {
-            ItemsEnd::At(_, _) => RtcpParseError::NothingLeft,
-            ItemsEnd::Refused(e) => e,
-        }
-    }
-}
-
-// The place after the zeros that close a chunk.
-enum ZerosEnd {
-    At(usize),
-    Refused(RtcpParseError),
-}
-
-impl ZerosEnd {
-    // Why it is refused; NothingLeft where it is not.
-    fn refusal(self) -> RtcpParseError
-        ensures { λ r. ⌜ parseRefusal r ≡ refusalIn (zerosEndOf self) ⌝ }
-    {
-        match self {
-            ZerosEnd::At(_) => RtcpParseError::NothingLeft,
-            ZerosEnd::Refused(e) => e,
-        }
-    }
-}
-
 // The next word boundary above a place.
-fn above(at: usize) -> usize
+pub fn word_boundary_unchecked(at: usize) -> usize
     requires { ⌜ at < 2 ^ 63 ⌝ }
     ensures { λ r. ⌜ r ≡ at + fill at ⌝ }
 {
     at + (4 - at % 4)
 }
 
-fn first_cname(cname: usize, at: usize, item: SdesItem) -> usize
-    ensures { λ r. ⌜ r ≡ firstCname cname at item ⌝ }
+// The place of the first CNAME: the one that is known, or that of the item here where it is one.
+fn first_cname(known: usize, at: usize, type_: u8, length: usize) -> usize
+    ensures { λ r. ⌜ r ≡ firstCname known at «type_» length ⌝ }
 {
-    if cname != 0 {
-        return cname;
+    if known != 0 {
+        return known;
     }
-    if item.is_cname() {
+    if super::item::is_cname(type_, length) {
         return at;
     }
     0
 }
 
-fn items_end(chunk: &[u8]) -> ItemsEnd
-    requires { ⌜ 4 ≤ length (now chunk) ⌝ }
-    ensures { λ r. ⌜ (placeIn r ≤ length (now (chunk .entry))) × (closing (now (chunk .entry)) r ≡ mapOk chunkFirst (readChunk (now (chunk .entry)))) ⌝ }
-{
-    let mut at = SdesChunk::MIN_LEN;
-    let mut cname = 0;
-    while at < chunk.len() {
-        if chunk[at] == 0 {
-            return ItemsEnd::At(at, cname);
-        }
-        let answer = super::item::item_end(chunk, at);
-        let ItemEnd::At(item, end) = answer else {
-            return ItemsEnd::Refused(answer.refusal());
-        };
-        cname = first_cname(cname, at, item);
-        at = end;
-    }
-    ItemsEnd::At(at, cname)
+// The place where no further item follows, that of the first CNAME, and whether a zero stands there: if not, it is the end of the bytes, or an item
+// that is refused.
+struct Items {
+    at: usize,
+    cname: usize,
+    closed: bool,
 }
 
-fn zeros_end(chunk: &[u8], from: usize) -> ZerosEnd
-    requires { ⌜ from ≤ length (now chunk) ⌝ }
-    ensures { λ r. ⌜ zerosEndOf r ≡ mapOk (boundary from) (readFill (fill from) from (drop from (now (chunk .entry)))) ⌝ }
+fn zero_at(chunk: &[u8], at: usize) -> bool
+    ensures { λ r. ⌜ r ≡ zeroAt (now (chunk .entry)) at ⌝ }
 {
-    let end = above(from);
-    let mut at = from;
+    if chunk.len() <= at {
+        return false;
+    }
+    chunk[at] == 0
+}
+
+// The items of the chunk at the start of the bytes, where the place of a CNAME before it may be known (0 where there is none).
+fn items_end(chunk: &[u8], known: usize) -> Items
+    requires { ⌜ 4 ≤ length (now chunk) ⌝ }
+    ensures { λ r. ⌜ ItemsEnd (now (chunk .entry)) known (r .at) (r .cname) (r .closed) ⌝ }
+{
+    let mut at = SdesChunk::MIN_LEN;
+    let mut cname = known;
+    loop {
+        let end = super::item::item_end(chunk, at);
+        if end == 0 {
+            let closed = zero_at(chunk, at);
+            return Items { at, cname, closed };
+        }
+        cname = first_cname(cname, at, chunk[at], end - at - 2);
+        at = end;
+    }
+}
+
+// The place of the first byte behind a zero that is none, or the boundary above it, or the end of the bytes.
+fn zeros_end(chunk: &[u8], from: usize, end: usize) -> usize
+    requires { ⌜ (from < length (now chunk)) × (getD (now chunk) from 0 ≡ 0) × (end ≡ from + fill from) ⌝ }
+    ensures { λ r. ⌜ ZerosEnd (now (chunk .entry)) from end r ⌝ }
+{
+    let mut at = from + 1;
     while at < end {
         if chunk.len() <= at {
-            return ZerosEnd::Refused(RtcpParseError::Truncated {
-                expected: end,
-                actual: at,
-            });
+            return at;
         }
         if chunk[at] != 0 {
-            return ZerosEnd::Refused(RtcpParseError::Truncated {
-                expected: end,
-                actual: at,
-            });
+            return at;
         }
         at += 1;
     }
-    ZerosEnd::At(end)
+    at
+}
+
+// How many bytes a chunk takes, 0 where it is refused, and the place of the first CNAME up to its end, counted from the start of the chunk that has it.
+struct ChunkEnd {
+    length: usize,
+    cname: usize,
+}
+
+fn no_end() -> ChunkEnd
+    ensures { λ r. ⌜ r ≡ noEnd ⌝ }
+{
+    ChunkEnd {
+        length: 0,
+        cname: 0,
+    }
+}
+
+fn chunk_end(chunk: &[u8], known: usize) -> ChunkEnd
+    ensures { λ r. ⌜ r ≡ valueOr noEnd (chunkEnd known) (readChunk (now (chunk .entry))) ⌝ }
+{
+    if chunk.len() < SdesChunk::MIN_LEN {
+        return no_end();
+    }
+    let items = items_end(chunk, known);
+    let at = items.at;
+    if !items.closed {
+        return no_end();
+    }
+    let length = word_boundary_unchecked(at);
+    if chunk.len() < length {
+        return no_end();
+    }
+    if zeros_end(chunk, at, length) < length {
+        return no_end();
+    }
+    ChunkEnd {
+        length,
+        cname: items.cname,
+    }
+}
+
+// The place up to which chunks were read, how many are left, and the place of the first CNAME, counted from the start of its chunk: 0 where there is none.
+pub struct Chunks {
+    pub at: usize,
+    pub left: usize,
+    pub cname: usize,
+}
+
+// At most n chunks, up to one that is refused.
+pub fn chunks_end(rest: &[u8], n: usize) -> Chunks
+    ensures { λ r. ⌜ r ≡ chunksFrom n 0 0 (now (rest .entry)) ⌝ }
+{
+    let mut at = 0;
+    let mut left = n;
+    let mut cname = 0;
+    while 0 < left {
+        let chunk = chunk_end(&rest[at..], cname);
+        if chunk.length == 0 {
+            return Chunks { at, left, cname };
+        }
+        cname = chunk.cname;
+        at = at + chunk.length;
+        left = left - 1;
+    }
+    Chunks { at, left, cname }
 }
 
 impl SdesChunk {
     pub const MIN_LEN: usize = 4;
 
+    // All 0, where the chunk at the start of the rest of a body is refused.
+    pub fn read(rest: &[u8]) -> SdesChunk
+        ensures { λ r. ⌜ r ≡ valueOr noChunk chunkFirst (readChunk (now (rest .entry))) ⌝ }
+    {
+        let chunks = chunks_end(rest, 1);
+        if 0 < chunks.left {
+            return SdesChunk {
+                ssrc: 0,
+                length: 0,
+                cname: 0,
+            };
+        }
+        let ssrc = parser::u32_from_be_bytes(rest, 0);
+        SdesChunk {
+            ssrc,
+            length: chunks.at,
+            cname: chunks.cname,
+        }
+    }
+
+    // Why it is refused; NothingLeft where it is not.
+    pub fn why(rest: &[u8]) -> RtcpParseError
+        ensures { λ r. ⌜ parseRefusal r ≡ refusalIn (readChunk (now (rest .entry))) ⌝ }
+    {
+        if rest.len() < SdesChunk::MIN_LEN {
+            return RtcpParseError::Truncated {
+                expected: SdesChunk::MIN_LEN,
+                actual: rest.len(),
+            };
+        }
+        let items = items_end(rest, 0);
+        let at = items.at;
+        let end = word_boundary_unchecked(at);
+        if !items.closed {
+            if at == rest.len() {
+                return RtcpParseError::Truncated {
+                    expected: end,
+                    actual: at,
+                };
+            }
+            return super::item::why_item(&rest[at..]);
+        }
+        let zeros = zeros_end(rest, at, end);
+        if zeros == end {
+            return RtcpParseError::NothingLeft;
+        }
+        RtcpParseError::Truncated {
+            expected: end,
+            actual: zeros,
+        }
+    }
+
     // The chunk at the start of the rest of a body.
     pub fn parse(rest: &[u8]) -> ParsedChunk
         ensures { λ r. ⌜ parsedChunkOf r ≡ mapOk chunkFirst (readChunk (now (rest .entry))) ⌝ }
     {
-        if rest.len() < SdesChunk::MIN_LEN {
-            return ParsedChunk::Refused(RtcpParseError::Truncated {
-                expected: SdesChunk::MIN_LEN,
-                actual: rest.len(),
-            });
+        let chunk = SdesChunk::read(rest);
+        if chunk.length == 0 {
+            return ParsedChunk::Refused(SdesChunk::why(&rest[0..]));
         }
-        let items = items_end(rest);
-        let ItemsEnd::At(end, cname) = items else {
-            return ParsedChunk::Refused(items.refusal());
-        };
-        let zeros = zeros_end(rest, end);
-        let ZerosEnd::At(length) = zeros else {
-            return ParsedChunk::Refused(zeros.refusal());
-        };
-        let ssrc = parser::u32_from_be_bytes(rest, 0);
-        ParsedChunk::Chunk(SdesChunk {
-            ssrc,
-            length,
-            cname,
-        })
+        ParsedChunk::Chunk(chunk)
     }
 }
 
@@ -188,10 +263,10 @@ impl ItemWalk {
     pub fn open(s: &[u8]) -> OpenedItems
         ensures { λ r. ⌜ openedItemsOf r ≡ mapOk itemWalk (openItems (now (s .entry))) ⌝ }
     {
-        let parsed = SdesChunk::parse(s);
-        let ParsedChunk::Chunk(_) = parsed else {
-            return OpenedItems::Refused(parsed.refusal());
-        };
+        let chunk = SdesChunk::read(s);
+        if chunk.length == 0 {
+            return OpenedItems::Refused(SdesChunk::why(&s[0..]));
+        }
         OpenedItems::Walk(ItemWalk {
             at: SdesChunk::MIN_LEN,
         })
@@ -202,16 +277,11 @@ impl ItemWalk {
         ensures { λ r. ⌜ steppedItemOf r ≡ mapOk itemStepped (itemStep (now (s .entry)) (self .at)) ⌝ }
     {
         let at = self.at;
-        if s.len() <= at {
-            return SteppedItem::Refused(RtcpParseError::NothingLeft);
+        let end = super::item::item_end(s, at);
+        if end == 0 {
+            return SteppedItem::Refused(super::item::why_end(&s[0..], at));
         }
-        if s[at] == 0 {
-            return SteppedItem::Refused(RtcpParseError::NothingLeft);
-        }
-        let answer = super::item::item_end(s, at);
-        let ItemEnd::At(item, end) = answer else {
-            return SteppedItem::Refused(answer.refusal());
-        };
+        let item = super::item::item_of_unchecked(&s[at..], end - at);
         SteppedItem::Item(item, ItemWalk { at: end })
     }
 }

@@ -1,29 +1,27 @@
 // An SDES item.
+use utils::error::Code;
 use utils::error::RtcpParseError;
+use utils::parser;
 ghost use mathlib.Core.Path.{_≡_};
-ghost use Prim.Native.Nat.{_+_, _^_, _<_, _≤_};
-ghost use lib.ListN.{length, getD, drop};
-ghost use Rattle.rfc3550.specs.Answer.{mapOk};
+ghost use mathlib.Core.List.{_∷_, []};
+ghost use Prim.Native.Nat.{_+_, _^_, min, _<_};
+ghost use lib.ListN.{take, drop};
+ghost use Rattle.rfc3550.specs.Answer.{ok, mapOk};
 ghost use Rattle.rfc3550.specs.Packet.{isCname};
 ghost use Rattle.rfc3550.specs.Read.{readItem, readPrefix};
-ghost use Rattle.utils.specs.Error.{parseRefusal, refusalIn};
-ghost use Rattle.sdes_chunk.specs.Item.{itemFirst, itemAt, itemValue, part, valueStart, parsedItemOf, itemEndOf, prefixLenOf};
+ghost use Rattle.rfc3550.specs.Walk.{itemStep};
+ghost use Rattle.utils.specs.Error.{parseRefusal, refusalIn, valueOr};
+ghost use Rattle.sdes_chunk.specs.Item.{itemFirst, itemSize, stepEnd, valueStart, valueLen, prefixIn, answerOf, parsedItemOf};
 
 // The type, the length of what follows the first two bytes, and of that the prefix (0 where the type is not PRIV).
 pub struct SdesItem {
     pub type_: u8,
     pub length: usize,
-    pub prefix: usize,
+    pub prefix_len: usize,
 }
 
 pub enum ParsedItem {
     Item(SdesItem),
-    Refused(RtcpParseError),
-}
-
-// The length of an item's prefix.
-pub enum PrefixLen {
-    Len(usize),
     Refused(RtcpParseError),
 }
 
@@ -45,43 +43,133 @@ fn wide(b: u8) -> usize
     b as usize
 }
 
-// An item whose type is PRIV and whose length fits: its prefix has to fit in turn.
-fn parse_priv(rest: &[u8], len: usize) -> ParsedItem
-    requires { ⌜ (2 + len ≤ length (now rest)) × (len ≡ getD (now rest) 1 0) × (getD (now rest) 0 0 ≡ 8) ⌝ }
-    ensures { λ r. ⌜ parsedItemOf r ≡ mapOk itemFirst (readItem (now (rest .entry))) ⌝ }
+// How many bytes the item at the start of the rest of a chunk takes; 0 where it is refused.
+fn item_size(rest: &[u8]) -> usize
+    ensures { λ r. ⌜ r ≡ valueOr 0 itemSize (readItem (now (rest .entry))) ⌝ }
 {
-    if len == 0 {
-        return ParsedItem::Refused(RtcpParseError::Truncated {
-            expected: 3,
-            actual: 2,
-        });
+    if rest.len() < 2 {
+        return 0;
     }
-    let prefix = wide(rest[2]);
-    let available = len - 1;
-    if available < prefix {
-        return ParsedItem::Refused(RtcpParseError::SdesPrivPrefixTooLarge {
-            len: prefix,
-            available,
-        });
+    let length = wide(rest[1]);
+    if rest.len() - 2 < length {
+        return 0;
     }
-    ParsedItem::Item(SdesItem {
-        type_: SdesItem::PRIV,
-        length: len,
-        prefix,
-    })
+    if rest[0] != SdesItem::PRIV {
+        return 2 + length;
+    }
+    if length == 0 {
+        return 0;
+    }
+    if length - 1 < wide(rest[2]) {
+        return 0;
+    }
+    2 + length
 }
 
-// Where the value of an item starts.
-fn value_start(item: SdesItem) -> usize
-    requires { ⌜ 3 + item .prefix < 2 ^ 64 ⌝ }
-    ensures { λ r. ⌜ r ≡ valueStart item ⌝ }
+// The place behind the item at a place of the chunk; 0 where there is none, or it is refused.
+pub fn item_end(chunk: &[u8], at: usize) -> usize
+    ensures { λ r. ⌜ r ≡ stepEnd (now (chunk .entry)) at ⌝ }
 {
-    let type_ = item.type_;
-    if type_ == SdesItem::PRIV {
-        3 + item.prefix
-    } else {
-        2
+    if chunk.len() <= at {
+        return 0;
     }
+    if chunk[at] == 0 {
+        return 0;
+    }
+    let size = item_size(&chunk[at..]);
+    if size == 0 {
+        return 0;
+    }
+    at + size
+}
+
+// Why item_end is 0; NothingLeft where it is not.
+pub fn why_end(chunk: &[u8], at: usize) -> RtcpParseError
+    ensures { λ r. ⌜ parseRefusal r ≡ refusalIn (itemStep (now (chunk .entry)) at) ⌝ }
+{
+    if chunk.len() <= at {
+        return RtcpParseError::NothingLeft;
+    }
+    if chunk[at] == 0 {
+        return RtcpParseError::NothingLeft;
+    }
+    why_item(&chunk[at..])
+}
+
+// The item of a size that is not 0.
+pub fn item_of_unchecked(rest: &[u8], size: usize) -> SdesItem
+    requires { ⌜ (size ≡ valueOr 0 itemSize (readItem (now rest))) × (size ≡ 0 → ⊥) ⌝ }
+    ensures { λ r. ⌜ ok r ≡ mapOk itemFirst (readItem (now (rest .entry))) ⌝ }
+{
+    let type_ = rest[0];
+    let length = size - 2;
+    if type_ != SdesItem::PRIV {
+        return SdesItem {
+            type_,
+            length,
+            prefix_len: 0,
+        };
+    }
+    let prefix_len = wide(rest[2]);
+    SdesItem {
+        type_,
+        length,
+        prefix_len,
+    }
+}
+
+// Why it is refused; NothingLeft where it is not.
+pub fn why_item(rest: &[u8]) -> RtcpParseError
+    ensures { λ r. ⌜ parseRefusal r ≡ refusalIn (readItem (now (rest .entry))) ⌝ }
+{
+    if rest.len() < 2 {
+        return RtcpParseError::Truncated {
+            expected: 4,
+            actual: rest.len(),
+        };
+    }
+    let length = wide(rest[1]);
+    if rest.len() - 2 < length {
+        return RtcpParseError::Truncated {
+            expected: 2 + length,
+            actual: rest.len(),
+        };
+    }
+    if rest[0] != SdesItem::PRIV {
+        return RtcpParseError::NothingLeft;
+    }
+    if length == 0 {
+        return RtcpParseError::Truncated {
+            expected: 3,
+            actual: 2,
+        };
+    }
+    let len = wide(rest[2]);
+    let available = length - 1;
+    if available < len {
+        return RtcpParseError::SdesPrivPrefixTooLarge { len, available };
+    }
+    RtcpParseError::NothingLeft
+}
+
+// The test that an item is a CNAME.
+pub fn is_cname(type_: u8, length: usize) -> bool
+    ensures { λ r. ⌜ r ≡ isCname «type_» length ⌝ }
+{
+    type_ == SdesItem::CNAME
+}
+
+pub fn least(a: usize, b: usize) -> usize
+    ensures { λ r. ⌜ r ≡ min a b ⌝ }
+{
+    if a < b { a } else { b }
+}
+
+// Sets the answer to the numbers of a refusal.
+fn set_answer(answer: &mut [u64; 3], code: Code)
+    ensures { λ _. ⌜ now (answer .exit) ≡ code .number ∷ code .first ∷ code .second ∷ [] ⌝ }
+{
+    *answer = [code.number, code.first, code.second];
 }
 
 impl SdesItem {
@@ -105,111 +193,57 @@ impl SdesItem {
     pub fn parse(rest: &[u8]) -> ParsedItem
         ensures { λ r. ⌜ parsedItemOf r ≡ mapOk itemFirst (readItem (now (rest .entry))) ⌝ }
     {
-        if rest.len() < 2 {
-            return ParsedItem::Refused(RtcpParseError::Truncated {
-                expected: 4,
-                actual: rest.len(),
-            });
+        let size = item_size(rest);
+        if size == 0 {
+            return ParsedItem::Refused(why_item(&rest[0..]));
         }
-        let type_ = rest[0];
-        let length = wide(rest[1]);
-        if rest.len() - 2 < length {
-            return ParsedItem::Refused(RtcpParseError::Truncated {
-                expected: 2 + length,
-                actual: rest.len(),
-            });
-        }
-        if type_ != SdesItem::PRIV {
-            return ParsedItem::Item(SdesItem {
-                type_,
-                length,
-                prefix: 0,
-            });
-        }
-        parse_priv(rest, length)
+        ParsedItem::Item(item_of_unchecked(rest, size))
     }
 
     // The test that an item is a CNAME.
     pub fn is_cname(self) -> bool
         ensures { λ r. ⌜ r ≡ isCname (self .«type_») (self .length) ⌝ }
     {
-        self.type_ == SdesItem::CNAME
+        is_cname(self.type_, self.length)
     }
 
-    // The value of the item at the start of the rest.
-    pub fn value(rest: &[u8]) -> &[u8]
-        ensures { λ r. ⌜ now r ≡ part (mapOk itemValue (readItem (now (rest .entry)))) ⌝ }
+    // The value, of the bytes that the item was parsed from.
+    pub fn value(self, rest: &[u8]) -> &[u8]
+        ensures { λ r. ⌜ now r ≡ take (valueLen self) (drop (valueStart self) (now (rest .entry))) ⌝ }
     {
-        let parsed = SdesItem::parse(rest);
-        let ParsedItem::Item(item) = parsed else {
+        let type_ = self.type_;
+        let length = self.length;
+        let prefix_len = self.prefix_len;
+        if type_ != SdesItem::PRIV {
+            return parser::part(rest, 2, length);
+        }
+        if length <= prefix_len {
+            return parser::part(rest, 0, 0);
+        }
+        let len = length - 1 - prefix_len;
+        let start = 3 + least(prefix_len, rest.len());
+        parser::part(rest, start, len)
+    }
+
+    // The prefix of the item at the start of the rest, and an answer of zeros; where there is none an empty part, and the refusal's number and details.
+    pub fn priv_prefix<'a>(rest: &'a [u8], answer: &mut [u64; 3]) -> &'a [u8]
+        ensures { λ r. ⌜ (now r ≡ prefixIn (readPrefix (now (rest .entry)))) × (now (answer .exit) ≡ answerOf (readPrefix (now (rest .entry)))) ⌝ }
+    {
+        let size = item_size(rest);
+        if size == 0 {
+            let why = why_item(&rest[0..]);
+            set_answer(answer, why.code());
             return &rest[..0];
-        };
-        let start = value_start(item);
-        let end = 2 + item.length;
-        &rest[start..end]
-    }
-
-    // The length of the prefix of the item at the start of the rest.
-    pub fn priv_prefix_len(rest: &[u8]) -> PrefixLen
-        ensures { λ r. ⌜ prefixLenOf r ≡ mapOk length (readPrefix (now (rest .entry))) ⌝ }
-    {
-        let parsed = SdesItem::parse(rest);
-        let ParsedItem::Item(item) = parsed else {
-            return PrefixLen::Refused(parsed.refusal());
-        };
+        }
+        let item = item_of_unchecked(rest, size);
         let type_ = item.type_;
         if type_ != SdesItem::PRIV {
-            return PrefixLen::Refused(RtcpParseError::NotPriv(type_));
-        }
-        PrefixLen::Len(item.prefix)
-    }
-
-    // The prefix itself.
-    pub fn priv_prefix(rest: &[u8]) -> &[u8]
-        ensures { λ r. ⌜ now r ≡ part (readPrefix (now (rest .entry))) ⌝ }
-    {
-        let answer = SdesItem::priv_prefix_len(rest);
-        let PrefixLen::Len(len) = answer else {
+            let why = RtcpParseError::NotPriv(type_);
+            set_answer(answer, why.code());
             return &rest[..0];
-        };
-        let end = 3 + len;
+        }
+        *answer = [0, 0, 0];
+        let end = 3 + item.prefix_len;
         &rest[3..end]
     }
-}
-
-// An item, and the place after it.
-pub enum ItemEnd {
-    At(SdesItem, usize),
-    Refused(RtcpParseError),
-}
-
-impl ItemEnd {
-    // Why it is refused; NothingLeft where it is not.
-    pub fn refusal(self) -> RtcpParseError
-        ensures { λ r. ⌜ parseRefusal r ≡ refusalIn (itemEndOf self) ⌝ }
-    {
-        match self {
-            ItemEnd::At(_, _) => RtcpParseError::NothingLeft,
-            ItemEnd::Refused(e) => e,
-        }
-    }
-}
-
-// The item step: whatever can refuse an item, and every walk over items, goes on by it.
-pub fn item_end(chunk: &[u8], at: usize) -> ItemEnd
-    ensures { λ r. ⌜ itemEndOf r ≡ mapOk (itemAt at) (readItem (drop at (now (chunk .entry)))) ⌝ }
-{
-    if chunk.len() < at {
-        return ItemEnd::Refused(RtcpParseError::Truncated {
-            expected: 4,
-            actual: 0,
-        });
-    }
-    let rest = &chunk[at..];
-    let parsed = SdesItem::parse(rest);
-    let ParsedItem::Item(item) = parsed else {
-        return ItemEnd::Refused(parsed.refusal());
-    };
-    let end = at + 2 + item.length;
-    ItemEnd::At(item, end)
 }

@@ -2,16 +2,13 @@
 use mathlib.Core.Path.{_≡_, refl, ap, _∙_, sym}
 use Prim.Native.Nat.{ℕ}
 use lib.Dec.{eqb}
-use Rattle.rfc3550.specs.Answer.{Refusal, refusal, Answer, ok, refused, pick}
+use Rattle.rfc3550.specs.Answer.{Refusal, refusal, pick}
 use Rattle.utils.specs.Error.{parseRefusal, writeRefusal, codeRefusal}
-use Rattle.utils.specs.Parser.{checkedOf}
 use Rattle.utils.specs.declared.error.RtcpParseError.{RtcpParseError}
 use Rattle.utils.specs.declared.error.RtcpParseError.the-variants as parse
 use Rattle.utils.specs.declared.error.RtcpWriteError.{RtcpWriteError}
 use Rattle.utils.specs.declared.error.RtcpWriteError.the-variants as write
 use Rattle.utils.specs.declared.error.Code.{Code}
-use Rattle.utils.specs.declared.parser.CheckedPacket.{CheckedPacket}
-use Rattle.utils.specs.declared.parser.CheckedPacket.the-variants.{Body, Refused}
 
 pub injective : {A B : Type 0} (f : A → B) (g : B → A) → ((a : A) → g (f a) ≡ a) → (a b : A) → f a ≡ f b → a ≡ b
 injective f g h a b e = sym (h a) ∙ ap g e ∙ h b
@@ -97,14 +94,3 @@ codeFor (refusal n a b) = record { number = n; first = a; second = b }
 
 pub codeRefusal-injective : (c d : Code) → codeRefusal c ≡ codeRefusal d → c ≡ d
 codeRefusal-injective = injective codeRefusal codeFor (λ c. refl)
-
-abbrev checkedFor : Answer ℕ → CheckedPacket
-checkedFor (ok n) = Body n
-checkedFor (refused r) = Refused (parseError r)
-
-checkedOf-back : (o : CheckedPacket) → checkedFor (checkedOf o) ≡ o
-checkedOf-back (Body n) = refl
-checkedOf-back (Refused e) = ap Refused (parseRefusal-back e)
-
-pub checkedOf-injective : (o p : CheckedPacket) → checkedOf o ≡ checkedOf p → o ≡ p
-checkedOf-injective = injective checkedOf checkedFor checkedOf-back

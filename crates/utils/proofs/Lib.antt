@@ -1,4 +1,5 @@
 pub mod Numbers
+pub mod Values
 pub mod Headers
 pub mod Reading
 pub mod Parts
@@ -9,3 +10,5 @@ pub mod WriterStores
 pub mod WriterCases
 pub mod WriterPackets
 pub mod WriterInjective
+pub mod Sizes
+pub mod Filled

@@ -6,10 +6,11 @@ use mathlib.Core.Logic.{_⊎_, inl, inr}
 use Prim.Native.Nat.{ℕ, zero, suc, _+_, _-_, _*_, _<_, _≤_}
 use native.Mathlib.Nat.{sub-zero, zero-sub, suc-sub-suc, mul-suc, mul-zero}
 use native.Mathlib.Omega.{arith}
+use borrow.Author.Needs.{needs}
 use borrow.Author.Tests.{ltb-true, ltb-false}
 use lib.Dec.{ltb}
 use lib.ListN.{length, take, drop, replicate, length-drop}
-use lib.Seq.{take-nil, take-take, drop-drop, length-take-le}
+use lib.Seq.{take-nil, take-all, take-take, drop-drop, length-take-le}
 use Rattle.rfc3550.specs.Answer.{ok, refuse}
 use Rattle.rfc3550.specs.Bytes.{val, get, sum}
 use Rattle.rfc3550.specs.Packet.{blockWidths}
@@ -35,6 +36,31 @@ unfolding get sum
 get-take [] at b s h = refl
 get-take (w ∷ ws) at b s h =
     rw (take-drop-take w at b s (omega arith), drop-drop w at (take b s), drop-drop w at s, get-take ws (at + w) b s (omega arith))
+
+-- ---- the part from a place on, of a length
+
+pub part-past : {A : Type 0} (at n : ℕ) (s : List A) → length s ≤ at → take 0 s ≡ take n (drop at s)
+part-past zero n [] h = sym (take-nil n)
+part-past zero n (x ∷ s) h = absurd (omega arith)
+part-past (suc at) n [] h = sym (take-nil n)
+part-past (suc at) n (x ∷ s) h = part-past at n s (omega arith)
+
+pub part-cut : {A : Type 0} (at n : ℕ) (s : List A) → length s - at ≤ n → take (length s - at) (drop at s) ≡ take n (drop at s)
+part-cut at n s h =
+    take-all (length s - at) (drop at s) (rw (length-drop) (omega arith)) ∙ sym (take-all n (drop at s) (rw (length-drop) h))
+
+pub part-within : {A : Type 0} (at n : ℕ) (s : List A) → take (at + n - at) (drop at s) ≡ take n (drop at s)
+part-within at n s = let e : at + n - at ≡ n = omega arith in rw e
+
+-- all of a list, lent again from its start
+pub lent-again : {A : Type 0} (s : List A) → take (length s - 0) (drop 0 s) ≡ s
+lent-again s = take-all (length s - 0) s (omega arith)
+
+-- the second place comes first
+pub part-none : {A : Type 0} (from to : ℕ) (s r : List A) → to < from → r ≡ take 0 (drop from s) → r ≡ take (to - from) (drop from s)
+part-none from to s r h e = let z : to - from ≡ 0 = omega arith in rw z e
+
+pub ruleset cuts = (needs, part-past, part-cut, part-within, part-none)
 
 -- ---- nth
 

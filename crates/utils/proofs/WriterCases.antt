@@ -1,6 +1,6 @@
 -- The cases of what `writer` lays down, each from what the code has tested or called.
 use borrow.Author.Needs.{needs}
-use Prim.Native.Nat.{ℕ, zero, suc, _+_, _-_, _/_, _%_, _^_, _<_, _≤_}
+use Prim.Native.Nat.{ℕ, zero, suc, _+_, _-_, _*_, _/_, _%_, _^_, _<_, _≤_}
 use mathlib.Core.Path.{_≡_, refl, sym, ap, _∙_}
 use mathlib.Core.Bool.{Bool, true, false}
 use mathlib.Core.List.{List, [], _∷_, _++_}
@@ -15,8 +15,8 @@ use Rattle.rfc3550.specs.Bytes.{be, val, store}
 use Rattle.rfc3550.specs.Packet.{paddingBit}
 use Rattle.rfc3550.specs.Write.{paddingOk, paddingBytes}
 use Rattle.rfc3550.proofs.Bytes.{length-be, length-store, be-take, bytes-drop, bytes-each}
-use Rattle.utils.specs.Writer.{firstByte, header}
-use Rattle.utils.proofs.WriterStores.{store-nil, store-store, store-over, store-snoc, store-puts, store-number, puts, digits}
+use Rattle.utils.specs.Writer.{firstByte, header, reversed}
+use Rattle.utils.proofs.WriterStores.{store-nil, store-store, store-over, store-snoc, store-puts, store-number, be-digits, puts, digits}
 
 -- ---- padding
 
@@ -59,11 +59,34 @@ module _ (at v : ℕ) (l : List ℕ) where
   pub u16-laid : v < 2 ^ 16 → at + 2 ≤ length l → puts at 1 (v % 256 ∷ []) (set l at (v / 256 % 256)) ≡ store at (be 2 v) l
   u16-laid f h = rw div-one at (store-number 1 at v l f h)
 
+  pub reversed-laid : at + 4 ≤ length l → puts at 1 (v / 256 % 256 ∷ v / 65536 % 256 ∷ v / 16777216 % 256 ∷ []) (set l at (v % 256)) ≡ store at (reversed v) l
+  reversed-laid h = store-puts at (v % 256) (v / 256 % 256 ∷ v / 65536 % 256 ∷ v / 16777216 % 256 ∷ []) l h
+
+  pub swapped-laid : (r : ℕ) (l₁ : List ℕ) → reversed r ≡ be 4 v → l₁ ≡ store at (reversed r) l → l₁ ≡ store at (be 4 v) l
+  swapped-laid r l₁ e f = f ∙ ap (λ (bs : List ℕ). store at bs l) e
+
   pub u32-laid : v < 2 ^ 32 → at + 4 ≤ length l → puts at 1 (v / 65536 % 256 ∷ v / 256 % 256 ∷ v % 256 ∷ []) (set l at (v / 16777216 % 256)) ≡ store at (be 4 v) l
   u32-laid f h = rw div-one at (store-number 3 at v l f h)
 
   pub u64-laid : v < 2 ^ 64 → at + 8 ≤ length l → puts at 1 (v / 281474976710656 % 256 ∷ v / 1099511627776 % 256 ∷ v / 4294967296 % 256 ∷ v / 16777216 % 256 ∷ v / 65536 % 256 ∷ v / 256 % 256 ∷ v % 256 ∷ []) (set l at (v / 72057594037927936 % 256)) ≡ store at (be 8 v) l
   u64-laid f h = rw div-one at (store-number 7 at v l f h)
+
+-- the bytes in the other order, reversed
+four : (a b c d : ℕ) → a < 256 → b < 256 → c < 256 → d < 256 → reversed (a + b * 256 + c * 65536 + d * 16777216) ≡ a ∷ b ∷ c ∷ d ∷ []
+four a b c d f g h i =
+    let q₁ : (a + b * 256 + c * 65536 + d * 16777216) / 256 ≡ b + c * 256 + d * 65536 = omega arith in
+    let q₂ : (a + b * 256 + c * 65536 + d * 16777216) / 65536 ≡ c + d * 256 = omega arith in
+    let q₃ : (a + b * 256 + c * 65536 + d * 16777216) / 16777216 ≡ d = omega arith in
+    let e₀ : (a + b * 256 + c * 65536 + d * 16777216) % 256 ≡ a = omega arith in
+    let e₁ : (b + c * 256 + d * 65536) % 256 ≡ b = omega arith in
+    let e₂ : (c + d * 256) % 256 ≡ c = omega arith in
+    let e₃ : d % 256 ≡ d = omega arith in
+    rw (q₁, q₂, q₃, e₀, e₁, e₂, e₃)
+
+pub swapped : (v : ℕ) → v < 2 ^ 32 → reversed (v / 16777216 + v / 65536 % 256 * 256 + v / 256 % 256 * 65536 + v % 256 * 16777216) ≡ be 4 v
+swapped v f =
+    let e : v / 16777216 % 256 ≡ v / 16777216 = omega arith in
+    four (v / 16777216) (v / 65536 % 256) (v / 256 % 256) (v % 256) (omega arith) (omega arith) (omega arith) (omega arith) ∙ sym (rw (div-one, e) at (be-digits 4 v f))
 
 -- the w bytes from index k on, read as a number and laid down as that number
 pub number-copied : (w at k v : ℕ) (src l l₁ : List ℕ) → ((i : ℕ) → getD src i 0 < 256) → k + w ≤ length src → v ≡ val (take w (drop k src)) → l₁ ≡ store (at + k) (be w v) l → l₁ ≡ store (at + k) (take w (drop k src)) l
@@ -166,4 +189,4 @@ copying-again w at src l₀ k₀ l₁ k l₂ c h s e =
       so-far = λ l t v. group-more at l w k src l₁ l₂ h t e (c .so-far l t v);
     }
 
-pub ruleset writer = (needs, padding-odd, padding-even, first-plain, first-padded, padding-none, padding-laid, header-laid, u16-laid, u32-laid, u64-laid, laid-none, zeros-more, zeros-done, group-more, group-last, byte-alone, bytes-none)
+pub ruleset writer = (needs, padding-odd, padding-even, first-plain, first-padded, padding-none, padding-laid, header-laid, u16-laid, reversed-laid, swapped-laid, swapped, u32-laid, u64-laid, laid-none, zeros-more, zeros-done, group-more, group-last, byte-alone, bytes-none)

@@ -1,4 +1,5 @@
 -- The number and the details that document 01 gives each refusal of the code.
+use Prim.Native.Nat.{ℕ}
 use Rattle.rfc3550.specs.Answer.{Refusal, refusal, Answer, ok, refused}
 use Rattle.utils.specs.declared.error.RtcpParseError.{RtcpParseError}
 use Rattle.utils.specs.declared.error.RtcpParseError.the-variants as parse
@@ -47,3 +48,13 @@ codeRefusal c = refusal (c .number) (c .first) (c .second)
 abbrev pub refusalIn : {A : Type 0} → Answer A → Refusal
 refusalIn (ok a) = refusal 25 0 0
 refusalIn (refused r) = r
+
+-- what is seen of an answer's value; of a refusal, what stands for none
+abbrev pub valueOr : {A B : Type 0} → B → (A → B) → Answer A → B
+valueOr none view (ok a) = view a
+valueOr none view (refused r) = none
+
+-- the same of a number that is itself the answer: no value is 0
+abbrev pub orZero : Answer ℕ → ℕ
+orZero (ok n) = n
+orZero (refused r) = 0

@@ -1,18 +1,30 @@
 // Numbers, most significant byte first, and the header of a packet.
 use super::error::RtcpParseError;
 ghost use mathlib.Core.Path.{_≡_};
-ghost use Prim.Native.Nat.{_+_, _≤_, _<_};
+ghost use mathlib.Core.Bool.{_||_};
+ghost use Prim.Native.Nat.{_+_, _-_, _≤_, _<_};
 ghost use lib.ListN.{length, take, drop};
 ghost use lib.Dec.{eqb};
 ghost use Rattle.rfc3550.specs.Bytes.{val};
 ghost use Rattle.rfc3550.specs.Read.{versionIn, padded, lowIn, typeIn, stated, checkHeader};
-ghost use Rattle.utils.specs.Error.{parseRefusal, refusalIn};
-ghost use Rattle.utils.specs.Parser.{checkedOf, checkPadding};
+ghost use Rattle.utils.specs.Error.{parseRefusal, refusalIn, orZero};
+ghost use Rattle.utils.specs.Parser.{checkPadding};
 
-fn wide(b: u8) -> u16
+// A byte, and that it is below 256.
+pub fn wide(b: u8) -> usize
     ensures { λ r. ⌜ (r ≡ b) × (r < 256) ⌝ }
 {
-    b as u16
+    b as usize
+}
+
+// One or the other, or both.
+pub fn either(a: bool, b: bool) -> bool
+    ensures { λ r. ⌜ r ≡ (a || b) ⌝ }
+{
+    if a {
+        return true;
+    }
+    b
 }
 
 pub fn u16_from_be_bytes(s: &[u8], at: usize) -> u16
@@ -21,7 +33,7 @@ pub fn u16_from_be_bytes(s: &[u8], at: usize) -> u16
 {
     let high = wide(s[at]);
     let low = wide(s[at + 1]);
-    high * 256 + low
+    (high * 256 + low) as u16
 }
 
 pub fn u24_from_be_bytes(s: &[u8], at: usize) -> u32
@@ -68,17 +80,23 @@ pub fn parse_padding_bit(s: &[u8]) -> bool
     s[0] / 32 % 2 == 1
 }
 
+// The low 5 bits of the first byte; 0 where there is no byte.
 pub fn parse_count(s: &[u8]) -> u8
-    requires { ⌜ 4 ≤ length (now s) ⌝ }
     ensures { λ r. ⌜ (r ≡ lowIn (now (s .entry))) × (r < 32) ⌝ }
 {
+    if s.len() == 0 {
+        return 0;
+    }
     s[0] % 32
 }
 
+// The second byte; 0 where there is none.
 pub fn parse_packet_type(s: &[u8]) -> u8
-    requires { ⌜ 4 ≤ length (now s) ⌝ }
     ensures { λ r. ⌜ r ≡ typeIn (now (s .entry)) ⌝ }
 {
+    if s.len() < 2 {
+        return 0;
+    }
     s[1]
 }
 
@@ -97,79 +115,138 @@ pub fn parse_ssrc(s: &[u8]) -> u32
     u32_from_be_bytes(s, 4)
 }
 
-// The length of a packet's body, which is its length less the padding.
-pub enum CheckedPacket {
-    Body(usize),
-    Refused(RtcpParseError),
-}
-
-impl CheckedPacket {
-    // Why it is refused; NothingLeft where it is not.
-    pub fn refusal(self) -> RtcpParseError
-        ensures { λ r. ⌜ parseRefusal r ≡ refusalIn (checkedOf self) ⌝ }
-    {
-        match self {
-            CheckedPacket::Body(_) => RtcpParseError::NothingLeft,
-            CheckedPacket::Refused(e) => e,
-        }
-    }
-}
-
-// The padding's step, of a packet that has its stated length.
-fn check_padding(s: &[u8], min_packet_len: usize) -> CheckedPacket
+// The length of the body by the padding's step; 0 where it is refused.
+fn padded_body(s: &[u8], min_packet_len: usize) -> usize
     requires { ⌜ (4 ≤ «min_packet_len») × («min_packet_len» ≤ length (now s)) ⌝ }
-    ensures { λ r. ⌜ checkedOf r ≡ checkPadding «min_packet_len» (now (s .entry)) ⌝ }
+    ensures { λ r. ⌜ r ≡ orZero (checkPadding «min_packet_len» (now (s .entry))) ⌝ }
 {
     if !parse_padding_bit(s) {
-        return CheckedPacket::Body(s.len());
+        return s.len();
     }
-    let padding = wide(s[s.len() - 1]) as usize;
+    let padding = wide(s[s.len() - 1]);
     if padding == 0 {
-        return CheckedPacket::Refused(RtcpParseError::InvalidPadding);
+        return 0;
     }
     if padding % 4 != 0 {
-        return CheckedPacket::Refused(RtcpParseError::InvalidPadding);
+        return 0;
     }
     if s.len() - min_packet_len < padding {
-        return CheckedPacket::Refused(RtcpParseError::InvalidPadding);
+        return 0;
     }
-    CheckedPacket::Body(s.len() - padding)
+    s.len() - padding
 }
 
-// The steps common to every kind, with its least length and its type.
-pub fn check_packet(s: &[u8], min_packet_len: usize, packet_type: u8) -> CheckedPacket
+// The length of a packet's body, which is its length less the padding, by the steps common to every kind; 0 where one refuses.
+pub fn body_if(s: &[u8], min_packet_len: usize, wanted: bool) -> usize
     requires { ⌜ 4 ≤ «min_packet_len» ⌝ }
-    ensures { λ r. ⌜ checkedOf r ≡ checkHeader «min_packet_len» (eqb (typeIn (now (s .entry))) «packet_type») (typeIn (now (s .entry)), «packet_type») (now (s .entry)) ⌝ }
+    ensures { λ r. ⌜ r ≡ orZero (checkHeader «min_packet_len» wanted (0, 0) (now (s .entry))) ⌝ }
 {
     if s.len() < min_packet_len {
-        return CheckedPacket::Refused(RtcpParseError::Truncated {
-            expected: min_packet_len,
-            actual: s.len(),
-        });
+        return 0;
     }
-    let version = parse_version(s);
-    if version != 2 {
-        return CheckedPacket::Refused(RtcpParseError::UnsupportedVersion(version));
+    if parse_version(s) != 2 {
+        return 0;
     }
-    let actual = parse_packet_type(s);
-    if actual != packet_type {
-        return CheckedPacket::Refused(RtcpParseError::PacketTypeMismatch {
-            actual,
-            requested: packet_type,
-        });
+    if !wanted {
+        return 0;
     }
     let length = parse_length(s);
     if s.len() < length {
-        return CheckedPacket::Refused(RtcpParseError::Truncated {
-            expected: length,
-            actual: s.len(),
-        });
+        return 0;
     }
     if length < s.len() {
-        return CheckedPacket::Refused(RtcpParseError::TooLarge {
+        return 0;
+    }
+    padded_body(s, min_packet_len)
+}
+
+// Why body_if is 0; NothingLeft where it is not.
+pub fn why_header_if(
+    s: &[u8],
+    min_packet_len: usize,
+    wanted: bool,
+    actual: u8,
+    requested: u8,
+) -> RtcpParseError
+    requires { ⌜ 4 ≤ «min_packet_len» ⌝ }
+    ensures { λ r. ⌜ parseRefusal r ≡ refusalIn (checkHeader «min_packet_len» wanted (actual, requested) (now (s .entry))) ⌝ }
+{
+    if s.len() < min_packet_len {
+        return RtcpParseError::Truncated {
+            expected: min_packet_len,
+            actual: s.len(),
+        };
+    }
+    let version = parse_version(s);
+    if version != 2 {
+        return RtcpParseError::UnsupportedVersion(version);
+    }
+    if !wanted {
+        return RtcpParseError::PacketTypeMismatch { actual, requested };
+    }
+    let length = parse_length(s);
+    if s.len() < length {
+        return RtcpParseError::Truncated {
             expected: length,
             actual: s.len(),
-        });
+        };
     }
-    check_padding(s, min_packet_len)
+    if length < s.len() {
+        return RtcpParseError::TooLarge {
+            expected: length,
+            actual: s.len(),
+        };
+    }
+    if padded_body(s, min_packet_len) == 0 {
+        return RtcpParseError::InvalidPadding;
+    }
+    RtcpParseError::NothingLeft
+}
+
+// The same of a kind that its type alone names: the length of the body, or 0.
+pub fn body_of(s: &[u8], min_packet_len: usize, packet_type: u8) -> usize
+    requires { ⌜ 4 ≤ «min_packet_len» ⌝ }
+    ensures { λ r. ⌜ r ≡ orZero (checkHeader «min_packet_len» (eqb (typeIn (now (s .entry))) «packet_type») (typeIn (now (s .entry)), «packet_type») (now (s .entry))) ⌝ }
+{
+    let wanted = parse_packet_type(s) == packet_type;
+    body_if(s, min_packet_len, wanted)
+}
+
+// Why body_of is 0; NothingLeft where it is not.
+pub fn why_header(s: &[u8], min_packet_len: usize, packet_type: u8) -> RtcpParseError
+    requires { ⌜ 4 ≤ «min_packet_len» ⌝ }
+    ensures { λ r. ⌜ parseRefusal r ≡ refusalIn (checkHeader «min_packet_len» (eqb (typeIn (now (s .entry))) «packet_type») (typeIn (now (s .entry)), «packet_type») (now (s .entry))) ⌝ }
+{
+    let actual = parse_packet_type(s);
+    why_header_if(
+        s,
+        min_packet_len,
+        actual == packet_type,
+        actual,
+        packet_type,
+    )
+}
+
+// The part of the bytes from a place on, of a length, cut where the bytes end.
+pub fn part(s: &[u8], at: usize, len: usize) -> &[u8]
+    ensures { λ r. ⌜ now r ≡ take len (drop at (now (s .entry))) ⌝ }
+{
+    if s.len() <= at {
+        return &s[..0];
+    }
+    if s.len() - at <= len {
+        return &s[at..];
+    }
+    let end = at + len;
+    &s[at..end]
+}
+
+// The part of the bytes from one place to another; none where the second comes first.
+pub fn between(s: &[u8], from: usize, to: usize) -> &[u8]
+    ensures { λ r. ⌜ now r ≡ take (to - from) (drop from (now (s .entry))) ⌝ }
+{
+    if to < from {
+        return part(s, from, 0);
+    }
+    part(s, from, to - from)
 }

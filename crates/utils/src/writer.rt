@@ -7,7 +7,7 @@ ghost use Prim.Native.Nat.{_+_, _%_, _≤_, _<_};
 ghost use lib.ListN.{length, take, drop, replicate};
 ghost use Rattle.rfc3550.specs.Bytes.{be, store};
 ghost use Rattle.rfc3550.specs.Write.{paddingOk, paddingBytes};
-ghost use Rattle.utils.specs.Writer.{firstByte, header};
+ghost use Rattle.utils.specs.Writer.{firstByte, header, reversed};
 
 // The size of what was written, or why nothing was.
 pub enum Written {
@@ -23,14 +23,30 @@ pub fn write_u16_unchecked(buf: &mut [u8], at: usize, v: u16)
     buf[at + 1] = (v % 256) as u8;
 }
 
+// The four bytes of a number, the last first.
+fn write_reversed(buf: &mut [u8], at: usize, v: u32)
+    requires { ⌜ at + 4 ≤ length (now buf) ⌝ }
+    ensures { λ _. ⌜ now (buf .exit) ≡ store at (reversed v) (now (buf .entry)) ⌝ }
+{
+    buf[at] = (v % 256) as u8;
+    buf[at + 1] = (v / 256 % 256) as u8;
+    buf[at + 2] = (v / 65536 % 256) as u8;
+    buf[at + 3] = (v / 16777216 % 256) as u8;
+}
+
+// The number of the same four bytes in the other order.
+fn swap_bytes(v: u32) -> u32
+    ensures { λ r. ⌜ reversed r ≡ be 4 v ⌝ }
+{
+    v / 16777216 + v / 65536 % 256 * 256 + v / 256 % 256 * 65536 + v % 256 * 16777216
+}
+
+// By a swap and a store of the bytes in the machine's order: so it is compiled to one store wherever it stands.
 pub fn write_u32_unchecked(buf: &mut [u8], at: usize, v: u32)
     requires { ⌜ at + 4 ≤ length (now buf) ⌝ }
     ensures { λ _. ⌜ now (buf .exit) ≡ store at (be 4 v) (now (buf .entry)) ⌝ }
 {
-    buf[at] = (v / 16777216 % 256) as u8;
-    buf[at + 1] = (v / 65536 % 256) as u8;
-    buf[at + 2] = (v / 256 % 256) as u8;
-    buf[at + 3] = (v % 256) as u8;
+    write_reversed(buf, at, swap_bytes(v));
 }
 
 pub fn write_u64_unchecked(buf: &mut [u8], at: usize, v: u64)
@@ -88,12 +104,23 @@ fn copy_eight(buf: &mut [u8], at: usize, src: &[u8], k: usize)
     write_u64_unchecked(buf, at + k, v);
 }
 
+// Four bytes as they were read, as copy_eight has eight.
+fn write_four(buf: &mut [u8], at: usize, v: u32)
+    requires { ⌜ at + 4 ≤ length (now buf) ⌝ }
+    ensures { λ _. ⌜ now (buf .exit) ≡ store at (be 4 v) (now (buf .entry)) ⌝ }
+{
+    buf[at] = (v / 16777216 % 256) as u8;
+    buf[at + 1] = (v / 65536 % 256) as u8;
+    buf[at + 2] = (v / 256 % 256) as u8;
+    buf[at + 3] = (v % 256) as u8;
+}
+
 fn copy_four(buf: &mut [u8], at: usize, src: &[u8], k: usize)
     requires { ⌜ (k + 4 ≤ length (now src)) × (at + length (now src) ≤ length (now buf)) ⌝ }
     ensures { λ _. ⌜ now (buf .exit) ≡ store (at + k) (take 4 (drop k (now (src .entry)))) (now (buf .entry)) ⌝ }
 {
     let v = parser::u32_from_be_bytes(src, k);
-    write_u32_unchecked(buf, at + k, v);
+    write_four(buf, at + k, v);
 }
 
 fn copy_two(buf: &mut [u8], at: usize, src: &[u8], k: usize)

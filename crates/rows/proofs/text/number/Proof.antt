@@ -1,6 +1,7 @@
-use borrow.Author.Needs.{needs}
-use Prim.Native.Nat.{_-_, _≤_}
+use Prim.Native.Nat.{_+_, _-_, _*_, _<_, _≤_}
+use mathlib.Core.Path.{_≡_}
 use lib.ListN.{length}
+use borrow.Author.Needs.{needs}
 use Rattle.rows.proofs.text.number.Statement.{statement}
 use Rattle.rows.proofs.text.number.Tie as tie
 
@@ -10,37 +11,18 @@ Inv-loop s n₀ i₀ n i = i ≤ length s
 abbrev μ-loop : tie.MeasureT-loop
 μ-loop s n₀ i₀ n i = length s - i
 
-loop-holds : tie.Need-loop-holds Inv-loop μ-loop
-loop-holds c = search needs
-
-shared-slice-read-shifted : tie.Need-shared-slice-read-shifted Inv-loop μ-loop
-shared-slice-read-shifted c = search needs
-
-shifted-requires : tie.Need-shifted-requires Inv-loop μ-loop
-shifted-requires c κs = search needs
-
-add-i : tie.Need-add-i Inv-loop μ-loop
-add-i c = search needs
-
-loop-less : tie.Need-loop-less Inv-loop μ-loop
-loop-less c = search needs
-
-loop-again : tie.Need-loop-again Inv-loop μ-loop
-loop-again c = search needs
-
-returns : tie.Need-returns Inv-loop μ-loop
-returns c = search needs
-
 pub number-spec : {M : Type 1} → statement M
-number-spec =
-    tie.close
-    (tie.spec
+number-spec {M} =
+    let answers = tie.spec {M = M}
     Inv-loop
     μ-loop
-    loop-holds
-    shared-slice-read-shifted
-    shifted-requires
-    add-i
-    loop-less
-    loop-again
-    returns)
+    (λ c. search needs)
+    (λ c. search needs)
+    (λ c. search needs)
+    (λ c κs. search needs)
+    (λ c κs. search needs)
+    (λ c. search needs)
+    (λ c. search needs)
+    (λ c. search needs)
+    (λ c. search needs) in
+    tie.close answers

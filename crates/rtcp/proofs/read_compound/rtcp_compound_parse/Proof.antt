@@ -7,18 +7,6 @@ use borrow.Author.Needs.{needs}
 use Rattle.rtcp.proofs.read_compound.rtcp_compound_parse.Statement.{statement}
 use Rattle.rtcp.proofs.read_compound.rtcp_compound_parse.Tie as tie
 
-parse-requires : tie.Need-parse-requires
-parse-requires c κs = search needs
-
-enum-known-compound : tie.Need-enum-known-compound
-enum-known-compound c = search needs
-
-enum-known-e : tie.Need-enum-known-e
-enum-known-e c = search needs
-
-refused-requires : tie.Need-refused-requires
-refused-requires c κs = search needs
-
 returns : tie.Need-returns
 returns c = search (needs, handed compoundResult parsedCompoundOf parsed.Compound (λ x. refl))
 
@@ -26,6 +14,12 @@ returns-2 : tie.Need-returns-2
 returns-2 c = search (needs, turned compoundResult parsedCompoundOf parsed.Refused (λ e. refl))
 
 pub rtcp-compound-parse-spec : {M : Type 1} → statement M
-rtcp-compound-parse-spec =
-    tie.close
-    (tie.spec parse-requires enum-known-compound enum-known-e refused-requires returns returns-2)
+rtcp-compound-parse-spec {M} =
+    let answers = tie.spec {M = M}
+    (λ c κs. search needs)
+    (λ c. search needs)
+    (λ c. search needs)
+    (λ c κs. search needs)
+    returns
+    returns-2 in
+    tie.close answers

@@ -5,14 +5,13 @@ use borrow.Author.Needs.{needs}
 use Rattle.rtcp.proofs.read_report.rtcp_block_parse.Statement.{statement}
 use Rattle.rtcp.proofs.read_report.rtcp_block_parse.Tie as tie
 
-parse-requires : tie.Need-parse-requires
-parse-requires c κs = search needs
-
-from-parsed-requires : tie.Need-from-parsed-requires
-from-parsed-requires c κs = search needs
-
 returns : tie.Need-returns
 returns c = search (needs, passed blockResult parsedBlockOf)
 
 pub rtcp-block-parse-spec : {M : Type 1} → statement M
-rtcp-block-parse-spec = tie.close (tie.spec parse-requires from-parsed-requires returns)
+rtcp-block-parse-spec {M} =
+    let answers = tie.spec {M = M}
+    (λ c κs. search needs)
+    (λ c κs. search needs)
+    returns in
+    tie.close answers

@@ -5,14 +5,13 @@ use borrow.Author.Needs.{needs}
 use Rattle.rtcp.proofs.read_report.rtcp_sr_report_block.Statement.{statement}
 use Rattle.rtcp.proofs.read_report.rtcp_sr_report_block.Tie as tie
 
-report-block-requires : tie.Need-report-block-requires
-report-block-requires c κs = search needs
-
-from-parsed-requires : tie.Need-from-parsed-requires
-from-parsed-requires c κs = search needs
-
 returns : tie.Need-returns
 returns c = search (needs, passed blockResult parsedBlockOf)
 
 pub rtcp-sr-report-block-spec : {M : Type 1} → statement M
-rtcp-sr-report-block-spec = tie.close (tie.spec report-block-requires from-parsed-requires returns)
+rtcp-sr-report-block-spec {M} =
+    let answers = tie.spec {M = M}
+    (λ c κs. search needs)
+    (λ c κs. search needs)
+    returns in
+    tie.close answers

@@ -3,39 +3,15 @@ use borrow.Author.Needs.{needs}
 use Rattle.rtcp.proofs.read_sdes.rtcp_item_walk_step.Statement.{statement}
 use Rattle.rtcp.proofs.read_sdes.rtcp_item_walk_step.Tie as tie
 
-step-requires : tie.Need-step-requires
-step-requires c κs = search needs
-
-enum-known-item : tie.Need-enum-known-item
-enum-known-item c = search needs
-
-of-requires : tie.Need-of-requires
-of-requires c κs = search descriptions
-
-cast-t12 : tie.Need-cast-t12
-cast-t12 c = search needs
-
-enum-known-e : tie.Need-enum-known-e
-enum-known-e c = search needs
-
-refused-requires : tie.Need-refused-requires
-refused-requires c κs = search needs
-
-returns : tie.Need-returns
-returns c = search descriptions
-
-returns-2 : tie.Need-returns-2
-returns-2 c = search descriptions
-
 pub rtcp-item-walk-step-spec : {M : Type 1} → statement M
-rtcp-item-walk-step-spec =
-    tie.close
-    (tie.spec
-    step-requires
-    enum-known-item
-    of-requires
-    cast-t12
-    enum-known-e
-    refused-requires
-    returns
-    returns-2)
+rtcp-item-walk-step-spec {M} =
+    let answers = tie.spec {M = M}
+    (λ c κs. search needs)
+    (λ c. search needs)
+    (λ c κs. search descriptions)
+    (λ c. search needs)
+    (λ c. search needs)
+    (λ c κs. search needs)
+    (λ c. search descriptions)
+    (λ c. search descriptions) in
+    tie.close answers

@@ -1,23 +1,13 @@
 use Rattle.rtcp.proofs.WriteCalls.{calls}
-use borrow.Author.Needs.{needs}
 use Rattle.rtcp.proofs.write_compound.rtcp_writer_add_sdes.Statement.{statement}
 use Rattle.rtcp.proofs.write_compound.rtcp_writer_add_sdes.Tie as tie
 
-held-requires : tie.Need-held-requires
-held-requires c κs = search needs
-
-add-sdes-requires : tie.Need-add-sdes-requires
-add-sdes-requires c κs = search needs
-
-from-call-requires : tie.Need-from-call-requires
-from-call-requires c κs = search needs
-
-same-length : tie.Need-same-length
-same-length c = search needs
-
-returns : tie.Need-returns
-returns c = search calls
-
 pub rtcp-writer-add-sdes-spec : {M : Type 1} → statement M
-rtcp-writer-add-sdes-spec =
-    tie.close (tie.spec held-requires add-sdes-requires from-call-requires same-length returns)
+rtcp-writer-add-sdes-spec {M} =
+    let answers = tie.spec {M = M}
+    (λ c κs. search calls)
+    (λ c κs. search calls)
+    (λ c κs. search calls)
+    (λ c. search calls)
+    (λ c. search calls) in
+    tie.close answers

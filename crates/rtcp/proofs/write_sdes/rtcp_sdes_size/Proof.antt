@@ -3,14 +3,10 @@ use borrow.Author.Needs.{needs}
 use Rattle.rtcp.proofs.write_sdes.rtcp_sdes_size.Statement.{statement}
 use Rattle.rtcp.proofs.write_sdes.rtcp_sdes_size.Tie as tie
 
-calculate-size-requires : tie.Need-calculate-size-requires
-calculate-size-requires c κs = search needs
-
-from-written-requires : tie.Need-from-written-requires
-from-written-requires c κs = search needs
-
-returns : tie.Need-returns
-returns c = search outs
-
 pub rtcp-sdes-size-spec : {M : Type 1} → statement M
-rtcp-sdes-size-spec = tie.close (tie.spec calculate-size-requires from-written-requires returns)
+rtcp-sdes-size-spec {M} =
+    let answers = tie.spec {M = M}
+    (λ c κs. search needs)
+    (λ c κs. search needs)
+    (λ c. search outs) in
+    tie.close answers

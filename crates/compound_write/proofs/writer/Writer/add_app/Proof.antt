@@ -1,60 +1,36 @@
+use mathlib.Core.Path.{refl}
+use borrow.Author.Tests.{not-true}
+use Rattle.rfc3550.specs.Write.{giveApp}
+use Rattle.compound_write.proofs.Writers.{add-refused, app-again}
 use Rattle.compound_write.proofs.Writers.{adds}
 use Rattle.compound_write.proofs.writer.Writer.add_app.Statement.{statement}
 use Rattle.compound_write.proofs.writer.Writer.add_app.Tie as tie
 
-calculate-size-requires : tie.Need-calculate-size-requires
-calculate-size-requires c κs = search adds
-
-admit-requires : tie.Need-admit-requires
-admit-requires c κs = search adds
-
-enum-known-e : tie.Need-enum-known-e
-enum-known-e c = search adds
-
-refuse-requires : tie.Need-refuse-requires
-refuse-requires c κs = search adds
-
-enum-known-size : tie.Need-enum-known-size
-enum-known-size c = search adds
-
-sub-write-into-unchecked : tie.Need-sub-write-into-unchecked
-sub-write-into-unchecked c = search adds
-
-part-write-into-unchecked-start : tie.Need-part-write-into-unchecked-start
-part-write-into-unchecked-start c = search adds
-
-part-write-into-unchecked-end : tie.Need-part-write-into-unchecked-end
-part-write-into-unchecked-end c = search adds
-
-write-into-unchecked-requires : tie.Need-write-into-unchecked-requires
-write-into-unchecked-requires c κs = search adds
-
-advance-unchecked-requires : tie.Need-advance-unchecked-requires
-advance-unchecked-requires c κs = search adds
-
 returns : tie.Need-returns
-returns c = search adds
-
-same-length : tie.Need-same-length
-same-length c = search adds
-
-returns-2 : tie.Need-returns-2
-returns-2 c = search adds
+returns c =
+    let a = c .before .before .before .before .before .before .before .before .before .before .before .args in
+    add-refused (giveApp (a .subtype) (a .ssrc) (a .name .now) (a .«data» .now) (a .padding)) _ _ 204 _ _ refl (c .before .before .before .before .before .before .before .size-of .ensures) (c .before .before .before .before .before .before .admit .ensures) _ _ _ _ _ (not-true _ (c .before .before .before .before .before .if1 .taken)) (c .before .before .why-size .ensures) (app-again _ _ _ _ _) (c .before .why .ensures) (c .refuse .ensures)
 
 pub add-app-spec : {M : Type 1} → statement M
-add-app-spec =
-    tie.close
-    (tie.spec
-    calculate-size-requires
-    admit-requires
-    enum-known-e
-    refuse-requires
-    enum-known-size
-    sub-write-into-unchecked
-    part-write-into-unchecked-start
-    part-write-into-unchecked-end
-    write-into-unchecked-requires
-    advance-unchecked-requires
+add-app-spec {M} =
+    let answers = tie.spec {M = M}
+    (λ c κs. search adds)
+    (λ c κs. search adds)
+    (λ c. search adds)
+    (λ c. search adds)
+    (λ c. search adds)
+    (λ c. search adds)
+    (λ c. search adds)
+    (λ c. search adds)
+    (λ c κs. search adds)
+    (λ c κs. search adds)
+    (λ c κs. search adds)
     returns
-    same-length
-    returns-2)
+    (λ c. search adds)
+    (λ c. search adds)
+    (λ c. search adds)
+    (λ c κs. search adds)
+    (λ c κs. search adds)
+    (λ c. search adds)
+    (λ c. search adds) in
+    tie.close answers

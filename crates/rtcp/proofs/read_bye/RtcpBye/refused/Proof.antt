@@ -4,11 +4,12 @@ use borrow.Author.Needs.{needs}
 use Rattle.rtcp.proofs.read_bye.RtcpBye.refused.Statement.{statement}
 use Rattle.rtcp.proofs.read_bye.RtcpBye.refused.Tie as tie
 
-code-requires : tie.Need-code-requires
-code-requires c κs = search needs
-
 returns : tie.Need-returns
 returns c = coded byeResult (c .code .result) (c .before .args .e) (c .code .ensures)
 
 pub refused-spec : {M : Type 1} → statement M
-refused-spec = tie.close (tie.spec code-requires returns)
+refused-spec {M} =
+    let answers = tie.spec {M = M}
+    (λ c κs. search needs)
+    returns in
+    tie.close answers

@@ -7,18 +7,6 @@ use borrow.Author.Needs.{needs}
 use Rattle.rtcp.proofs.read_report.RtcpBlock.from_parsed.Statement.{statement}
 use Rattle.rtcp.proofs.read_report.RtcpBlock.from_parsed.Tie as tie
 
-enum-known-parsed : tie.Need-enum-known-parsed
-enum-known-parsed c = search needs
-
-cast-t5 : tie.Need-cast-t5
-cast-t5 c = search needs
-
-enum-known-parsed-2 : tie.Need-enum-known-parsed-2
-enum-known-parsed-2 c = search needs
-
-refused-requires : tie.Need-refused-requires
-refused-requires c κs = search needs
-
 returns : tie.Need-returns
 returns c = search (needs, refl, handed blockResult parsedBlockOf parsed.Block (λ x. refl))
 
@@ -26,6 +14,18 @@ returns-2 : tie.Need-returns-2
 returns-2 c = search (needs, refl, turned blockResult parsedBlockOf parsed.Refused (λ e. refl))
 
 pub from-parsed-spec : {M : Type 1} → statement M
-from-parsed-spec =
-    tie.close
-    (tie.spec enum-known-parsed cast-t5 enum-known-parsed-2 refused-requires returns returns-2)
+from-parsed-spec {M} =
+    let answers = tie.spec {M = M}
+    (λ c. search needs)
+    (λ c. search needs)
+    (λ c. search needs)
+    (λ c. search needs)
+    (λ c. search needs)
+    (λ c. search needs)
+    (λ c. search needs)
+    (λ c. search needs)
+    (λ c. search needs)
+    (λ c κs. search needs)
+    returns
+    returns-2 in
+    tie.close answers

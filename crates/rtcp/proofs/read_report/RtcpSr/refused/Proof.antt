@@ -4,14 +4,13 @@ use borrow.Author.Needs.{needs}
 use Rattle.rtcp.proofs.read_report.RtcpSr.refused.Statement.{statement}
 use Rattle.rtcp.proofs.read_report.RtcpSr.refused.Tie as tie
 
-code-requires : tie.Need-code-requires
-code-requires c κs = search needs
-
-coded-requires : tie.Need-coded-requires
-coded-requires c κs = search needs
-
 returns : tie.Need-returns
 returns c = search (needs, recoded srResult)
 
 pub refused-spec : {M : Type 1} → statement M
-refused-spec = tie.close (tie.spec code-requires coded-requires returns)
+refused-spec {M} =
+    let answers = tie.spec {M = M}
+    (λ c κs. search needs)
+    (λ c κs. search needs)
+    returns in
+    tie.close answers

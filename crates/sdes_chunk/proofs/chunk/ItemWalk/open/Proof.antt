@@ -2,24 +2,14 @@ use Rattle.sdes_chunk.proofs.Walks.{walks}
 use Rattle.sdes_chunk.proofs.chunk.ItemWalk.open.Statement.{statement}
 use Rattle.sdes_chunk.proofs.chunk.ItemWalk.open.Tie as tie
 
-parse-requires : tie.Need-parse-requires
-parse-requires c κs = search walks
-
-enum-told : tie.Need-enum-told
-enum-told c = search walks
-
-enum-told-2 : tie.Need-enum-told-2
-enum-told-2 c = search walks
-
-refusal-requires : tie.Need-refusal-requires
-refusal-requires c κs = search walks
-
-returns : tie.Need-returns
-returns c = search walks
-
-returns-2 : tie.Need-returns-2
-returns-2 c = search walks
-
 pub open-spec : {M : Type 1} → statement M
-open-spec =
-    tie.close (tie.spec parse-requires enum-told enum-told-2 refusal-requires returns returns-2)
+open-spec {M} =
+    let answers = tie.spec {M = M}
+    (λ c κs. search walks)
+    (λ c. search walks)
+    (λ c. search walks)
+    (λ c. search walks)
+    (λ c κs. search walks)
+    (λ c. search walks)
+    (λ c. search walks) in
+    tie.close answers

@@ -1,0 +1,38 @@
+use lib.ListN.{length-set, length-replicate}
+use mathlib.Core.Path.{_∙_}
+use native.Mathlib.Omega.{arith}
+use Rattle.bye.proofs.Writes.{writes, reason-some}
+use Rattle.bye.proofs.write.write_reason.Statement.{statement}
+use Rattle.bye.proofs.write.write_reason.Tie as tie
+
+slice-write-buf : tie.Need-slice-write-buf
+slice-write-buf c = let m = reason-some (c .before .before .before .args .reason .now) (c .if1 .left) in omega arith
+
+write-bytes-unchecked-requires : tie.Need-write-bytes-unchecked-requires
+write-bytes-unchecked-requires c κs = let m = reason-some (c .before .before .before .before .args .reason .now) (c .before .if1 .left) in simp length-set (omega arith)
+
+write-zeros-unchecked-requires : tie.Need-write-zeros-unchecked-requires
+write-zeros-unchecked-requires c κs =
+    let m = reason-some (c .before .before .before .before .before .before .before .before .args .reason .now) (c .before .before .before .before .before .if1 .left) in
+    let k = simp length-set at (c .before .before .before .write-bytes-unchecked .kept .0) in
+    omega arith
+
+same-length : tie.Need-same-length
+same-length c = c .before .before .write-zeros-unchecked .kept .0 ∙ c .before .before .before .before .before .before .write-bytes-unchecked .kept .0 ∙ simp length-set
+
+pub write-reason-spec : {M : Type 1} → statement M
+write-reason-spec {M} =
+    let answers = tie.spec {M = M}
+    (λ c. search writes)
+    (λ c. search writes)
+    slice-write-buf
+    (λ c. search writes)
+    write-bytes-unchecked-requires
+    (λ c. search writes)
+    (λ c. search writes)
+    (λ c. search writes)
+    (λ c. search writes)
+    write-zeros-unchecked-requires
+    same-length
+    (λ c. search writes) in
+    tie.close answers

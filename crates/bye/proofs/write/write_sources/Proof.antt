@@ -1,0 +1,33 @@
+use Prim.Native.Nat.{_-_}
+use lib.ListN.{length}
+use Rattle.bye.proofs.Writes.{writes, Sources}
+use Rattle.bye.proofs.write.write_sources.Statement.{statement}
+use Rattle.bye.proofs.write.write_sources.Tie as tie
+
+abbrev Inv-loop : tie.InvT-loop
+Inv-loop buf₀ at sources n i₀ buf i = Sources at sources buf₀ i buf
+
+abbrev μ-loop : tie.MeasureT-loop
+μ-loop buf₀ at sources n i₀ buf i = length sources - i
+
+shared-slice-read-write-u32-unchecked :
+    tie.Need-shared-slice-read-write-u32-unchecked Inv-loop μ-loop
+shared-slice-read-write-u32-unchecked c = search writes
+
+pub write-sources-spec : {M : Type 1} → statement M
+write-sources-spec {M} =
+    let answers = tie.spec {M = M}
+    Inv-loop
+    μ-loop
+    (λ c. search writes)
+    (λ c. search writes)
+    (λ c. search writes)
+    (λ c. search writes)
+    shared-slice-read-write-u32-unchecked
+    (λ c κs. search writes)
+    (λ c. search writes)
+    (λ c. search writes)
+    (λ c. search writes)
+    (λ c. search writes)
+    (λ c. search writes) in
+    tie.close answers

@@ -1,0 +1,30 @@
+use Prim.Native.Nat.{_-_}
+use lib.ListN.{length}
+use Rattle.chunk_write.proofs.Laying.{chunks, Chunking}
+use Rattle.chunk_write.proofs.chunks.write_chunks_unchecked.Statement.{statement}
+use Rattle.chunk_write.proofs.chunks.write_chunks_unchecked.Tie as tie
+
+abbrev Inv-loop : tie.InvT-loop
+Inv-loop buf₀ start ssrcs counts types prefixes values bytes n k₀ i₀ at₀ from₀ buf k i at from = Chunking start ssrcs counts types prefixes values bytes buf₀ k i at from buf
+
+abbrev μ-loop : tie.MeasureT-loop
+μ-loop buf₀ start ssrcs counts types prefixes values bytes n k₀ i₀ at₀ from₀ buf k i at from = length ssrcs - k
+
+pub write-chunks-unchecked-spec : {M : Type 1} → statement M
+write-chunks-unchecked-spec {M} =
+    let answers = tie.spec {M = M}
+    Inv-loop
+    μ-loop
+    (λ c. search chunks)
+    (λ c κs. search chunks)
+    (λ c. search chunks)
+    (λ c. search chunks)
+    (λ c. search chunks)
+    (λ c κs. search chunks)
+    (λ c. search chunks)
+    (λ c. search chunks)
+    (λ c. search chunks)
+    (λ c. search chunks)
+    (λ c. search chunks)
+    (λ c. search chunks) in
+    tie.close answers

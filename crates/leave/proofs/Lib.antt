@@ -1,3 +1,0 @@
-pub mod Leaving
-pub mod Reading
-pub mod Computes

@@ -1,0 +1,6 @@
+pub mod Walking
+pub mod Again
+pub mod Laid
+pub mod Reports
+pub mod Injective
+pub mod Adds

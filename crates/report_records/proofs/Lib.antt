@@ -1,4 +1,0 @@
-pub mod Again
-pub mod Laid
-pub mod Reports
-pub mod Injective

@@ -1,0 +1,14 @@
+use Rattle.io.proofs.Counting.{counts}
+use borrow.Author.Needs.{needs}
+use Rattle.rows.proofs.lists.limited.Statement.{statement}
+use Rattle.rows.proofs.lists.limited.Tie as tie
+
+returns : tie.Need-returns
+returns c = search (needs, counts)
+
+pub limited-spec : {M : Type 1} → statement M
+limited-spec {M} =
+    let answers = tie.spec {M = M}
+    (λ c κs. search needs)
+    returns in
+    tie.close answers

@@ -1,0 +1,40 @@
+use Rattle.io.proofs.Counting.{counts}
+use Prim.Native.Nat.{_+_, _-_, _*_, _<_, _≤_}
+use mathlib.Core.Path.{_≡_}
+use lib.ListN.{length}
+use borrow.Author.Needs.{needs}
+use Rattle.rows.proofs.text.parse.Statement.{statement}
+use Rattle.rows.proofs.text.parse.Tie as tie
+
+abbrev Inv-loop : tie.InvT-loop
+Inv-loop line numbers₀ words₀ bytes₀ n₀ i₀ at₀ numbers words bytes n i at = (n ≤ length bytes) × (at ≤ length line + 1) × (length bytes ≡ length bytes₀) × (length numbers ≡ length numbers₀) × (length words ≡ length words₀)
+
+abbrev μ-loop : tie.MeasureT-loop
+μ-loop line numbers₀ words₀ bytes₀ n₀ i₀ at₀ numbers words bytes n i at = length line - at
+
+returns : tie.Need-returns Inv-loop μ-loop
+returns c = search (needs, counts)
+
+pub parse-spec : {M : Type 1} → statement M
+parse-spec {M} =
+    let answers = tie.spec {M = M}
+    Inv-loop
+    μ-loop
+    (λ c. search needs)
+    (λ c κs. search needs)
+    (λ c. search needs)
+    (λ c. search needs)
+    (λ c. search needs)
+    (λ c κs. search needs)
+    (λ c. search needs)
+    (λ c. search needs)
+    (λ c. search needs)
+    (λ c κs. search needs)
+    (λ c. search needs)
+    (λ c. search needs)
+    (λ c. search needs)
+    (λ c. search needs)
+    (λ c. search needs)
+    (λ c. search needs)
+    returns in
+    tie.close answers

@@ -1,0 +1,29 @@
+use Prim.Native.Nat.{_+_, _-_, _*_, _<_, _≤_}
+use mathlib.Core.Path.{_≡_}
+use lib.ListN.{length}
+use borrow.Author.Needs.{needs}
+use Rattle.rows.proofs.text.repeat.Statement.{statement}
+use Rattle.rows.proofs.text.repeat.Tie as tie
+
+abbrev Inv-loop : tie.InvT-loop
+Inv-loop out₀ from b count at₀ left₀ out at left = (at ≤ length out₀) × (length out ≡ length out₀)
+
+abbrev μ-loop : tie.MeasureT-loop
+μ-loop out₀ from b count at₀ left₀ out at left = left
+
+pub repeat-spec : {M : Type 1} → statement M
+repeat-spec {M} =
+    let answers = tie.spec {M = M}
+    Inv-loop
+    μ-loop
+    (λ c. search needs)
+    (λ c. search needs)
+    (λ c. search needs)
+    (λ c. search needs)
+    (λ c. search needs)
+    (λ c. search needs)
+    (λ c. search needs)
+    (λ c. search needs)
+    (λ c. search needs)
+    (λ c. search needs) in
+    tie.close answers
