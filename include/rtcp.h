@@ -1,15 +1,16 @@
 /* RTCP (RFC 3550): reading and writing SR, RR, SDES, BYE and APP packets, and datagrams of them.
 
-   Link librtcp.a. Every function is total: whatever the arguments, it returns, and reads and writes nothing but what it is lent. Nothing is
-   kept between calls, so calls may run at the same time.
+   Link librtcp.a. Every function is total: whatever the bytes and numbers, if the pointers are valid for their lengths, it returns, and reads and
+   writes nothing but what it is lent. Nothing is kept between calls, so calls may run at the same time.
 
    Lists: a pointer and the number of elements. The pointer may be null where the number is 0. What a call writes, buf or a list that it fills, must
    not overlap anything else that it is lent.
 
    Answers: number is 0 where the call is done. Else it is a refusal of docs/REFUSALS.md with its details in first and second; then every other
-   number is 0, but a walk and a writer, which are the ones that went in, and a buffer or a list is as it was.
+   number is 0, but a walk, which is the one that went in, and a writer, a buffer or a list that was lent is as it was. Every number of an
+   answer is a uint64_t.
 
-   Parts: an offset and a length in the caller's own bytes. Nothing is copied.
+   Parts: an offset and a length in the caller's own bytes. Nothing is copied. A part that is not there has length 0.
 
    Steps of reading, in this order; the first that fails is the answer:
      2(least length, length)   too short for any packet of the kind
@@ -29,8 +30,73 @@
 extern "C" {
 #endif
 
-/* What a write, a size and a call that fills a list answer: the size in bytes, or how many numbers stand at the list's start. A list that is too
-   short gets 10(how many numbers there are, 0), after every other refusal. Numbers of the list past those stay as they were. */
+#define RTCP_VERSION "0.1.0"
+
+/* The refusals, as docs/REFUSALS.md has them. */
+enum RtcpRefusal {
+    RTCP_UNSUPPORTED_VERSION = 1,
+    RTCP_TRUNCATED = 2,
+    RTCP_TOO_LARGE = 3,
+    RTCP_INVALID_PADDING = 4,
+    RTCP_PREFIX_TOO_LARGE_READ = 5,
+    RTCP_PACKET_TYPE_MISMATCH = 6,
+    RTCP_FIRST_PACKET_NO_REPORT_READ = 7,
+    RTCP_NO_CNAME_READ = 8,
+    RTCP_NON_LAST_PACKET_PADDING = 9,
+    RTCP_OUTPUT_TOO_SMALL = 10,
+    RTCP_INVALID_PADDING_GIVEN = 11,
+    RTCP_APP_SUBTYPE_OUT_OF_RANGE = 12,
+    RTCP_INVALID_NAME = 13,
+    RTCP_DATA_LEN_32BIT_MULTIPLE = 14,
+    RTCP_TOO_MANY_SOURCES = 15,
+    RTCP_REASON_LEN_TOO_LARGE = 16,
+    RTCP_CUMULATIVE_LOST_TOO_LARGE = 17,
+    RTCP_TOO_MANY_REPORT_BLOCKS = 18,
+    RTCP_TOO_MANY_SDES_CHUNKS = 19,
+    RTCP_SDES_VALUE_TOO_LARGE = 20,
+    RTCP_PREFIX_TOO_LARGE = 21,
+    RTCP_PACKET_TOO_LARGE = 22,
+    RTCP_ITEM_TYPE_ZERO = 23,
+    RTCP_LISTS_DISAGREE = 24,
+    RTCP_NOTHING_LEFT = 25,
+    RTCP_WRITER_CLOSED = 26,
+    RTCP_FIRST_PACKET_NO_REPORT = 27,
+    RTCP_NO_CNAME = 28,
+    RTCP_ALREADY_PADDED = 29,
+    RTCP_NOT_PRIV = 30
+};
+
+enum RtcpPacketType { RTCP_SR = 200, RTCP_RR = 201, RTCP_SDES = 202, RTCP_BYE = 203, RTCP_APP = 204 };
+
+enum RtcpItemType {
+    RTCP_CNAME = 1,
+    RTCP_NAME = 2,
+    RTCP_EMAIL = 3,
+    RTCP_PHONE = 4,
+    RTCP_LOC = 5,
+    RTCP_TOOL = 6,
+    RTCP_NOTE = 7,
+    RTCP_PRIV = 8
+};
+
+enum {
+    RTCP_MAX_PACKET = 262144,  /* bytes of a packet */
+    RTCP_MAX_CHUNK = 262140,   /* bytes of a lone chunk */
+    RTCP_MAX_PADDING = 252,    /* bytes of padding, a multiple of 4 */
+    RTCP_MAX_COUNT = 31,       /* blocks, chunks or sources of a packet; an APP's subtype */
+    RTCP_MAX_REASON = 255,     /* bytes of a reason or of an item's value */
+    RTCP_MAX_LOST = 16777215,  /* cumulative lost */
+    RTCP_BLOCK_SIZE = 24,      /* bytes of a report block */
+    RTCP_BLOCK_WORDS = 5,      /* words of a block: see rtcp_rr_report_blocks */
+    RTCP_ITEM_ROW = 5,         /* numbers of an item: see rtcp_sdes_items */
+    RTCP_PACKET_ROW = 3        /* numbers of a packet: see rtcp_compound_packets */
+};
+
+/* The commit that the archive was proved from; a '+' behind it where a source was changed after that commit. */
+extern const char rtcp_proved_from[];
+
+/* What a write, a size and a call that fills a list answer: the size in bytes, or how many numbers stand at the list's start (of report blocks, how
+   many blocks). A list that is too short gets 10(how many there are, 0), after every other refusal. Numbers of the list past those stay as they were. */
 struct RtcpWritten {
     uint64_t number, first, second;
     uint64_t size;
@@ -38,17 +104,16 @@ struct RtcpWritten {
 
 /* ---- reports ---- */
 
-/* A report block. cumulative_lost is the field's 24 bits; reserved is 0. */
+/* A report block. cumulative_lost is the field's 24 bits. */
 struct RtcpBlock {
     uint64_t number, first, second;
-    uint32_t ssrc;
-    uint32_t fraction_lost;
-    uint32_t cumulative_lost;
-    uint32_t extended_sequence_number;
-    uint32_t interarrival_jitter;
-    uint32_t last_sender_report_timestamp;
-    uint32_t delay_since_last_sender_report_timestamp;
-    uint32_t reserved;
+    uint64_t ssrc;
+    uint64_t fraction_lost;
+    uint64_t cumulative_lost;
+    uint64_t extended_sequence_number;
+    uint64_t interarrival_jitter;
+    uint64_t last_sender_report_timestamp;
+    uint64_t delay_since_last_sender_report_timestamp;
 };
 
 /* A receiver report: n_reports blocks of 24 bytes from 8 on, then the profile's extension, then the padding. */
@@ -81,12 +146,12 @@ struct RtcpSr {
      struct RtcpBlock b = rtcp_block_parse(bytes, 24); */
 struct RtcpBlock rtcp_block_parse(const uint8_t *s, size_t len);
 
-/* A receiver report. Refusals: the steps of reading, then 2(bytes of the blocks, bytes there).
+/* A receiver report. Refusals: the steps of reading, then 2(8 + 24 * blocks, bytes of the body): the header counts.
      struct RtcpRr rr = rtcp_rr_parse(packet, len);
      if (rr.number == 0) use(rr.ssrc, rr.n_reports); */
 struct RtcpRr rtcp_rr_parse(const uint8_t *s, size_t len);
 
-/* A sender report. Refusals as rtcp_rr_parse.
+/* A sender report. Refusals as rtcp_rr_parse, with 28 for 8.
      struct RtcpSr sr = rtcp_sr_parse(packet, len); */
 struct RtcpSr rtcp_sr_parse(const uint8_t *s, size_t len);
 
@@ -98,27 +163,31 @@ struct RtcpBlock rtcp_rr_report_block(const uint8_t *s, size_t len, uint64_t i);
      use(rtcp_sr_report_block(packet, len, 0)); */
 struct RtcpBlock rtcp_sr_report_block(const uint8_t *s, size_t len, uint64_t i);
 
-/* All blocks of a receiver report at once: seven numbers for each, in the order of struct RtcpBlock, as rtcp_rr_write takes them.
-   Refusals: those of rtcp_rr_parse, then 10.
-     uint32_t blocks[31 * 7];
-     struct RtcpWritten w = rtcp_rr_report_blocks(packet, len, blocks, 31 * 7);
-     for (uint64_t i = 0; i < w.size; i += 7) use(blocks[i], blocks[i + 1]); */
-struct RtcpWritten rtcp_rr_report_blocks(const uint8_t *s, size_t len, uint32_t *blocks, size_t blocks_len);
+/* All blocks of a receiver report at once, into three lists, as rtcp_rr_write takes them: of block i, fractions[i] is the fraction lost, losses[i]
+   the cumulative lost, and five words from words[5 * i] on are its SSRC, extended sequence number, jitter, last SR and delay since last SR.
+   size is the number of blocks. Refusals: those of rtcp_rr_parse, then 10(blocks, 0) where a list is too short for them.
+     uint8_t fractions[31]; uint32_t losses[31], words[31 * 5];
+     struct RtcpWritten w = rtcp_rr_report_blocks(packet, len, fractions, 31, losses, 31, words, 31 * 5);
+     for (uint64_t i = 0; i < w.size; i++) use(words[5 * i], fractions[i], losses[i]); */
+struct RtcpWritten rtcp_rr_report_blocks(const uint8_t *s, size_t len, uint8_t *fractions, size_t fractions_len, uint32_t *losses,
+                                         size_t losses_len, uint32_t *words, size_t words_len);
 
 /* All blocks of a sender report at once. Refusals as rtcp_rr_report_blocks.
-     struct RtcpWritten w = rtcp_sr_report_blocks(packet, len, blocks, 31 * 7); */
-struct RtcpWritten rtcp_sr_report_blocks(const uint8_t *s, size_t len, uint32_t *blocks, size_t blocks_len);
+     struct RtcpWritten w = rtcp_sr_report_blocks(packet, len, fractions, 31, losses, 31, words, 31 * 5); */
+struct RtcpWritten rtcp_sr_report_blocks(const uint8_t *s, size_t len, uint8_t *fractions, size_t fractions_len, uint32_t *losses,
+                                         size_t losses_len, uint32_t *words, size_t words_len);
 
-/* A receiver report and all its blocks in one call, which reads the packet once: the answer of rtcp_rr_parse, and the list of
-   rtcp_rr_report_blocks, of which 7 * n_reports numbers are filled. Refusals: those of rtcp_rr_parse, then 10.
-     uint32_t blocks[31 * 7];
-     struct RtcpRr rr = rtcp_rr_read(packet, len, blocks, 31 * 7);
-     if (rr.number == 0) use(rr.ssrc, blocks, rr.n_reports); */
-struct RtcpRr rtcp_rr_read(const uint8_t *s, size_t len, uint32_t *blocks, size_t blocks_len);
+/* A receiver report and all its blocks in one call, which reads the packet once: the answer of rtcp_rr_parse, and the lists of
+   rtcp_rr_report_blocks, filled for n_reports blocks. Refusals: those of rtcp_rr_parse, then 10.
+     struct RtcpRr rr = rtcp_rr_read(packet, len, fractions, 31, losses, 31, words, 31 * 5);
+     if (rr.number == 0) use(rr.ssrc, fractions, rr.n_reports); */
+struct RtcpRr rtcp_rr_read(const uint8_t *s, size_t len, uint8_t *fractions, size_t fractions_len, uint32_t *losses, size_t losses_len,
+                           uint32_t *words, size_t words_len);
 
 /* A sender report and all its blocks in one call. Refusals as rtcp_rr_read.
-     struct RtcpSr sr = rtcp_sr_read(packet, len, blocks, 31 * 7); */
-struct RtcpSr rtcp_sr_read(const uint8_t *s, size_t len, uint32_t *blocks, size_t blocks_len);
+     struct RtcpSr sr = rtcp_sr_read(packet, len, fractions, 31, losses, 31, words, 31 * 5); */
+struct RtcpSr rtcp_sr_read(const uint8_t *s, size_t len, uint8_t *fractions, size_t fractions_len, uint32_t *losses, size_t losses_len,
+                           uint32_t *words, size_t words_len);
 
 /* ---- APP ---- */
 
@@ -142,7 +211,8 @@ struct RtcpApp rtcp_app_parse(const uint8_t *s, size_t len);
 
 /* ---- BYE ---- */
 
-/* has_reason tells no reason (0) from an empty one (1, with reason_len 0). The tail is what follows the reason in the body. */
+/* has_reason tells no reason (0) from an empty one (1, with reason_len 0). The tail is what follows the reason in the body. Where there is no reason,
+   reason and tail are the end of the body, and both lengths are 0. */
 struct RtcpBye {
     uint64_t number, first, second;
     uint64_t n_sources;
@@ -181,7 +251,7 @@ struct RtcpSdes {
     uint64_t padding_len;
 };
 
-/* length is the item's own length byte. Only a PRIV item (type 8) has a prefix; else prefix_len is 0. */
+/* length is the item's own length byte. Only a PRIV item (type 8) has a prefix; else prefix_len is 0, and prefix is where the value starts. */
 struct RtcpItem {
     uint64_t number, first, second;
     uint64_t type_;
@@ -259,6 +329,7 @@ struct RtcpChunk rtcp_chunk_parse(const uint8_t *s, size_t len);
 
 /* Opens a walk over the chunks. Refusals: those of rtcp_sdes_parse.
      struct RtcpChunkWalk w = rtcp_chunk_walk_open(packet, len);
+     if (w.number != 0) return;
      for (uint64_t at = w.at;;) {
          struct RtcpChunkStep c = rtcp_chunk_walk_step(packet, len, at, w.end);
          if (c.number != 0) break;
@@ -267,12 +338,14 @@ struct RtcpChunk rtcp_chunk_parse(const uint8_t *s, size_t len);
      } */
 struct RtcpChunkWalk rtcp_chunk_walk_open(const uint8_t *s, size_t len);
 
-/* The chunk at a place, for any numbers. Refusals: 25 at or past the end, else those of rtcp_chunk_parse.
+/* The chunk at a place, for any numbers. Only the first 262,144 bytes are read. Refusals: 25 at or past their end or that of the body, else those of
+   rtcp_chunk_parse.
      see rtcp_chunk_walk_open */
 struct RtcpChunkStep rtcp_chunk_walk_step(const uint8_t *s, size_t len, uint64_t at, uint64_t end);
 
 /* Opens a walk over the items of a chunk. Refusals: those of rtcp_chunk_parse.
      struct RtcpItemWalk w = rtcp_item_walk_open(chunk, length);
+     if (w.number != 0) return;
      for (uint64_t at = w.at;;) {
          struct RtcpItemStep i = rtcp_item_walk_step(chunk, length, at);
          if (i.number != 0) break;
@@ -378,26 +451,31 @@ struct RtcpStep rtcp_walk_step(const uint8_t *s, size_t len, uint64_t at);
    A size function says how many bytes a write takes; it refuses what the write refuses, but for 10(size, 0), which the write adds last where buf
    is too short. Bytes of buf past the size stay as they were.
 
-   blocks: seven numbers for each block, in the order of struct RtcpBlock. 24 where that is no whole number of blocks or a fraction is above 255.
+   blocks: three lists, as rtcp_rr_report_blocks fills them: for each block a fraction lost, a cumulative lost and five words. 24 exactly where there
+   are not one loss and five words for each fraction.
    padding: bytes of padding; 11(padding, 0) where it is no multiple of 4 or above 252. */
 
 /* A receiver report. Refusals: 24, 18(count, 31), 11, 17(loss, 16777215) block by block, 10.
-     struct RtcpWritten w = rtcp_rr_write(buf, sizeof buf, ssrc, NULL, 0, 0);
+     struct RtcpWritten w = rtcp_rr_write(buf, sizeof buf, ssrc, NULL, 0, NULL, 0, NULL, 0, 0);
      if (w.number == 0) send(buf, w.size); */
-struct RtcpWritten rtcp_rr_write(uint8_t *buf, size_t buf_len, uint32_t ssrc, const uint32_t *blocks, size_t blocks_len, uint64_t padding);
+struct RtcpWritten rtcp_rr_write(uint8_t *buf, size_t buf_len, uint32_t ssrc, const uint8_t *fractions, size_t fractions_len,
+                                 const uint32_t *losses, size_t losses_len, const uint32_t *words, size_t words_len, uint64_t padding);
 
 /* The size of a receiver report. Refusals as rtcp_rr_write, without 10.
-     struct RtcpWritten w = rtcp_rr_size(NULL, 0, 0); */
-struct RtcpWritten rtcp_rr_size(const uint32_t *blocks, size_t blocks_len, uint64_t padding);
+     struct RtcpWritten w = rtcp_rr_size(NULL, 0, NULL, 0, NULL, 0, 0); */
+struct RtcpWritten rtcp_rr_size(const uint8_t *fractions, size_t fractions_len, const uint32_t *losses, size_t losses_len,
+                                const uint32_t *words, size_t words_len, uint64_t padding);
 
 /* A sender report. Refusals as rtcp_rr_write.
-     rtcp_sr_write(buf, sizeof buf, ssrc, ntp, rtp, packets, octets, NULL, 0, 0); */
+     rtcp_sr_write(buf, sizeof buf, ssrc, ntp, rtp, packets, octets, NULL, 0, NULL, 0, NULL, 0, 0); */
 struct RtcpWritten rtcp_sr_write(uint8_t *buf, size_t buf_len, uint32_t ssrc, uint64_t ntp_timestamp, uint32_t rtp_timestamp,
-                                 uint32_t packet_count, uint32_t octet_count, const uint32_t *blocks, size_t blocks_len, uint64_t padding);
+                                 uint32_t packet_count, uint32_t octet_count, const uint8_t *fractions, size_t fractions_len,
+                                 const uint32_t *losses, size_t losses_len, const uint32_t *words, size_t words_len, uint64_t padding);
 
 /* The size of a sender report. Refusals as rtcp_rr_size.
-     struct RtcpWritten w = rtcp_sr_size(blocks, 7, 0); */
-struct RtcpWritten rtcp_sr_size(const uint32_t *blocks, size_t blocks_len, uint64_t padding);
+     struct RtcpWritten w = rtcp_sr_size(fractions, 1, losses, 1, words, 5, 0); */
+struct RtcpWritten rtcp_sr_size(const uint8_t *fractions, size_t fractions_len, const uint32_t *losses, size_t losses_len,
+                                const uint32_t *words, size_t words_len, uint64_t padding);
 
 /* A BYE packet; an empty reason is none. Refusals: 15(count, 31), 11, 16(length, 255), 10.
      rtcp_bye_write(buf, sizeof buf, &ssrc, 1, NULL, 0, 0); */
@@ -457,57 +535,156 @@ struct RtcpWritten rtcp_sdes_size(const uint32_t *ssrcs, size_t ssrcs_len, const
 
 /* ---- writing a datagram ---- */
 
-/* The compound writer: the length so far, and three flags, set where they are not 0. The caller keeps it and lends the same buffer at each call. */
+/* The compound writer. The caller keeps it, and lends it and the same buffer at each call. length is the length so far; the rest is the writer's own,
+   and later versions may have more of it. */
 struct RtcpWriter {
     uint64_t length;
-    uint64_t padded;
-    uint64_t cname;
-    uint64_t closed;
+    uint64_t padded, cname, closed;
 };
 
-/* The writer after the call, with flags of 0 and 1; on a refusal the one that went in. */
+/* What a call answers. A refusal leaves the writer and the buffer as they were. */
 struct RtcpCall {
     uint64_t number, first, second;
-    struct RtcpWriter writer;
 };
 
-/* A writer of an empty datagram. It is never refused.
-     struct RtcpWriter w = rtcp_writer_new(); */
-struct RtcpWriter rtcp_writer_new(void);
+/* Makes it the writer of an empty datagram.
+     struct RtcpWriter w;
+     rtcp_writer_new(&w); */
+void rtcp_writer_new(struct RtcpWriter *writer);
 
 /* Adds a receiver report. Refusals: 26 where it is closed, 29 where a padded packet is in, then those of rtcp_rr_write, 10 with the length so
    far, 10 with the length and the packet.
-     struct RtcpCall c = rtcp_writer_add_rr(buf, sizeof buf, rtcp_writer_new(), ssrc, NULL, 0, 0); */
-struct RtcpCall rtcp_writer_add_rr(uint8_t *buf, size_t buf_len, struct RtcpWriter writer, uint32_t ssrc, const uint32_t *blocks,
-                                   size_t blocks_len, uint64_t padding);
+     struct RtcpCall c = rtcp_writer_add_rr(&w, buf, sizeof buf, ssrc, NULL, 0, NULL, 0, NULL, 0, 0); */
+struct RtcpCall rtcp_writer_add_rr(struct RtcpWriter *writer, uint8_t *buf, size_t buf_len, uint32_t ssrc, const uint8_t *fractions,
+                                   size_t fractions_len, const uint32_t *losses, size_t losses_len, const uint32_t *words,
+                                   size_t words_len, uint64_t padding);
 
 /* Adds a sender report. Refusals as rtcp_writer_add_rr.
-     c = rtcp_writer_add_sr(buf, sizeof buf, c.writer, ssrc, ntp, rtp, packets, octets, blocks, 7, 0); */
-struct RtcpCall rtcp_writer_add_sr(uint8_t *buf, size_t buf_len, struct RtcpWriter writer, uint32_t ssrc, uint64_t ntp_timestamp,
-                                   uint32_t rtp_timestamp, uint32_t packet_count, uint32_t octet_count, const uint32_t *blocks,
-                                   size_t blocks_len, uint64_t padding);
+     c = rtcp_writer_add_sr(&w, buf, sizeof buf, ssrc, ntp, rtp, packets, octets, fractions, 1, losses, 1, words, 5, 0); */
+struct RtcpCall rtcp_writer_add_sr(struct RtcpWriter *writer, uint8_t *buf, size_t buf_len, uint32_t ssrc, uint64_t ntp_timestamp,
+                                   uint32_t rtp_timestamp, uint32_t packet_count, uint32_t octet_count, const uint8_t *fractions,
+                                   size_t fractions_len, const uint32_t *losses, size_t losses_len, const uint32_t *words,
+                                   size_t words_len, uint64_t padding);
 
 /* Adds an SDES packet. Refusals: 26, 29, 27 where it would be the first, those of rtcp_sdes_write, 10 as rtcp_writer_add_rr.
-     c = rtcp_writer_add_sdes(buf, sizeof buf, c.writer, &ssrc, 1, &count, 1, &type, 1, &prefix, 1, &value, 1, bytes, 7, 0); */
-struct RtcpCall rtcp_writer_add_sdes(uint8_t *buf, size_t buf_len, struct RtcpWriter writer, const uint32_t *ssrcs, size_t ssrcs_len,
+     c = rtcp_writer_add_sdes(&w, buf, sizeof buf, &ssrc, 1, &count, 1, &type, 1, &prefix, 1, &value, 1, bytes, 7, 0); */
+struct RtcpCall rtcp_writer_add_sdes(struct RtcpWriter *writer, uint8_t *buf, size_t buf_len, const uint32_t *ssrcs, size_t ssrcs_len,
                                      const uint64_t *counts, size_t counts_len, const uint8_t *types, size_t types_len,
                                      const uint64_t *prefixes, size_t prefixes_len, const uint64_t *values, size_t values_len,
                                      const uint8_t *bytes, size_t bytes_len, uint64_t padding);
 
 /* Adds a BYE packet. Refusals: 26, 29, 27, those of rtcp_bye_write, 10 as rtcp_writer_add_rr.
-     c = rtcp_writer_add_bye(buf, sizeof buf, c.writer, &ssrc, 1, NULL, 0, 0); */
-struct RtcpCall rtcp_writer_add_bye(uint8_t *buf, size_t buf_len, struct RtcpWriter writer, const uint32_t *sources, size_t sources_len,
+     c = rtcp_writer_add_bye(&w, buf, sizeof buf, &ssrc, 1, NULL, 0, 0); */
+struct RtcpCall rtcp_writer_add_bye(struct RtcpWriter *writer, uint8_t *buf, size_t buf_len, const uint32_t *sources, size_t sources_len,
                                     const uint8_t *reason, size_t reason_len, uint64_t padding);
 
 /* Adds an APP packet. Refusals: 26, 29, 27, those of rtcp_app_write, 10 as rtcp_writer_add_rr.
-     c = rtcp_writer_add_app(buf, sizeof buf, c.writer, 0, ssrc, (const uint8_t *)"hall", 4, NULL, 0, 0); */
-struct RtcpCall rtcp_writer_add_app(uint8_t *buf, size_t buf_len, struct RtcpWriter writer, uint64_t subtype, uint32_t ssrc,
+     c = rtcp_writer_add_app(&w, buf, sizeof buf, 0, ssrc, (const uint8_t *)"hall", 4, NULL, 0, 0); */
+struct RtcpCall rtcp_writer_add_app(struct RtcpWriter *writer, uint8_t *buf, size_t buf_len, uint64_t subtype, uint32_t ssrc,
                                     const uint8_t *name, size_t name_len, const uint8_t *data, size_t data_len, uint64_t padding);
 
-/* Closes the datagram: writer.length bytes of buf. Refusals: 26, 28 where no chunk has a CNAME.
-     c = rtcp_writer_close(c.writer);
-     if (c.number == 0) send(buf, c.writer.length); */
-struct RtcpCall rtcp_writer_close(struct RtcpWriter writer);
+/* Closes the datagram: writer->length bytes of buf. Refusals: 26, 28 where no chunk has a CNAME.
+     c = rtcp_writer_close(&w);
+     if (c.number == 0) send(buf, w.length); */
+struct RtcpCall rtcp_writer_close(struct RtcpWriter *writer);
+
+/* ---- inline helpers: plain C over the functions above, not proved ---- */
+
+/* A row that rtcp_sdes_items fills, and one that rtcp_compound_packets fills. type_ is 0 where a chunk ends. */
+struct RtcpItemEntry {
+    uint32_t ssrc, type_, value, prefix_len, value_len;
+};
+
+struct RtcpPacketEntry {
+    uint64_t packet_type, offset, len;
+};
+
+/* rtcp_sdes_items into n entries; size counts entries.
+     struct RtcpItemEntry items[128];
+     struct RtcpWritten w = rtcp_sdes_entries(packet, len, items, 128);
+     for (uint64_t i = 0; i < w.size; i++)
+         if (items[i].type_ == RTCP_CNAME) use(items[i].ssrc, packet + items[i].value, items[i].value_len); */
+static inline struct RtcpWritten rtcp_sdes_entries(const uint8_t *s, size_t len, struct RtcpItemEntry *entries, size_t n) {
+    struct RtcpWritten w = rtcp_sdes_items(s, len, (uint32_t *)entries, n * RTCP_ITEM_ROW);
+    w.size /= RTCP_ITEM_ROW;
+    return w;
+}
+
+/* rtcp_compound_packets into n entries; size counts entries. */
+static inline struct RtcpWritten rtcp_compound_entries(const uint8_t *s, size_t len, struct RtcpPacketEntry *entries, size_t n) {
+    struct RtcpWritten w = rtcp_compound_packets(s, len, (uint64_t *)entries, n * RTCP_PACKET_ROW);
+    w.size /= RTCP_PACKET_ROW;
+    return w;
+}
+
+/* Adds an SDES packet of one chunk with one item, the CNAME that every datagram must have.
+     c = rtcp_writer_add_cname(&w, buf, sizeof buf, ssrc, "me@hall", 7); */
+static inline struct RtcpCall rtcp_writer_add_cname(struct RtcpWriter *writer, uint8_t *buf, size_t buf_len, uint32_t ssrc, const char *cname,
+                                                    size_t cname_len) {
+    const uint64_t one = 1, none = 0, value = cname_len;
+    const uint8_t type = RTCP_CNAME;
+    return rtcp_writer_add_sdes(writer, buf, buf_len, &ssrc, 1, &one, 1, &type, 1, &none, 1, &value, 1, (const uint8_t *)cname, cname_len, 0);
+}
+
+/* Adds a receiver report of up to 31 blocks, given as the answers of rtcp_rr_report_block or filled by hand; more of them get 18(n, 31). */
+static inline struct RtcpCall rtcp_writer_add_rr_blocks(struct RtcpWriter *writer, uint8_t *buf, size_t buf_len, uint32_t ssrc,
+                                                        const struct RtcpBlock *blocks, size_t n) {
+    uint8_t fractions[RTCP_MAX_COUNT];
+    uint32_t losses[RTCP_MAX_COUNT], words[RTCP_MAX_COUNT * RTCP_BLOCK_WORDS];
+    if (n > RTCP_MAX_COUNT) {
+        struct RtcpCall many = {RTCP_TOO_MANY_REPORT_BLOCKS, n, RTCP_MAX_COUNT};
+        return many;
+    }
+    for (size_t i = 0; i < n; i++) {
+        uint32_t *word = words + RTCP_BLOCK_WORDS * i;
+        fractions[i] = (uint8_t)blocks[i].fraction_lost;
+        losses[i] = (uint32_t)blocks[i].cumulative_lost;
+        word[0] = (uint32_t)blocks[i].ssrc;
+        word[1] = (uint32_t)blocks[i].extended_sequence_number;
+        word[2] = (uint32_t)blocks[i].interarrival_jitter;
+        word[3] = (uint32_t)blocks[i].last_sender_report_timestamp;
+        word[4] = (uint32_t)blocks[i].delay_since_last_sender_report_timestamp;
+    }
+    return rtcp_writer_add_rr(writer, buf, buf_len, ssrc, fractions, n, losses, n, words, n * RTCP_BLOCK_WORDS, 0);
+}
+
+/* A refusal in a few words; docs/REFUSALS.md says more. */
+static inline const char *rtcp_refusal_text(uint64_t number) {
+    static const char *const texts[] = {
+        "done",
+        "the version is not 2",
+        "fewer bytes than the packet needs",
+        "more bytes than the packet has",
+        "bad padding",
+        "the prefix of a PRIV item is longer than the item",
+        "another packet type than the one asked for",
+        "the first packet is no sender or receiver report",
+        "no SDES chunk has a CNAME",
+        "padding before the last packet",
+        "the buffer or the list is too short",
+        "padding that is no multiple of 4, or above 252",
+        "an APP subtype above 31",
+        "an APP name of over 4 bytes, or not ASCII",
+        "APP data that are no full words",
+        "more than 31 sources",
+        "a reason of over 255 bytes",
+        "a cumulative loss that does not fit its field",
+        "more than 31 report blocks",
+        "more than 31 chunks",
+        "an item value that is too long",
+        "a PRIV prefix of over 254 bytes",
+        "a packet of over 262,144 bytes, or a lone chunk of over 262,140",
+        "an item of type 0",
+        "the lists that were lent do not fit together",
+        "nothing is left, or no such index",
+        "the writer is closed",
+        "the first packet must be a report",
+        "no CNAME is in the datagram yet",
+        "a padded packet is in already, and must be the last",
+        "the item is not PRIV, so it has no prefix",
+    };
+    return number < sizeof texts / sizeof texts[0] ? texts[number] : "no such refusal";
+}
 
 #ifdef __cplusplus
 }

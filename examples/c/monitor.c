@@ -21,12 +21,21 @@ static size_t n_losses;
 static struct Participant participants[MOST];
 static size_t n_participants;
 
-static void update_meter(struct RtcpBlock block) {
+static void update_meter(uint32_t ssrc, uint32_t fraction, uint32_t cumulative) {
     size_t i = 0;
-    while (i < n_losses && meter[i].ssrc != block.ssrc) i++;
+    while (i < n_losses && meter[i].ssrc != ssrc) i++;
     if (i == MOST) return;
     if (i == n_losses) n_losses++;
-    meter[i] = (struct Loss){block.ssrc, block.fraction_lost, block.cumulative_lost};
+    meter[i] = (struct Loss){ssrc, fraction, cumulative};
+}
+
+/* The blocks of a report, read by the call of its kind. */
+static void read_blocks(const uint8_t *packet, const struct RtcpStep *p) {
+    uint8_t fractions[RTCP_MAX_COUNT];
+    uint32_t losses[RTCP_MAX_COUNT], words[RTCP_MAX_COUNT * RTCP_BLOCK_WORDS];
+    struct RtcpWritten w = p->kind == RTCP_SR ? rtcp_sr_report_blocks(packet, p->len, fractions, 31, losses, 31, words, 31 * 5)
+                                              : rtcp_rr_report_blocks(packet, p->len, fractions, 31, losses, 31, words, 31 * 5);
+    for (uint64_t i = 0; i < w.size; i++) update_meter(words[RTCP_BLOCK_WORDS * i], fractions[i], losses[i]);
 }
 
 static size_t find(uint32_t ssrc) {
@@ -49,19 +58,16 @@ static void left(uint32_t ssrc) {
     if (i < n_participants) participants[i] = participants[--n_participants];
 }
 
+/* The first CNAME of each chunk. */
 static void read_names(const uint8_t *packet, size_t len) {
-    struct RtcpChunkWalk walk = rtcp_chunk_walk_open(packet, len);
-    if (walk.number != 0) return;
-    uint64_t at = walk.at;
-    for (;;) {
-        struct RtcpChunkStep chunk = rtcp_chunk_walk_step(packet, len, at, walk.end);
-        if (chunk.number != 0) return; /* 25: no chunk is left */
-        if (chunk.cname != 0) {
-            const uint8_t *start = packet + at;
-            struct RtcpItemStep item = rtcp_item_walk_step(start, chunk.length, chunk.cname);
-            if (item.number == 0) joined((uint32_t)chunk.ssrc, start + item.value, item.value_len);
-        }
-        at = chunk.at;
+    static struct RtcpItemEntry items[2048];
+    int named = 0;
+    struct RtcpWritten w = rtcp_sdes_entries(packet, len, items, sizeof items / sizeof items[0]);
+    for (uint64_t i = 0; i < w.size; i++) {
+        if (items[i].type_ == 0) named = 0; /* the chunk ends */
+        if (items[i].type_ != RTCP_CNAME || named) continue;
+        joined(items[i].ssrc, packet + items[i].value, items[i].value_len);
+        named = 1;
     }
 }
 
@@ -75,7 +81,8 @@ struct Sender {
 static int read_datagram(const uint8_t *datagram, size_t len, struct Sender *sender) {
     struct RtcpWalk walk = rtcp_walk_open(datagram, len);
     if (walk.number != 0) {
-        fprintf(stderr, "refusal %u (%u, %u)\n", (unsigned)walk.number, (unsigned)walk.first, (unsigned)walk.second);
+        fprintf(stderr, "refusal %u (%u, %u): %s\n", (unsigned)walk.number, (unsigned)walk.first, (unsigned)walk.second,
+                rtcp_refusal_text(walk.number));
         return 0;
     }
     uint64_t at = walk.at;
@@ -84,17 +91,17 @@ static int read_datagram(const uint8_t *datagram, size_t len, struct Sender *sen
         if (p.number != 0) return 1; /* 25: no packet is left */
         const uint8_t *packet = datagram + p.offset;
         switch (p.kind) {
-        case 200:
+        case RTCP_SR:
             *sender = (struct Sender){1, (uint32_t)p.ssrc, p.ntp_timestamp};
-            for (uint64_t i = 0; i < p.count; i++) update_meter(rtcp_sr_report_block(packet, p.len, i));
+            read_blocks(packet, &p);
             break;
-        case 201:
-            for (uint64_t i = 0; i < p.count; i++) update_meter(rtcp_rr_report_block(packet, p.len, i));
+        case RTCP_RR:
+            read_blocks(packet, &p);
             break;
-        case 202:
+        case RTCP_SDES:
             read_names(packet, p.len);
             break;
-        case 203:
+        case RTCP_BYE:
             for (uint64_t i = 0; i < p.count; i++) left((uint32_t)rtcp_bye_source(packet, p.len, i).ssrc);
             break;
         }
@@ -106,16 +113,13 @@ static int read_datagram(const uint8_t *datagram, size_t len, struct Sender *sen
 static size_t write_reply(uint8_t *buf, size_t len, struct Sender sender) {
     static const char cname[] = "bridge@hall";
     const uint32_t own = 0x0B0C0D0E;
-    const uint32_t block[7] = {sender.ssrc, 0, 0, 0, 0, (uint32_t)(sender.ntp_timestamp >> 16), 0};
-    const uint64_t count = 1, prefix = 0, value = sizeof cname - 1;
-    const uint8_t type = 1;
-    struct RtcpCall c = rtcp_writer_add_rr(buf, len, rtcp_writer_new(), own, block, sender.known ? 7 : 0, 0);
-    if (c.number == 0) {
-        c = rtcp_writer_add_sdes(buf, len, c.writer, &own, 1, &count, 1, &type, 1, &prefix, 1, &value, 1, (const uint8_t *)cname,
-                                 value, 0);
-    }
-    if (c.number == 0) c = rtcp_writer_close(c.writer);
-    return c.number == 0 ? c.writer.length : 0;
+    struct RtcpBlock block = {.ssrc = sender.ssrc, .last_sender_report_timestamp = (uint32_t)(sender.ntp_timestamp >> 16)};
+    struct RtcpWriter writer;
+    rtcp_writer_new(&writer);
+    struct RtcpCall c = rtcp_writer_add_rr_blocks(&writer, buf, len, own, &block, sender.known ? 1 : 0);
+    if (c.number == 0) c = rtcp_writer_add_cname(&writer, buf, len, own, cname, sizeof cname - 1);
+    if (c.number == 0) c = rtcp_writer_close(&writer);
+    return c.number == 0 ? writer.length : 0;
 }
 
 static int digit(char c) {

@@ -2,20 +2,28 @@
    differs. */
 #include "check.h"
 
-/* The writer that the last call handed back. */
+/* The writer that is lent to every call. */
 static struct RtcpWriter w;
 
-/* A call: its answer, and the writer that it hands back. */
-#define CALLS(number, first, second, length, padded, cname, closed, call)                        \
-    do {                                                                                         \
-        struct RtcpCall got = call;                                                              \
-        struct RtcpCall want = {number, first, second, {length, padded, cname, closed}};         \
-        compare(__FILE__, #call, &got, &want, sizeof got);                                       \
-        w = got.writer;                                                                          \
+/* A call: its answer, and the writer after it. */
+#define CALLS(number, first, second, length, padded, cname, closed, call)    \
+    do {                                                                     \
+        struct RtcpCall got = call;                                          \
+        struct RtcpCall want = {number, first, second};                      \
+        struct RtcpWriter after = {length, padded, cname, closed};           \
+        compare(__FILE__, #call, &got, &want, sizeof got);                   \
+        compare(__FILE__, "the writer after " #call, &w, &after, sizeof w);  \
     } while (0)
 
-static const uint32_t block[] = {0x01020304, 5, 0x060708, 0x090A0B0C, 0x0D0E0F10, 0x11121314, 0x15161718};
-static const uint32_t wide[] = {1, 256, 0, 0, 0, 0, 0};
+static const uint8_t fractions[] = {5};
+static const uint32_t losses[] = {0x060708};
+static const uint32_t words[] = {0x01020304, 0x090A0B0C, 0x0D0E0F10, 0x11121314, 0x15161718};
+
+/* One block, none, and lists that disagree. */
+#define BLOCK fractions, 1, losses, 1, words, 5
+#define NO_BLOCK NULL, 0, NULL, 0, NULL, 0
+#define DISAGREE fractions, 1, losses, 0, words, 5
+
 static const uint32_t ssrcs[] = {0x11223344};
 static const uint64_t counts[] = {1};
 static const uint8_t types[] = {1};
@@ -45,43 +53,66 @@ static void left(size_t size) {
 }
 
 static void writes(void) {
-    struct RtcpWriter new = {0, 0, 0, 0};
+    struct RtcpWriter fresh = {0, 0, 0, 0};
     const uint8_t *nam = (const uint8_t *)"nam", *data = (const uint8_t *)"data";
     memset(buf, 0x5A, sizeof buf);
-    w = rtcp_writer_new();
-    compare(__FILE__, "rtcp_writer_new()", &w, &new, sizeof w);
-    CALLS(27, 0, 0, 0, 0, 0, 0, rtcp_writer_add_bye(buf, sizeof buf, w, ssrcs, 1, text, 2, 3));
-    CALLS(28, 0, 0, 0, 0, 0, 0, rtcp_writer_close(w));
-    CALLS(24, 0, 0, 0, 0, 0, 0, rtcp_writer_add_sr(buf, sizeof buf, w, 1, 2, 3, 4, 5, wide, 7, 3));
-    CALLS(10, 52, 0, 0, 0, 0, 0, rtcp_writer_add_sr(buf, 51, w, 1, 0x200000003, 4, 5, 6, block, 7, 0));
+    memset(&w, 0x5A, sizeof w);
+    rtcp_writer_new(&w);
+    compare(__FILE__, "rtcp_writer_new", &w, &fresh, sizeof w);
+    CALLS(27, 0, 0, 0, 0, 0, 0, rtcp_writer_add_bye(&w, buf, sizeof buf, ssrcs, 1, text, 2, 3));
+    CALLS(28, 0, 0, 0, 0, 0, 0, rtcp_writer_close(&w));
+    CALLS(24, 0, 0, 0, 0, 0, 0, rtcp_writer_add_sr(&w, buf, sizeof buf, 1, 2, 3, 4, 5, DISAGREE, 3));
+    CALLS(10, 52, 0, 0, 0, 0, 0, rtcp_writer_add_sr(&w, buf, 51, 1, 0x200000003, 4, 5, 6, BLOCK, 0));
     left(0);
-    CALLS(0, 0, 0, 52, 0, 0, 0, rtcp_writer_add_sr(buf, 52, w, 1, 0x200000003, 4, 5, 6, block, 7, 0));
+    CALLS(0, 0, 0, 52, 0, 0, 0, rtcp_writer_add_sr(&w, buf, 52, 1, 0x200000003, 4, 5, 6, BLOCK, 0));
     left(52);
-    CALLS(10, 52, 0, 52, 0, 0, 0, rtcp_writer_add_rr(buf, 51, w, 0x11223344, NULL, 0, 0));
-    CALLS(10, 60, 0, 52, 0, 0, 0, rtcp_writer_add_rr(buf, 59, w, 0x11223344, NULL, 0, 0));
-    CALLS(24, 0, 0, 52, 0, 0, 0, rtcp_writer_add_rr(NULL, 0, w, 0x11223344, block, 6, 3));
-    CALLS(0, 0, 0, 60, 0, 0, 0, rtcp_writer_add_rr(buf, 60, w, 0x11223344, NULL, 0, 0));
-    CALLS(24, 0, 0, 60, 0, 0, 0, rtcp_writer_add_sdes(buf, sizeof buf, w, ssrcs, 1, counts, 1, types, 1, prefixes, 1, values, 1, text, 2, 0));
-    CALLS(0, 0, 0, 76, 0, 1, 0, rtcp_writer_add_sdes(buf, sizeof buf, w, ssrcs, 1, counts, 1, types, 1, prefixes, 1, values, 1, text, 3, 0));
-    CALLS(0, 0, 0, 92, 0, 1, 0, rtcp_writer_add_app(buf, sizeof buf, w, 5, 1, nam, 3, data, 4, 0));
-    CALLS(0, 0, 0, 108, 1, 1, 0, rtcp_writer_add_bye(buf, sizeof buf, w, ssrcs, 1, (const uint8_t *)"ab", 2, 4));
-    CALLS(29, 0, 0, 108, 1, 1, 0, rtcp_writer_add_rr(buf, sizeof buf, w, 1, wide, 7, 3));
-    CALLS(29, 0, 0, 108, 1, 1, 0, rtcp_writer_add_app(buf, sizeof buf, w, 32, 1, nam, 3, data, 4, 0));
-    CALLS(0, 0, 0, 108, 1, 1, 1, rtcp_writer_close(w));
-    CALLS(26, 0, 0, 108, 1, 1, 1, rtcp_writer_close(w));
-    CALLS(26, 0, 0, 108, 1, 1, 1, rtcp_writer_add_sr(buf, sizeof buf, w, 1, 2, 3, 4, 5, wide, 7, 3));
+    CALLS(10, 52, 0, 52, 0, 0, 0, rtcp_writer_add_rr(&w, buf, 51, 0x11223344, NO_BLOCK, 0));
+    CALLS(10, 60, 0, 52, 0, 0, 0, rtcp_writer_add_rr(&w, buf, 59, 0x11223344, NO_BLOCK, 0));
+    CALLS(24, 0, 0, 52, 0, 0, 0, rtcp_writer_add_rr(&w, NULL, 0, 0x11223344, DISAGREE, 3));
+    CALLS(0, 0, 0, 60, 0, 0, 0, rtcp_writer_add_rr(&w, buf, 60, 0x11223344, NO_BLOCK, 0));
+    CALLS(24, 0, 0, 60, 0, 0, 0, rtcp_writer_add_sdes(&w, buf, sizeof buf, ssrcs, 1, counts, 1, types, 1, prefixes, 1, values, 1, text, 2, 0));
+    CALLS(0, 0, 0, 76, 0, 1, 0, rtcp_writer_add_sdes(&w, buf, sizeof buf, ssrcs, 1, counts, 1, types, 1, prefixes, 1, values, 1, text, 3, 0));
+    CALLS(0, 0, 0, 92, 0, 1, 0, rtcp_writer_add_app(&w, buf, sizeof buf, 5, 1, nam, 3, data, 4, 0));
+    CALLS(0, 0, 0, 108, 1, 1, 0, rtcp_writer_add_bye(&w, buf, sizeof buf, ssrcs, 1, (const uint8_t *)"ab", 2, 4));
+    CALLS(29, 0, 0, 108, 1, 1, 0, rtcp_writer_add_rr(&w, buf, sizeof buf, 1, DISAGREE, 3));
+    CALLS(29, 0, 0, 108, 1, 1, 0, rtcp_writer_add_app(&w, buf, sizeof buf, 32, 1, nam, 3, data, 4, 0));
+    CALLS(0, 0, 0, 108, 1, 1, 1, rtcp_writer_close(&w));
+    CALLS(26, 0, 0, 108, 1, 1, 1, rtcp_writer_close(&w));
+    CALLS(26, 0, 0, 108, 1, 1, 1, rtcp_writer_add_sr(&w, buf, sizeof buf, 1, 2, 3, 4, 5, DISAGREE, 3));
     left(sizeof datagram);
 }
 
-/* States that no call hands back: any flag but 0 is set, and a sum past 64 bits is named as the largest number. */
+/* States that no call leaves: any flag but 0 is set, and a sum past 64 bits is named as the largest number. */
 static void states(void) {
-    struct RtcpWriter seven = {12, 7, 7, 7}, last = {UINT64_MAX, 0, 0, 0}, named = {12, 7, 7, 0};
+    static const struct RtcpWriter seven = {12, 7, 7, 7}, last = {UINT64_MAX, 0, 0, 0}, named = {12, 7, 7, 0};
     memset(buf, 0x5A, sizeof buf);
-    CALLS(26, 0, 0, 12, 7, 7, 7, rtcp_writer_close(seven));
-    CALLS(0, 0, 0, 12, 1, 1, 1, rtcp_writer_close(named));
-    CALLS(29, 0, 0, 12, 7, 7, 0, rtcp_writer_add_rr(buf, sizeof buf, named, 1, NULL, 0, 0));
-    CALLS(10, UINT64_MAX, 0, UINT64_MAX, 0, 0, 0, rtcp_writer_add_rr(buf, 16, last, 1, NULL, 0, 0));
+    w = seven;
+    CALLS(26, 0, 0, 12, 7, 7, 7, rtcp_writer_close(&w));
+    w = named;
+    CALLS(29, 0, 0, 12, 7, 7, 0, rtcp_writer_add_rr(&w, buf, sizeof buf, 1, NO_BLOCK, 0));
+    CALLS(0, 0, 0, 12, 1, 1, 1, rtcp_writer_close(&w));
+    w = last;
+    CALLS(10, UINT64_MAX, 0, UINT64_MAX, 0, 0, 0, rtcp_writer_add_rr(&w, buf, 16, 1, NO_BLOCK, 0));
     left(0);
+}
+
+/* The inline helpers. */
+static void helpers(void) {
+    static const struct RtcpBlock blocks[] = {{0, 0, 0, 0x01020304, 5, 0x060708, 0x090A0B0C, 0x0D0E0F10, 0x11121314, 0x15161718}};
+    struct RtcpPacketEntry packets[2];
+    struct RtcpItemEntry items[2];
+    memset(buf, 0x5A, sizeof buf);
+    rtcp_writer_new(&w);
+    CALLS(0, 0, 0, 32, 0, 0, 0, rtcp_writer_add_rr_blocks(&w, buf, sizeof buf, 1, blocks, 1));
+    compare(__FILE__, "the block", buf + 8, datagram + 28, 24);
+    CALLS(0, 0, 0, 48, 0, 1, 0, rtcp_writer_add_cname(&w, buf, sizeof buf, 0x11223344, "a@b", 3));
+    compare(__FILE__, "the CNAME", buf + 32, datagram + 60, 16);
+    CHECK(RtcpWritten, rtcp_compound_entries(buf, 48, packets, 2), 0, 0, 0, 2);
+    CHECK(RtcpWritten, rtcp_sdes_entries(buf + packets[1].offset, packets[1].len, items, 2), 0, 0, 0, 2);
+    if (packets[0].packet_type != RTCP_RR || items[0].type_ != RTCP_CNAME || items[0].value != 10 || items[0].value_len != 3 || items[1].type_ != 0) {
+        compare(__FILE__, "the entries", "", "x", 1);
+    }
+    compare(__FILE__, "the text of 25", rtcp_refusal_text(RTCP_NOTHING_LEFT), "nothing is left, or no such index", 33);
 }
 
 static void reads(void) {
@@ -100,7 +131,7 @@ static void reads(void) {
     CHECK(RtcpWalk, rtcp_walk_open(s, n), 0, 0, 0, 0);
     CHECK(RtcpWalk, rtcp_walk_open(s, 52), 8, 0, 0, 0);
     CHECK(RtcpStep, rtcp_walk_step(s, n, 0), 0, 0, 0, 200, 200, 1, 0, 52, 52, 0, 1, 0x200000003, 4, 5, 6, 52, 0, 0, 0, 0, 52);
-    CHECK(RtcpBlock, rtcp_sr_report_block(s, 52, 0), 0, 0, 0, 0x01020304, 5, 0x060708, 0x090A0B0C, 0x0D0E0F10, 0x11121314, 0x15161718, 0);
+    CHECK(RtcpBlock, rtcp_sr_report_block(s, 52, 0), 0, 0, 0, 0x01020304, 5, 0x060708, 0x090A0B0C, 0x0D0E0F10, 0x11121314, 0x15161718);
     CHECK(RtcpStep, rtcp_walk_step(s, n, 52), 0, 0, 0, 201, 201, 0, 52, 8, 8, 0, 0x11223344, 0, 0, 0, 0, 8, 0, 0, 0, 0, 60);
     CHECK(RtcpStep, rtcp_walk_step(s, n, 60), 0, 0, 0, 202, 202, 1, 60, 16, 16, 0, 0, 0, 0, 0, 0, 0, 1, 0, 0, 0, 76);
     CHECK(RtcpStep, rtcp_walk_step(s, n, 76), 0, 0, 0, 204, 204, 5, 76, 16, 16, 0, 1, 0, 0, 0, 0, 0, 0, 0, 0, 0, 92);
@@ -113,6 +144,7 @@ static void reads(void) {
 int main(void) {
     writes();
     states();
+    helpers();
     reads();
     if (!failed) {
         printf("hosts/c/compound_smoke.c: as document 01 says\n");

@@ -18,32 +18,42 @@ static void reports(void) {
     CHECK(RtcpRr, rtcp_rr_parse(rr, 4), 2, 8, 4, 0, 0, 0, 0, 0, 0);
     CHECK(RtcpRr, rtcp_rr_parse(NULL, 0), 2, 8, 0, 0, 0, 0, 0, 0, 0);
     CHECK(RtcpRr, rtcp_rr_parse(cname, sizeof cname), 6, 202, 201, 0, 0, 0, 0, 0, 0);
-    CHECK(RtcpBlock, rtcp_rr_report_block(rr, sizeof rr, 0), 25, 0, 0, 0, 0, 0, 0, 0, 0, 0, 0);
+    CHECK(RtcpBlock, rtcp_rr_report_block(rr, sizeof rr, 0), 25, 0, 0, 0, 0, 0, 0, 0, 0, 0);
     CHECK(RtcpSr, rtcp_sr_parse(sr, sizeof sr), 0, 0, 0, 1, 0x200000003, 4, 5, 6, 0, 28, 0, 28, 0);
-    CHECK(RtcpBlock, rtcp_sr_report_block(sr, sizeof sr, 7), 25, 0, 0, 0, 0, 0, 0, 0, 0, 0, 0);
-    CHECK(RtcpBlock, rtcp_block_parse(block, sizeof block), 0, 0, 0, 0x01020304, 5, 0x060708, 0x090A0B0C, 0x0D0E0F10, 0x11121314, 0x15161718, 0);
-    CHECK(RtcpBlock, rtcp_block_parse(block, 23), 2, 24, 23, 0, 0, 0, 0, 0, 0, 0, 0);
-    CHECK(RtcpWritten, rtcp_rr_report_blocks(rr, sizeof rr, NULL, 0), 0, 0, 0, 0);
-    CHECK(RtcpWritten, rtcp_rr_report_blocks(cname, sizeof cname, NULL, 0), 6, 202, 201, 0);
-    CHECK(RtcpWritten, rtcp_sr_report_blocks(sr, sizeof sr, NULL, 0), 0, 0, 0, 0);
-    CHECK(RtcpRr, rtcp_rr_read(cname, sizeof cname, NULL, 0), 6, 202, 201, 0, 0, 0, 0, 0, 0);
-    CHECK(RtcpSr, rtcp_sr_read(sr, sizeof sr, NULL, 0), 0, 0, 0, 1, 0x200000003, 4, 5, 6, 0, 28, 0, 28, 0);
+    CHECK(RtcpBlock, rtcp_sr_report_block(sr, sizeof sr, 7), 25, 0, 0, 0, 0, 0, 0, 0, 0, 0);
+    CHECK(RtcpBlock, rtcp_block_parse(block, sizeof block), 0, 0, 0, 0x01020304, 5, 0x060708, 0x090A0B0C, 0x0D0E0F10, 0x11121314, 0x15161718);
+    CHECK(RtcpBlock, rtcp_block_parse(block, 23), 2, 24, 23, 0, 0, 0, 0, 0, 0, 0);
+    CHECK(RtcpWritten, rtcp_rr_report_blocks(rr, sizeof rr, NULL, 0, NULL, 0, NULL, 0), 0, 0, 0, 0);
+    CHECK(RtcpWritten, rtcp_rr_report_blocks(cname, sizeof cname, NULL, 0, NULL, 0, NULL, 0), 6, 202, 201, 0);
+    CHECK(RtcpWritten, rtcp_sr_report_blocks(sr, sizeof sr, NULL, 0, NULL, 0, NULL, 0), 0, 0, 0, 0);
+    CHECK(RtcpRr, rtcp_rr_read(cname, sizeof cname, NULL, 0, NULL, 0, NULL, 0), 6, 202, 201, 0, 0, 0, 0, 0, 0);
+    CHECK(RtcpSr, rtcp_sr_read(sr, sizeof sr, NULL, 0, NULL, 0, NULL, 0), 0, 0, 0, 1, 0x200000003, 4, 5, 6, 0, 28, 0, 28, 0);
 }
 
-/* The blocks at once, into a list that is one number longer, just long enough, and too short. */
+/* The blocks at once, into lists that are one number longer, just long enough, and one of them too short. */
 static void block_lists(void) {
-    static const uint32_t numbers[] = {0x01020304, 5, 0x060708, 0x090A0B0C, 0x0D0E0F10, 0x11121314, 0x15161718, 7};
+    static const uint8_t wanted_fractions[] = {5, 7};
+    static const uint32_t wanted_losses[] = {0x060708, 7};
+    static const uint32_t wanted_words[] = {0x01020304, 0x090A0B0C, 0x0D0E0F10, 0x11121314, 0x15161718, 7};
     uint8_t one[32] = {0x81, 0xC9, 0x00, 0x07, 0, 0, 0, 1};
-    uint32_t list[8] = {0, 0, 0, 0, 0, 0, 0, 7};
+    uint8_t fractions[2] = {0, 7};
+    uint32_t losses[2] = {0, 7}, words[6] = {0, 0, 0, 0, 0, 7};
     memcpy(one + 8, block, sizeof block);
-    CHECK(RtcpWritten, rtcp_rr_report_blocks(one, sizeof one, list, 6), 10, 7, 0, 0);
-    CHECK(RtcpWritten, rtcp_rr_report_blocks(one, sizeof one, list, 8), 0, 0, 0, 7);
-    compare(__FILE__, "the list of blocks", list, numbers, sizeof numbers);
-    CHECK(RtcpWritten, rtcp_rr_report_blocks(one, sizeof one, list, 7), 0, 0, 0, 7);
-    list[0] = 0;
-    CHECK(RtcpRr, rtcp_rr_read(one, sizeof one, list, 6), 10, 7, 0, 0, 0, 0, 0, 0, 0);
-    CHECK(RtcpRr, rtcp_rr_read(one, sizeof one, list, 8), 0, 0, 0, 1, 1, 32, 0, 32, 0);
-    compare(__FILE__, "the list of blocks", list, numbers, sizeof numbers);
+    CHECK(RtcpWritten, rtcp_rr_report_blocks(one, sizeof one, fractions, 0, losses, 2, words, 6), 10, 1, 0, 0);
+    CHECK(RtcpWritten, rtcp_rr_report_blocks(one, sizeof one, fractions, 2, losses, 0, words, 6), 10, 1, 0, 0);
+    CHECK(RtcpWritten, rtcp_rr_report_blocks(one, sizeof one, fractions, 2, losses, 2, words, 4), 10, 1, 0, 0);
+    CHECK(RtcpRr, rtcp_rr_read(one, sizeof one, fractions, 2, losses, 2, words, 4), 10, 1, 0, 0, 0, 0, 0, 0, 0);
+    if (fractions[0] != 0 || losses[0] != 0 || words[0] != 0) compare(__FILE__, "lists of a refused call", "", "x", 1);
+    CHECK(RtcpWritten, rtcp_rr_report_blocks(one, sizeof one, fractions, 1, losses, 1, words, 5), 0, 0, 0, 1);
+    compare(__FILE__, "the fractions", fractions, wanted_fractions, sizeof fractions);
+    compare(__FILE__, "the losses", losses, wanted_losses, sizeof losses);
+    compare(__FILE__, "the words", words, wanted_words, sizeof words);
+    memset(fractions, 7, sizeof fractions);
+    words[4] = 0;
+    CHECK(RtcpRr, rtcp_rr_read(one, sizeof one, fractions, 2, losses, 2, words, 6), 0, 0, 0, 1, 1, 32, 0, 32, 0);
+    compare(__FILE__, "the fractions", fractions, wanted_fractions, sizeof fractions);
+    compare(__FILE__, "the losses", losses, wanted_losses, sizeof losses);
+    compare(__FILE__, "the words", words, wanted_words, sizeof words);
 }
 
 static void descriptions(void) {

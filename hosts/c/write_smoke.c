@@ -50,26 +50,26 @@ static void left(const char *name, const uint8_t *want, size_t size) {
 #define SIZES(size, call) same(#call, call, 0, 0, 0, size)
 
 static void reports(void) {
-    static const uint32_t blocks[] = {0x01020304, 5, 0x060708, 0x090A0B0C, 0x0D0E0F10, 0x11121314, 0x15161718};
-    static const uint32_t wide[] = {1, 256, 0, 0, 0, 0, 0};
-    static const uint32_t lost[] = {1, 255, 0x1000000, 0, 0, 0, 0};
-    static uint32_t many[32 * 7];
+    static const uint8_t fraction[] = {5};
+    static const uint32_t loss[] = {0x060708}, over[] = {0x1000000};
+    static const uint32_t words[] = {0x01020304, 0x090A0B0C, 0x0D0E0F10, 0x11121314, 0x15161718};
+    static uint8_t fractions[32];
+    static uint32_t losses[32], many[32 * 5];
     static const uint8_t rr[] = {0x81, 0xC9, 0x00, 0x07, 0x11, 0x22, 0x33, 0x44, 1, 2, 3, 4, 5, 6, 7, 8, 9, 10, 11, 12, 13, 14, 15, 16, 17, 18, 19, 20, 21, 22, 23, 24};
     static const uint8_t sr[] = {0xA0, 0xC8, 0x00, 0x07, 0, 0, 0, 1, 0, 0, 0, 2, 0, 0, 0, 3, 0, 0, 0, 4, 0, 0, 0, 5, 0, 0, 0, 6, 0, 0, 0, 4};
-    WRITES(rr, rtcp_rr_write(buf, sizeof buf, 0x11223344, blocks, 7, 0));
-    SIZES(32, rtcp_rr_size(blocks, 7, 0));
-    SIZES(56, rtcp_sr_size(blocks, 7, 4));
-    WRITES(sr, rtcp_sr_write(buf, sizeof buf, 1, 0x200000003, 4, 5, 6, NULL, 0, 4));
-    REFUSES(10, 32, 0, rtcp_rr_write(buf, 31, 0x11223344, blocks, 7, 0));
-    REFUSES(24, 0, 0, rtcp_rr_write(buf, sizeof buf, 1, blocks, 6, 3));
-    REFUSES(24, 0, 0, rtcp_rr_write(buf, sizeof buf, 1, wide, 7, 3));
-    REFUSES(24, 0, 0, rtcp_sr_write(buf, sizeof buf, 1, 2, 3, 4, 5, wide, 7, 3));
-    REFUSES(11, 3, 0, rtcp_rr_write(buf, sizeof buf, 1, lost, 7, 3));
-    REFUSES(17, 0x1000000, 16777215, rtcp_rr_write(buf, sizeof buf, 1, lost, 7, 0));
-    REFUSES(18, 32, 31, rtcp_rr_write(buf, sizeof buf, 1, many, 32 * 7, 3));
-    SIZES(8 + 31 * 24, rtcp_rr_size(many, 31 * 7, 0));
-    many[31 * 7 + 1] = 256;
-    REFUSES(24, 0, 0, rtcp_sr_write(buf, sizeof buf, 1, 2, 3, 4, 5, many, 32 * 7, 0));
+    WRITES(rr, rtcp_rr_write(buf, sizeof buf, 0x11223344, fraction, 1, loss, 1, words, 5, 0));
+    SIZES(32, rtcp_rr_size(fraction, 1, loss, 1, words, 5, 0));
+    SIZES(56, rtcp_sr_size(fraction, 1, loss, 1, words, 5, 4));
+    WRITES(sr, rtcp_sr_write(buf, sizeof buf, 1, 0x200000003, 4, 5, 6, NULL, 0, NULL, 0, NULL, 0, 4));
+    REFUSES(10, 32, 0, rtcp_rr_write(buf, 31, 0x11223344, fraction, 1, loss, 1, words, 5, 0));
+    REFUSES(24, 0, 0, rtcp_rr_write(buf, sizeof buf, 1, fraction, 1, loss, 1, words, 4, 3));
+    REFUSES(24, 0, 0, rtcp_rr_write(buf, sizeof buf, 1, fraction, 1, NULL, 0, words, 5, 3));
+    REFUSES(24, 0, 0, rtcp_sr_write(buf, sizeof buf, 1, 2, 3, 4, 5, NULL, 0, loss, 1, NULL, 0, 3));
+    REFUSES(11, 3, 0, rtcp_rr_write(buf, sizeof buf, 1, fraction, 1, over, 1, words, 5, 3));
+    REFUSES(17, 0x1000000, 16777215, rtcp_rr_write(buf, sizeof buf, 1, fraction, 1, over, 1, words, 5, 0));
+    REFUSES(18, 32, 31, rtcp_rr_write(buf, sizeof buf, 1, fractions, 32, losses, 32, many, 32 * 5, 3));
+    REFUSES(24, 0, 0, rtcp_sr_write(buf, sizeof buf, 1, 2, 3, 4, 5, fractions, 32, losses, 31, many, 32 * 5, 0));
+    SIZES(8 + 31 * 24, rtcp_rr_size(fractions, 31, losses, 31, many, 31 * 5, 0));
 }
 
 static void descriptions(void) {

@@ -3,9 +3,9 @@
 
 results! {
     RtcpBlock {
-        ssrc: u32, fraction_lost: u32, cumulative_lost: u32, extended_sequence_number: u32,
-        interarrival_jitter: u32, last_sender_report_timestamp: u32,
-        delay_since_last_sender_report_timestamp: u32, reserved: u32
+        ssrc: u64, fraction_lost: u64, cumulative_lost: u64, extended_sequence_number: u64,
+        interarrival_jitter: u64, last_sender_report_timestamp: u64,
+        delay_since_last_sender_report_timestamp: u64
     }
     RtcpRr {
         ssrc: u64, n_reports: u64, extension: u64, extension_len: u64, padding: u64,
@@ -45,9 +45,10 @@ results! {
         reason_len: u64, at: u64
     }
     RtcpWritten { size: u64 }
+    RtcpCall {}
 }
 
-/// The state of a compound writer. A flag that is not 0 is set.
+/// The state of a compound writer.
 #[repr(C)]
 #[derive(Clone, Copy, Debug, Default, PartialEq, Eq)]
 pub struct RtcpWriter {
@@ -63,10 +64,18 @@ functions! {
     "rtcp_sr_parse" rtcp_sr_parse(s: &[u8]) -> RtcpSr;
     "rtcp_rr_report_block" rtcp_rr_report_block(s: &[u8], i: u64) -> RtcpBlock;
     "rtcp_sr_report_block" rtcp_sr_report_block(s: &[u8], i: u64) -> RtcpBlock;
-    "rtcp_rr_report_blocks" rtcp_rr_report_blocks(s: &[u8], blocks: &mut [u32]) -> RtcpWritten;
-    "rtcp_sr_report_blocks" rtcp_sr_report_blocks(s: &[u8], blocks: &mut [u32]) -> RtcpWritten;
-    "rtcp_rr_read" rtcp_rr_read(s: &[u8], blocks: &mut [u32]) -> RtcpRr;
-    "rtcp_sr_read" rtcp_sr_read(s: &[u8], blocks: &mut [u32]) -> RtcpSr;
+    "rtcp_rr_report_blocks" rtcp_rr_report_blocks(
+        s: &[u8], fractions: &mut [u8], losses: &mut [u32], words: &mut [u32]
+    ) -> RtcpWritten;
+    "rtcp_sr_report_blocks" rtcp_sr_report_blocks(
+        s: &[u8], fractions: &mut [u8], losses: &mut [u32], words: &mut [u32]
+    ) -> RtcpWritten;
+    "rtcp_rr_read" rtcp_rr_read(
+        s: &[u8], fractions: &mut [u8], losses: &mut [u32], words: &mut [u32]
+    ) -> RtcpRr;
+    "rtcp_sr_read" rtcp_sr_read(
+        s: &[u8], fractions: &mut [u8], losses: &mut [u32], words: &mut [u32]
+    ) -> RtcpSr;
     "rtcp_app_parse" rtcp_app_parse(s: &[u8]) -> RtcpApp;
     "rtcp_bye_parse" rtcp_bye_parse(s: &[u8]) -> RtcpBye;
     "rtcp_bye_source" rtcp_bye_source(s: &[u8], i: u64) -> RtcpSource;
@@ -85,11 +94,11 @@ functions! {
     "rtcp_walk_step" rtcp_walk_step(s: &[u8], at: u64) -> RtcpStep;
 
     "rtcp_rr_write" rtcp_rr_write(
-        buf: &mut [u8], ssrc: u32, blocks: &[u32], padding: u64
+        buf: &mut [u8], ssrc: u32, fractions: &[u8], losses: &[u32], words: &[u32], padding: u64
     ) -> RtcpWritten;
     "rtcp_sr_write" rtcp_sr_write(
         buf: &mut [u8], ssrc: u32, ntp_timestamp: u64, rtp_timestamp: u32, packet_count: u32,
-        octet_count: u32, blocks: &[u32], padding: u64
+        octet_count: u32, fractions: &[u8], losses: &[u32], words: &[u32], padding: u64
     ) -> RtcpWritten;
     "rtcp_bye_write" rtcp_bye_write(
         buf: &mut [u8], sources: &[u32], reason: &[u8], padding: u64
@@ -107,8 +116,12 @@ functions! {
     "rtcp_item_write" rtcp_item_write(
         buf: &mut [u8], type_: u8, prefix: &[u8], value: &[u8]
     ) -> RtcpWritten;
-    "rtcp_rr_size" rtcp_rr_size(blocks: &[u32], padding: u64) -> RtcpWritten;
-    "rtcp_sr_size" rtcp_sr_size(blocks: &[u32], padding: u64) -> RtcpWritten;
+    "rtcp_rr_size" rtcp_rr_size(
+        fractions: &[u8], losses: &[u32], words: &[u32], padding: u64
+    ) -> RtcpWritten;
+    "rtcp_sr_size" rtcp_sr_size(
+        fractions: &[u8], losses: &[u32], words: &[u32], padding: u64
+    ) -> RtcpWritten;
     "rtcp_bye_size" rtcp_bye_size(
         sources: &[u32], reason: &[u8], padding: u64
     ) -> RtcpWritten;
@@ -124,24 +137,24 @@ functions! {
     ) -> RtcpWritten;
     "rtcp_item_size" rtcp_item_size(type_: u8, prefix: &[u8], value: &[u8]) -> RtcpWritten;
 
-    "rtcp_writer_new" rtcp_writer_new() -> RtcpWriter;
+    "rtcp_writer_new" rtcp_writer_new(writer: &mut RtcpWriter) -> ();
     "rtcp_writer_add_rr" rtcp_writer_add_rr(
-        buf: &mut [u8], writer: RtcpWriter, ssrc: u32, blocks: &[u32], padding: u64
+        writer: &mut RtcpWriter, buf: &mut [u8], ssrc: u32, fractions: &[u8], losses: &[u32], words: &[u32], padding: u64
     ) -> RtcpCall;
     "rtcp_writer_add_sr" rtcp_writer_add_sr(
-        buf: &mut [u8], writer: RtcpWriter, ssrc: u32, ntp_timestamp: u64, rtp_timestamp: u32,
-        packet_count: u32, octet_count: u32, blocks: &[u32], padding: u64
+        writer: &mut RtcpWriter, buf: &mut [u8], ssrc: u32, ntp_timestamp: u64, rtp_timestamp: u32,
+        packet_count: u32, octet_count: u32, fractions: &[u8], losses: &[u32], words: &[u32], padding: u64
     ) -> RtcpCall;
     "rtcp_writer_add_sdes" rtcp_writer_add_sdes(
-        buf: &mut [u8], writer: RtcpWriter, ssrcs: &[u32], counts: &[u64], types: &[u8],
+        writer: &mut RtcpWriter, buf: &mut [u8], ssrcs: &[u32], counts: &[u64], types: &[u8],
         prefixes: &[u64], values: &[u64], bytes: &[u8], padding: u64
     ) -> RtcpCall;
     "rtcp_writer_add_bye" rtcp_writer_add_bye(
-        buf: &mut [u8], writer: RtcpWriter, sources: &[u32], reason: &[u8], padding: u64
+        writer: &mut RtcpWriter, buf: &mut [u8], sources: &[u32], reason: &[u8], padding: u64
     ) -> RtcpCall;
     "rtcp_writer_add_app" rtcp_writer_add_app(
-        buf: &mut [u8], writer: RtcpWriter, subtype: u64, ssrc: u32, name: &[u8], data: &[u8],
+        writer: &mut RtcpWriter, buf: &mut [u8], subtype: u64, ssrc: u32, name: &[u8], data: &[u8],
         padding: u64
     ) -> RtcpCall;
-    "rtcp_writer_close" rtcp_writer_close(writer: RtcpWriter) -> RtcpCall;
+    "rtcp_writer_close" rtcp_writer_close(writer: &mut RtcpWriter) -> RtcpCall;
 }

@@ -3,6 +3,8 @@
 
 #![allow(dead_code)]
 
+use std::ffi::{c_char, CStr};
+
 /// Why a call is refused: a number and two details.
 #[derive(Clone, Copy, Debug, PartialEq, Eq)]
 pub struct Refusal {
@@ -24,6 +26,7 @@ macro_rules! results {
 
         impl $name {
             /// The result, or why there is none.
+            #[inline]
             pub fn done(self) -> Result<Self, Refusal> {
                 match self.number {
                     0 => Ok(self),
@@ -34,61 +37,74 @@ macro_rules! results {
     )* };
 }
 
-/// One function: its parameters are taken one by one, and a slice becomes a
-/// pointer and a length.
+/// One function: its parameters are taken one by one, a slice becomes a pointer
+/// and a length, and a struct that is lent a pointer.
 macro_rules! function {
-    ($name:ident $result:ident [] [] [] ,) => {
-        function! { $name $result [] [] [] }
-    };
-    ($name:ident $result:ident [$($wrapped:tt)*] [$($declared:tt)*] [$($passed:tt)*]
+    ($name:ident $result:ty, [$($wrapped:tt)*] [$($declared:tt)*] [$($passed:tt)*]
         $arg:ident: &mut [$width:ident], $($rest:tt)*) => {
-        function! { $name $result [$($wrapped)* $arg: &mut [$width],]
+        function! { $name $result, [$($wrapped)* $arg: &mut [$width],]
             [$($declared)* $arg: *mut $width, _: usize,]
             [$($passed)* $arg.as_mut_ptr(), $arg.len(),] $($rest)* }
     };
-    ($name:ident $result:ident [$($wrapped:tt)*] [$($declared:tt)*] [$($passed:tt)*]
+    ($name:ident $result:ty, [$($wrapped:tt)*] [$($declared:tt)*] [$($passed:tt)*]
         $arg:ident: &[$width:ident], $($rest:tt)*) => {
-        function! { $name $result [$($wrapped)* $arg: &[$width],]
+        function! { $name $result, [$($wrapped)* $arg: &[$width],]
             [$($declared)* $arg: *const $width, _: usize,]
             [$($passed)* $arg.as_ptr(), $arg.len(),] $($rest)* }
     };
-    ($name:ident $result:ident [$($wrapped:tt)*] [$($declared:tt)*] [$($passed:tt)*]
+    ($name:ident $result:ty, [$($wrapped:tt)*] [$($declared:tt)*] [$($passed:tt)*]
+        $arg:ident: &mut $lent:ident, $($rest:tt)*) => {
+        function! { $name $result, [$($wrapped)* $arg: &mut $lent,]
+            [$($declared)* $arg: *mut $lent,] [$($passed)* $arg,] $($rest)* }
+    };
+    ($name:ident $result:ty, [$($wrapped:tt)*] [$($declared:tt)*] [$($passed:tt)*]
         $arg:ident: $width:ident, $($rest:tt)*) => {
-        function! { $name $result [$($wrapped)* $arg: $width,]
+        function! { $name $result, [$($wrapped)* $arg: $width,]
             [$($declared)* $arg: $width,] [$($passed)* $arg,] $($rest)* }
     };
-    ($name:ident $result:ident [$($wrapped:tt)*] [$($declared:tt)*] [$($passed:tt)*]) => {
+    ($name:ident $result:ty, [$($wrapped:tt)*] [$($declared:tt)*] [$($passed:tt)*]) => {
+        #[inline]
         #[allow(clippy::too_many_arguments)]
         pub fn $name($($wrapped)*) -> $result {
             extern "C" {
                 fn $name($($declared)*) -> $result;
             }
-            // SAFETY: each pointer goes with the length of its slice, only what
-            // is lent mutably is written, nothing is kept after the call, and
-            // the functions accept every number and every byte.
+            // SAFETY: each pointer goes with the length of its slice or is of a
+            // struct that is lent, only what is lent mutably is written, nothing
+            // is kept after the call, and the functions accept every number and
+            // every byte.
             unsafe { $name($($passed)*) }
         }
     };
 }
 
 macro_rules! functions {
-    ($($symbol:tt $name:ident($($parameters:tt)*) -> $result:ident;)*) => {
-        $(function! { $name $result [] [] [] $($parameters)*, })*
+    ($($symbol:tt $name:ident($($parameters:tt)*) -> $result:ty;)*) => {
+        $(function! { $name $result, [] [] [] $($parameters)*, })*
     };
 }
 
 include!("declared.rs");
 
-results! {
-    RtcpCall { writer: RtcpWriter }
+/// The commit that the archive was proved from.
+pub fn proved_from() -> &'static str {
+    extern "C" {
+        #[link_name = "rtcp_proved_from"]
+        static PROVED_FROM: c_char;
+    }
+    // SAFETY: it is a string of C, and nobody writes it.
+    let text = unsafe { CStr::from_ptr(std::ptr::addr_of!(PROVED_FROM)) };
+    text.to_str().unwrap_or_default()
 }
 
 /// A part of the lent bytes.
+#[inline]
 pub fn part(bytes: &[u8], offset: u64, len: u64) -> &[u8] {
     &bytes[offset as usize..][..len as usize]
 }
 
 /// The bytes from one place to another.
+#[inline]
 pub fn between(bytes: &[u8], from: u64, to: u64) -> &[u8] {
     &bytes[from as usize..to as usize]
 }
