@@ -1,6 +1,6 @@
 //! Hex lines, raw files, options, and files that cannot be read.
 
-use crate::{assert_same, bytes, run, DATAGRAM, PRINTED};
+use crate::{assert_same, before_tables, bytes, root, run, DATAGRAM, PRINTED};
 
 /// The summary of datagrams like [`DATAGRAM`], and of refused ones.
 fn summary(read: u64, refused: &[(u64, u64)]) -> String {
@@ -26,18 +26,26 @@ fn lines_with_and_without_a_label() {
          empty:1\t\n80C9\n{DATAGRAM}"
     );
     let run = run(&[], text.as_bytes());
-    let truncated = "  refused: a packet, report, chunk, item or reason that says it is longer \
-                     than the bytes (refusal 2: bytes needed 4, bytes there";
+    let refused = |there: usize| {
+        let type_ = if there == 2 { ", type 201" } else { "" };
+        format!(
+            "  refused: a datagram that ends inside the header of a packet (refusal 2: bytes \
+             needed 4, bytes there {there})\n    packet 1{type_}, at offset 0 of the datagram\n    \
+             fault at offset {there} of the datagram: its end\n    RFC 3550 6.4.1: \"The length of \
+             this RTCP packet in 32-bit words minus one, including the header and any padding.\"\n"
+        )
+    };
+    let (nothing, two) = (refused(0), refused(2));
     let want = format!(
         "datagram 1: standard input line 3, 24 bytes\n{PRINTED}\
          datagram 2: standard input line 6, ab\\u{{1b}}:1, 24 bytes\n{PRINTED}\
          datagram 3: standard input line 7, program\\t:5005, 24 bytes\n{PRINTED}\
-         datagram 4: standard input line 8, empty:1, 0 bytes\n{truncated} 0)\n  bytes: none\n\
-         datagram 5: standard input line 9, 2 bytes\n{truncated} 2)\n  bytes: 80c9\n\
+         datagram 4: standard input line 8, empty:1, 0 bytes\n{nothing}  bytes: none\n\
+         datagram 5: standard input line 9, 2 bytes\n{two}  bytes: 80c9\n\
          datagram 6: standard input line 10, 24 bytes\n{PRINTED}{}",
         summary(4, &[(2, 2)])
     );
-    assert_same(&run.out, &want);
+    assert_same(before_tables(&run.out), &want);
     assert_eq!((run.err.as_str(), run.status), ("", 0));
 }
 
@@ -50,9 +58,9 @@ fn a_line_that_is_not_hex_loses_no_later_one() {
          datagram 2: standard input line 6, 24 bytes\n{PRINTED}{}  lines that are not hex: 4\n",
         summary(2, &[])
     );
-    assert_same(&run.out, &want);
+    assert_same(before_tables(&run.out), &want);
     let want: String = [1, 2, 3, 5]
-        .map(|line| format!("rtcpdump: standard input line {line}: not hex digits in pairs\n"))
+        .map(|line| format!("rtcpdump: standard input: line {line}: not hex digits in pairs\n"))
         .concat();
     assert_eq!((run.err, run.status), (want, 1));
 }
@@ -71,7 +79,7 @@ fn a_raw_file_is_one_datagram() {
         "datagram 1: standard input, 24 bytes\n{PRINTED}{}",
         summary(1, &[])
     );
-    assert_same(&run.out, &want);
+    assert_same(before_tables(&run.out), &want);
     assert_eq!((run.err.as_str(), run.status), ("", 0));
 }
 
@@ -79,11 +87,11 @@ fn a_raw_file_is_one_datagram() {
 fn a_datagram_without_the_option_is_named() {
     for data in [bytes(DATAGRAM), vec![0], vec![0x7F], vec![0xBF]] {
         let run = run(&[], &data);
-        let want = "rtcpdump: standard input: offset 0: neither pcap nor lines of hex; --raw \
-                    reads it as one datagram\n";
-        let summary = summary(0, &[]) + "  files not read to their end: 1\n";
+        let want = "rtcpdump: standard input: no pcap, pcapng or hex digits; --raw reads it as \
+                    one datagram\n";
+        let summary = summary(0, &[]) + "  damaged places: 1\n";
         assert_eq!((run.err.as_str(), run.status), (want, 1));
-        assert_same(&run.out, &summary);
+        assert_same(before_tables(&run.out), &summary);
     }
 }
 
@@ -91,7 +99,10 @@ fn a_datagram_without_the_option_is_named() {
 fn a_bad_datagram_loses_no_later_one() {
     let text = format!("40C9000111223344\n{DATAGRAM}\n81CA000000\n{DATAGRAM}\n80C9000111223344\n");
     let run = run(&["--summary"], text.as_bytes());
-    assert_same(&run.out, &summary(2, &[(1, 1), (7, 1), (8, 1)]));
+    assert_same(
+        before_tables(&run.out),
+        &summary(2, &[(1, 1), (7, 1), (8, 1)]),
+    );
     assert_eq!((run.err.as_str(), run.status), ("", 0));
 }
 
@@ -105,7 +116,7 @@ fn the_first_ones_are_printed_and_all_are_counted() {
         "datagram 1: standard input line 1, 24 bytes\n{PRINTED}{}",
         summary(2, &[(2, 1)])
     );
-    assert_same(&run.out, &want);
+    assert_same(before_tables(&run.out), &want);
 }
 
 #[test]
@@ -118,18 +129,17 @@ fn a_file_that_is_not_there_loses_no_later_one() {
         run.err
     );
     let want = format!(
-        "datagram 1: standard input line 1, 24 bytes\n{PRINTED}{}  files not read to their \
-         end: 1\n",
+        "datagram 1: standard input line 1, 24 bytes\n{PRINTED}{}  damaged places: 1\n",
         summary(1, &[])
     );
-    assert_same(&run.out, &want);
+    assert_same(before_tables(&run.out), &want);
     assert_eq!(run.status, 1);
 }
 
 #[test]
 fn nothing_is_an_empty_file() {
     let run = run(&[], b"");
-    assert_same(&run.out, &summary(0, &[]));
+    assert_same(before_tables(&run.out), &summary(0, &[]));
     assert_eq!((run.err.as_str(), run.status), ("", 0));
 }
 
@@ -139,6 +149,12 @@ fn options_that_are_wrong() {
         (&["--port"][..], "--port wants a number"),
         (&["--port", "65536"], "--port wants a number, not \"65536\""),
         (&["--first", "x"], "--first wants a number, not \"x\""),
+        (&["--ssrc"], "--ssrc wants hex digits"),
+        (
+            &["--ssrc", "112233445"],
+            "--ssrc wants hex digits, not \"112233445\"",
+        ),
+        (&["--html"], "--html wants a file"),
         (&["--colour"], "no option \"--colour\""),
     ] {
         let run = run(words, b"");
@@ -148,8 +164,12 @@ fn options_that_are_wrong() {
     }
 }
 
+/// Each option is in the text of `--help`, and in the manual page.
 #[test]
-fn the_usage_names_each_option() {
+fn the_usage_and_the_manual_name_each_option() {
+    let manual = root().join("docs/rtcpdump.1");
+    let manual = std::fs::read_to_string(manual).expect("the manual page");
+    let run_h = run(&["-h"], b"");
     let run = run(&["--help"], b"");
     for option in [
         "--all",
@@ -157,10 +177,34 @@ fn the_usage_names_each_option() {
         "--raw",
         "--first N",
         "--summary",
+        "--ssrc X",
+        "--brief",
+        "--json",
+        "--html FILE",
         "--help",
+        "--version",
     ] {
-        assert!(run.out.contains(&format!("\n  {option} ")), "{option}");
+        assert!(run.out.contains(&format!("\n  {option}")), "{option}");
+        let name = option
+            .split(' ')
+            .next()
+            .expect("a name")
+            .replace('-', "\\-");
+        assert!(manual.contains(&name), "{option}");
     }
+    assert_eq!(run_h.out, run.out);
+    assert_eq!((run.err.as_str(), run.status), ("", 0));
+}
+
+#[test]
+fn the_version_and_what_the_library_was_proved_from() {
+    let run = run(&["--version"], b"");
+    let start = concat!(
+        "rtcpdump ",
+        env!("CARGO_PKG_VERSION"),
+        ", library proved from commit "
+    );
+    assert!(run.out.starts_with(start), "{}", run.out);
     assert_eq!((run.err.as_str(), run.status), ("", 0));
 }
 

@@ -1,9 +1,18 @@
 //! The program rtcpdump: what it prints, and how it ends.
 
+mod capture;
 mod captures;
+mod damage;
+mod faults;
 mod fields;
+mod html;
 mod input;
+mod json;
 mod pcap;
+mod pcapng;
+mod pipe;
+mod tables;
+mod text;
 
 use std::io::Write;
 use std::path::{Path, PathBuf};
@@ -31,10 +40,11 @@ fn run(words: &[&str], input: &[u8]) -> Run {
         .spawn()
         .expect("rtcpdump");
     let mut stdin = child.stdin.take().expect("standard input");
-    // A program that has ended takes no input.
-    let _ = stdin.write_all(input);
-    drop(stdin);
+    let input = input.to_vec();
+    // The program prints while it reads. One that has ended takes no input.
+    let writer = std::thread::spawn(move || drop(stdin.write_all(&input)));
     let output = child.wait_with_output().expect("an end");
+    writer.join().expect("a writer");
     Run {
         out: String::from_utf8(output.stdout).expect("text"),
         err: String::from_utf8(output.stderr).expect("text"),
@@ -55,6 +65,13 @@ fn assert_same(got: &str, want: &str) {
     }
     assert_eq!(got.lines().count(), want.lines().count());
     assert_eq!(got, want);
+}
+
+/// What is printed before the tables of sources and refusals.
+fn before_tables(out: &str) -> &str {
+    let ends = ["\nsources\n", "\nrefusals\n"].map(|title| out.find(title));
+    let end = ends.iter().flatten().min();
+    &out[..end.map_or(out.len(), |end| end + 1)]
 }
 
 /// An RR and an SDES packet with a CNAME.

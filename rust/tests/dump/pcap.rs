@@ -1,6 +1,6 @@
 //! pcap files, made here byte by byte.
 
-use crate::{assert_same, bytes, run, Run, DATAGRAM, PRINTED};
+use crate::{assert_same, before_tables, bytes, run, Run, DATAGRAM, PRINTED};
 
 /// The header of a file in either byte order, of version 2.4 and snap length 65,535.
 const BIG_MICROSECONDS: &str = "A1 B2 C3 D4 00 02 00 04 00 00 00 00 00 00 00 00 00 00 FF FF";
@@ -69,18 +69,24 @@ fn file(header: &str, link: u32, frames: &[String]) -> Vec<u8> {
 /// The lines of the summary about records: taken, other UDP, not UDP,
 /// fragments, cut short, damaged.
 fn records(counts: [u32; 6]) -> String {
-    let [taken, others, not_udp, fragments, cut, damaged] = counts;
-    format!(
-        "  pcap records: {}\n    taken as RTCP: {taken}\n    other UDP datagrams: {others}\n    \
-         not UDP: {not_udp}\n    fragments: {fragments}\n    \
-         cut short by the snap length: {cut}\n    with a damaged header: {damaged}\n",
-        counts.iter().sum::<u32>()
-    )
+    let kinds = [
+        "taken as RTCP",
+        "other UDP datagrams",
+        "not UDP",
+        "fragments",
+        "cut short by the snap length",
+        "with a damaged header",
+    ];
+    let lines = kinds.iter().zip(counts).filter(|(_, count)| *count > 0);
+    let lines: String = lines
+        .map(|(kind, count)| format!("    {kind}: {count}\n"))
+        .collect();
+    format!("  records: {}\n{lines}", counts.iter().sum::<u32>())
 }
 
 fn records_of(run: &Run) -> &str {
-    let at = run.out.find("  pcap records: ").expect("records");
-    &run.out[at..]
+    let at = run.out.find("  records: ").expect("records");
+    before_tables(&run.out[at..])
 }
 
 /// Both frames of a file of this link type are read.
@@ -101,7 +107,7 @@ fn both_are_read(header: &str, link: u32, frames: [String; 2]) {
          RR: 2\n    SDES: 2\n    BYE: 0\n    APP: 0\n    other types: 0\n{}",
         records([2, 0, 0, 0, 0, 0])
     );
-    assert_same(&run.out, &want);
+    assert_same(before_tables(&run.out), &want);
     assert_eq!((run.err.as_str(), run.status), ("", 0));
 }
 
@@ -323,7 +329,7 @@ fn ends_at(data: &[u8], read: usize, message: &str) {
     assert_eq!(run.status, 1);
     assert_eq!(run.out.matches(PRINTED).count(), read);
     assert!(run.out.contains(&format!("summary\n  datagrams: {read}\n")));
-    assert!(run.out.ends_with("  files not read to their end: 1\n"));
+    assert!(before_tables(&run.out).ends_with("  damaged places: 1\n"));
 }
 
 #[test]
@@ -337,38 +343,94 @@ fn a_file_header_that_is_damaged() {
         let mut data = file(header, 101, &[v4()]);
         data[4] = data[4].wrapping_add(1);
         let version = if is_little(header) { 3 } else { 258 };
-        ends_at(
-            &data,
-            0,
-            &format!("offset 4: version {version} of pcap is not read"),
-        );
+        let message = format!("offset 4: version {version} of pcap is not read");
+        ends_at(&data, 0, &message);
     }
-    let data = file(LITTLE_MICROSECONDS, 105, &[v4()]);
-    ends_at(&data, 0, "offset 20: link type 105 is not one that is read");
-    let message = "offset 0: pcapng is not read; write it as classic pcap";
-    ends_at(&bytes("0A 0D 0D 0A 00 00 00 1C 1A 2B 3C 4D"), 0, message);
 }
 
 #[test]
-fn a_record_header_that_is_damaged() {
+fn a_link_type_that_is_not_read_is_named_once() {
+    let data = file(LITTLE_MICROSECONDS, 105, &[v4(), v4()]);
+    let run = run(&[], &data);
+    let message = "rtcpdump: standard input: link type 105 is not one that is read\n";
+    assert_eq!((run.err.as_str(), run.status), (message, 1));
+    let want = "  records: 2\n    of a link type that is not read: 2\n";
+    assert_eq!(records_of(&run), want);
+}
+
+#[test]
+fn a_last_record_that_is_cut_off() {
     let whole = file(LITTLE_MICROSECONDS, 101, &[v4()]);
     let at = whole.len();
     let mut data = whole.clone();
     data.extend(record(LITTLE_MICROSECONDS, &bytes(&v4()), 0));
     for len in 1..16 {
-        let message = format!("offset {at}: the record header has {len} of 16 bytes");
+        let message =
+            format!("offset {at}: the record header has {len} of 16 bytes; no record follows");
         ends_at(&data[..at + len], 1, &message);
     }
     for left in 0..52 {
-        let message = format!("offset {at}: the record header says 52 bytes, and {left} are left");
+        let message = format!(
+            "offset {at}: the record header says 52 bytes, and {left} are left; no record follows"
+        );
         ends_at(&data[..at + 16 + left], 1, &message);
     }
-    data[at + 12] = 51;
-    let message = format!("offset {at}: the record header says 52 bytes of a frame of 51");
-    ends_at(&data, 1, &message);
-    data[at + 8..at + 16].fill(0xFF);
-    let message = format!("offset {at}: the record header says 4294967295 bytes, and 52 are left");
-    ends_at(&data, 1, &message);
+}
+
+/// One damaged record loses none after it.
+#[test]
+fn a_record_header_that_is_damaged() {
+    let at = 24 + 68;
+    let next = at + 68;
+    for header in [BIG_MICROSECONDS, LITTLE_NANOSECONDS] {
+        for (place, value, text) in [
+            (12, 51, "the record header says 52 bytes of a frame of 51"),
+            (8, 53, "the record header says 53 bytes of a frame of 52"),
+            (
+                8,
+                u32::MAX,
+                "the record header says 4294967295 bytes of a frame of 52",
+            ),
+            (4, u32::MAX, "the record header says 4294967295/"),
+        ] {
+            let mut data = file(header, 101, &[v4(), v4(), v4(), v4()]);
+            data[at + place..][..4].copy_from_slice(&number(header, value));
+            let run = run(&[], &data);
+            let start = format!("rtcpdump: standard input: offset {at}: {text}");
+            let end = format!("; the next record is at offset {next}\n");
+            assert!(run.err.starts_with(&start), "{}", run.err);
+            assert!(run.err.ends_with(&end), "{}", run.err);
+            assert_eq!(run.out.matches(PRINTED).count(), 3);
+            assert_eq!(run.status, 1);
+        }
+    }
+}
+
+/// Where a record says that it is shorter or longer than it is, and the next
+/// header is not where it ends, those inside it and after it are found.
+#[test]
+fn a_record_with_another_length() {
+    for (captured, original) in [
+        (0, 52),
+        (20, 52),
+        (100, 100),
+        (136, 136),
+        (200, 200),
+        (51, 52),
+    ] {
+        let mut data = file(LITTLE_MICROSECONDS, 101, &[v4(), v4(), v4(), v4(), v4()]);
+        data[24 + 68 + 8..][..4].copy_from_slice(&number(LITTLE_MICROSECONDS, captured));
+        data[24 + 68 + 12..][..4].copy_from_slice(&number(LITTLE_MICROSECONDS, original));
+        let run = run(&[], &data);
+        let read = run.out.matches(PRINTED).count();
+        assert_eq!(
+            read,
+            if captured < 52 { 4 } else { 5 },
+            "{captured}\n{}",
+            run.err
+        );
+        assert_eq!(run.status, 1, "{captured}");
+    }
 }
 
 /// A damaged file loses none of the next one.

@@ -1,6 +1,7 @@
 //! The fields of a packet, one a line.
 
-use crate::text::{count, escaped, hex, utc};
+use crate::text::{count, escaped, hex};
+use crate::time::utc;
 use bokyjave::prelude::*;
 use bokyjave::{
     App, Bye, Packet, ReceiverReport, ReportBlock, Sdes, SdesItem, SenderReport, Unknown,
@@ -22,6 +23,39 @@ pub fn packet(out: &mut impl Write, number: usize, packet: &Packet) -> io::Resul
     bytes(out, "padding", packet.padding_bytes())
 }
 
+/// The short name of packets of other types than the five.
+pub const OTHER: &str = "other";
+
+/// The short name of a packet's kind.
+pub fn short_name(packet: &Packet) -> &'static str {
+    match packet {
+        Packet::Sr(_) => "SR",
+        Packet::Rr(_) => "RR",
+        Packet::Sdes(_) => "SDES",
+        Packet::Bye(_) => "BYE",
+        Packet::App(_) => "APP",
+        Packet::Unknown(_) => OTHER,
+    }
+}
+
+/// Whether a packet names a source: as its sender, or in a block, chunk or list.
+pub fn names(packet: &Packet, ssrc: u32) -> bool {
+    let is_it = |block: ReportBlock| block.ssrc() == ssrc;
+    match packet {
+        Packet::Sr(sr) => sr.ssrc() == ssrc || sr.report_blocks().any(is_it),
+        Packet::Rr(rr) => rr.ssrc() == ssrc || rr.report_blocks().any(is_it),
+        Packet::Sdes(sdes) => sdes.chunks().any(|chunk| chunk.ssrc() == ssrc),
+        Packet::Bye(bye) => bye.ssrcs().any(|it| it == ssrc),
+        Packet::App(app) => app.ssrc() == ssrc,
+        // Feedback and extended reports start with their sender and a source.
+        Packet::Unknown(other) => other
+            .body()
+            .chunks(4)
+            .take(2)
+            .any(|it| it == ssrc.to_be_bytes()),
+    }
+}
+
 fn name(packet: &Packet) -> &'static str {
     match packet {
         Packet::Sr(_) => "sender report (SR)",
@@ -38,14 +72,19 @@ fn name(packet: &Packet) -> &'static str {
     }
 }
 
+/// As many bytes of a field are printed; `--json` prints all.
+const MOST: usize = 256;
+
 /// A line with bytes, where there are any.
 fn bytes(out: &mut impl Write, field: &str, bytes: &[u8]) -> io::Result<()> {
-    match bytes {
-        [] => Ok(()),
-        _ => {
-            let len = count(bytes.len(), "byte");
-            writeln!(out, "    {field}: {len}, {}", hex(bytes))
-        }
+    if bytes.is_empty() {
+        return Ok(());
+    }
+    let len = count(bytes.len(), "byte");
+    let shown = hex(&bytes[..bytes.len().min(MOST)]);
+    match bytes.len().saturating_sub(MOST) {
+        0 => writeln!(out, "    {field}: {len}, {shown}"),
+        more => writeln!(out, "    {field}: {len}, {shown} and {more} bytes more"),
     }
 }
 
@@ -148,7 +187,15 @@ fn source_item(item: &SdesItem) -> String {
     if let Ok(prefix) = item.priv_prefix() {
         return format!("PRIV, prefix \"{}\": \"{value}\"", escaped(prefix));
     }
-    let name = match item.type_() {
+    match item_name(item.type_()) {
+        Some(name) => format!("{name}: \"{value}\""),
+        None => format!("item type {}: \"{value}\"", item.type_()),
+    }
+}
+
+/// The name of an item type that RFC 3550 has.
+pub fn item_name(type_: u8) -> Option<&'static str> {
+    Some(match type_ {
         SdesItem::CNAME => "CNAME",
         SdesItem::NAME => "NAME",
         SdesItem::EMAIL => "EMAIL",
@@ -156,9 +203,9 @@ fn source_item(item: &SdesItem) -> String {
         SdesItem::LOC => "LOC",
         SdesItem::TOOL => "TOOL",
         SdesItem::NOTE => "NOTE",
-        type_ => return format!("item type {type_}: \"{value}\""),
-    };
-    format!("{name}: \"{value}\"")
+        SdesItem::PRIV => "PRIV",
+        _ => return None,
+    })
 }
 
 fn goodbye(out: &mut impl Write, bye: &Bye) -> io::Result<()> {

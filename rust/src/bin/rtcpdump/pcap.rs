@@ -1,8 +1,13 @@
 //! Classic pcap files: a header of 24 bytes, then records, each with a header
 //! of 16 bytes.
 
+use crate::input::Input;
+use crate::ip::Passed;
 use crate::link::Link;
-use std::fmt;
+use crate::order::Order;
+use crate::record::{Damage, Next, Record, Records, MOST};
+use crate::time::Time;
+use std::io::{self, Read};
 
 const FILE_HEADER: usize = 24;
 const RECORD_HEADER: usize = 16;
@@ -10,76 +15,19 @@ const RECORD_HEADER: usize = 16;
 const VERSION: u16 = 2;
 const MICROSECONDS: u32 = 0xA1B2_C3D4;
 const NANOSECONDS: u32 = 0xA1B2_3C4D;
+/// A record that is looked for after damage is so near to the last one.
+const SECONDS_APART: u32 = 30 * 86_400;
 
-/// How the machine that wrote a file orders the bytes of a number.
-#[derive(Clone, Copy)]
-pub enum Order {
-    Big,
-    Little,
-}
-
-impl Order {
-    /// Two bytes at a place, which are there.
-    fn u16_at(self, data: &[u8], at: usize) -> u16 {
-        let bytes = [data[at], data[at + 1]];
-        match self {
-            Order::Big => u16::from_be_bytes(bytes),
-            Order::Little => u16::from_le_bytes(bytes),
-        }
-    }
-
-    /// Four bytes at a place, which are there.
-    pub fn u32_at(self, data: &[u8], at: usize) -> u32 {
-        let bytes = [data[at], data[at + 1], data[at + 2], data[at + 3]];
-        match self {
-            Order::Big => u32::from_be_bytes(bytes),
-            Order::Little => u32::from_le_bytes(bytes),
-        }
-    }
-}
-
-/// Where a file is damaged, and how.
-pub struct Damage {
-    at: usize,
-    text: String,
-}
-
-impl fmt::Display for Damage {
-    fn fmt(&self, f: &mut fmt::Formatter<'_>) -> fmt::Result {
-        write!(f, "offset {}: {}", self.at, self.text)
-    }
-}
-
-pub struct Record<'a> {
-    /// The offset of the record's header.
-    pub at: usize,
-    pub seconds: u32,
-    pub nanoseconds: u64,
-    pub frame: &'a [u8],
-    /// Whether the snap length has cut bytes off.
-    pub is_cut: bool,
-}
-
-/// The records of a file. The first damage ends them.
-pub struct Pcap<'a> {
-    data: &'a [u8],
-    at: usize,
-    order: Order,
-    /// Nanoseconds for each unit of a record's time.
-    unit: u64,
-    link: Link,
-}
-
-/// The byte order and the unit of time that the first four bytes say.
-fn magic(data: &[u8]) -> Option<(Order, u64)> {
+/// The byte order, and how many units of time a second has.
+fn magic(data: &[u8]) -> Option<(Order, u32)> {
     if data.len() < 4 {
         return None;
     }
     [Order::Big, Order::Little]
         .into_iter()
         .find_map(|order| match order.u32_at(data, 0) {
-            MICROSECONDS => Some((order, 1000)),
-            NANOSECONDS => Some((order, 1)),
+            MICROSECONDS => Some((order, 1_000_000)),
+            NANOSECONDS => Some((order, 1_000_000_000)),
             _ => None,
         })
 }
@@ -88,85 +36,187 @@ pub fn is_pcap(data: &[u8]) -> bool {
     magic(data).is_some()
 }
 
-pub fn is_pcapng(data: &[u8]) -> bool {
-    data.starts_with(b"\x0A\x0D\x0D\x0A")
+/// The header of a record.
+struct Header {
+    seconds: u32,
+    /// Units of the file's time.
+    fraction: u32,
+    captured: usize,
+    original: u32,
 }
 
-impl<'a> Pcap<'a> {
-    /// Reads the header of a file whose first four bytes are pcap's.
-    pub fn open(data: &'a [u8]) -> Result<Self, Damage> {
-        let damage = |at, text| Err(Damage { at, text });
-        let Some((order, unit)) = magic(data) else {
-            return damage(0, "no pcap file".into());
-        };
-        if data.len() < FILE_HEADER {
-            let text = format!("the file header has {} of 24 bytes", data.len());
-            return damage(0, text);
+/// The records of a file.
+pub struct Pcap<R> {
+    /// It starts with the record given last, which is kept until the next one is
+    /// found after it: its length may be what is damaged.
+    input: Input<R>,
+    kept: usize,
+    order: Order,
+    units: u32,
+    link: Result<Link, u32>,
+    /// When the record given last was captured, and the one before it.
+    last_second: Option<u32>,
+    second_before: Option<u32>,
+}
+
+impl<R: Read> Records for Pcap<R> {
+    fn next(&mut self) -> io::Result<Next<'_>> {
+        let at = self.kept;
+        if self.input.fill(at + RECORD_HEADER)? == at {
+            return Ok(Next::End);
         }
-        let version = order.u16_at(data, 4);
+        match self.checked(at)? {
+            Ok(header) => Ok(Next::Record(self.record(at, header))),
+            Err(text) => self.after_damage(at, text).map(Next::Damage),
+        }
+    }
+}
+
+impl<R: Read> Pcap<R> {
+    /// Reads the header of a file whose first four bytes are pcap's.
+    pub fn open(mut input: Input<R>) -> io::Result<Result<Self, Damage>> {
+        let len = input.fill(FILE_HEADER)?;
+        let header = input.window();
+        let Some((order, units)) = magic(header) else {
+            return Ok(Err(Damage::at(0, "no pcap file")));
+        };
+        if len < FILE_HEADER {
+            let text = format!("the file header has {len} of 24 bytes");
+            return Ok(Err(Damage::at(0, text)));
+        }
+        let version = order.u16_at(header, 4);
         if version != VERSION {
-            return damage(4, format!("version {version} of pcap is not read"));
+            let text = format!("version {version} of pcap is not read");
+            return Ok(Err(Damage::at(4, text)));
         }
         // The upper half says how long the frames' check sequence is.
-        let number = order.u32_at(data, 20) & 0xFFFF;
-        let Some(link) = Link::of(number, order) else {
-            return damage(20, format!("link type {number} is not one that is read"));
-        };
-        Ok(Pcap {
-            data,
-            at: FILE_HEADER,
+        let link = Link::of(order.u32_at(header, 20) & 0xFFFF, order);
+        input.pass(FILE_HEADER);
+        Ok(Ok(Pcap {
+            input,
+            kept: 0,
             order,
-            unit,
+            units,
             link,
-        })
+            last_second: None,
+            second_before: None,
+        }))
     }
 
-    pub fn link(&self) -> Link {
-        self.link
+    fn record(&mut self, at: usize, header: Header) -> Record<'_> {
+        self.input.pass(at);
+        self.kept = RECORD_HEADER + header.captured;
+        self.second_before = self.last_second.replace(header.seconds);
+        let nanoseconds = u64::from(header.fraction) * u64::from(1_000_000_000 / self.units);
+        Record {
+            at: self.input.offset(),
+            time: Some(Time::new(header.seconds.into(), nanoseconds)),
+            link: self.link,
+            frame: &self.input.window()[RECORD_HEADER..self.kept],
+            is_cut: header.captured < header.original as usize,
+        }
     }
 
-    fn record(&self) -> Result<Record<'a>, Damage> {
-        let rest = &self.data[self.at..];
-        let damage = |text| Err(Damage { at: self.at, text });
-        if rest.len() < RECORD_HEADER {
-            return damage(format!("the record header has {} of 16 bytes", rest.len()));
+    /// The header at a place of the window, whose frame is held whole, or why
+    /// it is none.
+    fn checked(&mut self, at: usize) -> io::Result<Result<Header, String>> {
+        let there = self.input.fill(at + RECORD_HEADER)? - at;
+        if there < RECORD_HEADER {
+            return Ok(Err(format!("the record header has {there} of 16 bytes")));
         }
-        let captured = self.order.u32_at(rest, 8);
-        let original = self.order.u32_at(rest, 12);
-        let frame = &rest[RECORD_HEADER..];
-        if captured > original {
-            return damage(format!(
-                "the record header says {captured} bytes of a frame of {original}"
-            ));
-        }
-        if captured as usize > frame.len() {
-            let left = frame.len();
-            return damage(format!(
-                "the record header says {captured} bytes, and {left} are left"
-            ));
-        }
-        Ok(Record {
-            at: self.at,
-            seconds: self.order.u32_at(rest, 0),
-            nanoseconds: self.unit * u64::from(self.order.u32_at(rest, 4)),
-            frame: &frame[..captured as usize],
-            is_cut: captured < original,
-        })
-    }
-}
-
-impl<'a> Iterator for Pcap<'a> {
-    type Item = Result<Record<'a>, Damage>;
-
-    fn next(&mut self) -> Option<Self::Item> {
-        if self.at == self.data.len() {
-            return None;
-        }
-        let record = self.record();
-        self.at = match &record {
-            Ok(record) => record.at + RECORD_HEADER + record.frame.len(),
-            Err(_) => self.data.len(),
+        let header = match self.header(at) {
+            Ok(header) => header,
+            Err(text) => return Ok(Err(text)),
         };
-        Some(record)
+        let (start, len) = (at + RECORD_HEADER, header.captured);
+        let there = self.input.fill(start + len)? - start;
+        if there < len {
+            let text = format!("the record header says {len} bytes, and {there} are left");
+            return Ok(Err(text));
+        }
+        Ok(Ok(header))
+    }
+
+    /// The header at a place of the window, where it agrees with itself.
+    fn header(&self, at: usize) -> Result<Header, String> {
+        let number = |place| self.order.u32_at(self.input.window(), at + place);
+        let (captured, original) = (number(8), number(12));
+        let header = Header {
+            seconds: number(0),
+            fraction: number(4),
+            captured: captured as usize,
+            original,
+        };
+        if captured > original {
+            let text = format!("the record header says {captured} bytes of a frame of {original}");
+            return Err(text);
+        }
+        if original == 0 || original as usize > MOST {
+            return Err(format!(
+                "the record header says a frame of {original} bytes"
+            ));
+        }
+        if header.fraction >= self.units {
+            let (part, units) = (header.fraction, self.units);
+            return Err(format!("the record header says {part}/{units} of a second"));
+        }
+        Ok(header)
+    }
+
+    /// Looks for the next record: inside the one given last, whose length may
+    /// be wrong, and after it.
+    fn after_damage(&mut self, at: usize, text: String) -> io::Result<Damage> {
+        let damaged = self.input.offset() + at as u64;
+        let start = if at > 0 { RECORD_HEADER } else { 1 };
+        self.input.pass(start);
+        self.kept = 0;
+        while self.input.fill(RECORD_HEADER)? == RECORD_HEADER {
+            if self.is_record()? {
+                let next = self.input.offset();
+                let text = format!("{text}; the next record is at offset {next}");
+                return Ok(Damage::at(damaged, text));
+            }
+            self.input.pass(1);
+        }
+        self.input.pass(self.input.window().len());
+        Ok(Damage::at(damaged, format!("{text}; no record follows")))
+    }
+
+    /// Whether a second is near to the last records. The very last may be the
+    /// damaged one, and its time be wrong.
+    fn is_near(&self, second: u32) -> bool {
+        let seconds = [self.last_second, self.second_before];
+        let mut seconds = seconds.into_iter().flatten();
+        seconds.any(|it| it.abs_diff(second) <= SECONDS_APART)
+    }
+
+    /// Whether the window starts with a record: near to the last ones in time
+    /// and with a UDP datagram in it, or another record or the end after it.
+    /// Where no time is sure yet, only the datagram counts.
+    fn is_record(&mut self) -> io::Result<bool> {
+        // Most places are none, which is seen without waiting for more bytes.
+        let Ok(header) = self.header(0) else {
+            return Ok(false);
+        };
+        let (is_near, is_sure) = (self.is_near(header.seconds), self.second_before.is_some());
+        let end = RECORD_HEADER + header.captured;
+        if !is_near && (is_sure || !self.may_hold_udp(end)) || self.checked(0)?.is_err() {
+            return Ok(false);
+        }
+        let frame = &self.input.window()[RECORD_HEADER..end];
+        if self.link.is_ok_and(|link| link.holds_udp(frame)) {
+            return Ok(true);
+        }
+        let there = self.input.fill(end + RECORD_HEADER)? - end;
+        let is_followed = there == 0 || there == RECORD_HEADER && self.header(end).is_ok();
+        Ok(is_near && is_followed)
+    }
+
+    /// Whether what is held of a frame can be the start of one with UDP in it.
+    fn may_hold_udp(&self, end: usize) -> bool {
+        let window = self.input.window();
+        let held = &window[RECORD_HEADER..end.min(window.len())];
+        let is_start = |link: Link| matches!(link.udp(held), Ok(_) | Err(Passed::Short));
+        self.link.is_ok_and(is_start)
     }
 }
