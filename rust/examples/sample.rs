@@ -129,7 +129,7 @@ fn is_read_back(monitor: &Monitor, datagram: &[u8]) -> Result<bool, RtcpParseErr
 /// The datagram in a line: hex digits, after a tab where there is one.
 fn bytes(line: &str) -> Result<Vec<u8>, Box<dyn Error>> {
     let hex = line.split('\t').next_back().unwrap_or_default();
-    if !hex.len().is_multiple_of(2) || !hex.is_ascii() {
+    if hex.len() % 2 != 0 || !hex.is_ascii() {
         return Err("a byte has two hex digits".into());
     }
     let byte = |at| Ok(u8::from_str_radix(&hex[at..at + 2], 16)?);

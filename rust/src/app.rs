@@ -31,6 +31,7 @@ impl RtcpPacket for App<'_> {
 }
 
 impl<'a> RtcpPacketParser<'a> for App<'a> {
+    #[inline]
     fn parse(data: &'a [u8]) -> Result<Self, RtcpParseError> {
         let app = ffi::rtcp_app_parse(data).done()?;
         Ok(App {
@@ -180,8 +181,8 @@ impl RtcpPacketWriter for AppBuilder<'_> {
     fn add_to(&self, writer: &mut CompoundWriter, buf: &mut [u8]) -> Result<(), RtcpWriteError> {
         writer.call(|state| {
             ffi::rtcp_writer_add_app(
-                buf,
                 state,
+                buf,
                 self.subtype.into(),
                 self.ssrc,
                 self.name,

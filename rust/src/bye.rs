@@ -35,6 +35,7 @@ impl RtcpPacket for Bye<'_> {
 }
 
 impl<'a> RtcpPacketParser<'a> for Bye<'a> {
+    #[inline]
     fn parse(data: &'a [u8]) -> Result<Self, RtcpParseError> {
         let bye = ffi::rtcp_bye_parse(data).done()?;
         Ok(Bye {
@@ -230,7 +231,7 @@ impl RtcpPacketWriter for ByeBuilder<'_> {
 
     fn add_to(&self, writer: &mut CompoundWriter, buf: &mut [u8]) -> Result<(), RtcpWriteError> {
         writer.call(|state| {
-            ffi::rtcp_writer_add_bye(buf, state, &self.sources, &self.reason, self.padding.into())
+            ffi::rtcp_writer_add_bye(state, buf, &self.sources, &self.reason, self.padding.into())
         })
     }
 }

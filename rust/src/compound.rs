@@ -24,25 +24,46 @@ use std::iter::FusedIterator;
 pub struct Compound<'a> {
     data: &'a [u8],
     n_packets: usize,
+    /// The type, the place and the length of each packet, where there is room.
+    rows: [[u64; 3]; Compound::LISTED],
+    next: usize,
+    /// The place of the packet after the rows.
     at: u64,
-    is_over: bool,
 }
 
 impl<'a> Compound<'a> {
     /// Reads a datagram, or says why it cannot be read.
     pub fn parse(data: &'a [u8]) -> Result<Self, RtcpParseError> {
-        let compound = ffi::rtcp_compound_parse(data).done()?;
+        let mut rows = [[0; 3]; Self::LISTED];
+        let listed = ffi::rtcp_compound_packets(data, rows.as_flattened_mut());
+        let n_packets = match listed.number {
+            // There are more than are listed: the first in how many numbers.
+            10 => listed.first as usize / 3,
+            _ => listed.done()?.size as usize / 3,
+        };
         Ok(Compound {
             data,
-            n_packets: compound.n_packets as usize,
+            n_packets,
+            rows,
+            next: 0,
             at: 0,
-            is_over: false,
         })
     }
+
+    /// The packets of a datagram that are listed at once. Where there are more,
+    /// they are walked over.
+    const LISTED: usize = 4;
 
     /// The number of packets of the datagram.
     pub fn n_packets(&self) -> usize {
         self.n_packets
+    }
+
+    /// The packet at the place of the walk.
+    fn step(&mut self) -> Result<Packet<'a>, RtcpParseError> {
+        let step = ffi::rtcp_walk_step(self.data, self.at).done()?;
+        self.at = step.at;
+        Ok(Packet::of_step(self.data, &step))
     }
 
     /// A builder for a datagram.
@@ -54,28 +75,32 @@ impl<'a> Compound<'a> {
 impl<'a> Iterator for Compound<'a> {
     type Item = Result<Packet<'a>, RtcpParseError>;
 
+    #[inline]
     fn next(&mut self) -> Option<Self::Item> {
-        if self.is_over {
+        if self.next == self.n_packets {
             return None;
         }
-        let packet = match ffi::rtcp_walk_step(self.data, self.at).done() {
-            Ok(step) => {
-                self.at = step.at;
-                Ok(Packet::of_step(self.data, &step))
-            }
-            Err(refusal) => Err(RtcpParseError::from(refusal)),
-        };
-        self.is_over = packet.is_err();
-        match packet {
-            Err(RtcpParseError::NothingLeft) => None,
-            packet => Some(packet),
+        self.next += 1;
+        if self.n_packets > Self::LISTED {
+            return Some(self.step());
         }
+        let [kind, offset, len] = self.rows[self.next - 1];
+        self.at = offset;
+        let data = part(self.data, offset, len);
+        Some(match kind as u8 {
+            SenderReport::PACKET_TYPE => SenderReport::parse(data).map(Packet::Sr),
+            ReceiverReport::PACKET_TYPE => ReceiverReport::parse(data).map(Packet::Rr),
+            Sdes::PACKET_TYPE => Sdes::parse(data).map(Packet::Sdes),
+            Bye::PACKET_TYPE => Bye::parse(data).map(Packet::Bye),
+            App::PACKET_TYPE => App::parse(data).map(Packet::App),
+            _ => self.step(),
+        })
     }
 }
 
 impl FusedIterator for Compound<'_> {}
 
-/// A packet of any kind: one of a datagram, or a lone one of the five kinds.
+/// A packet of any kind: one of a datagram, or a lone one.
 ///
 /// ```
 /// use bokyjave::{prelude::*, Packet, RtcpParseError};
@@ -98,7 +123,7 @@ pub enum Packet<'a> {
     Sdes(Sdes<'a>),
     /// A sender report.
     Sr(SenderReport<'a>),
-    /// A packet of another type, read inside a datagram.
+    /// A packet of another type.
     Unknown(Unknown<'a>),
 }
 
@@ -150,8 +175,7 @@ impl RtcpPacket for Packet<'_> {
 }
 
 impl<'a> RtcpPacketParser<'a> for Packet<'a> {
-    /// Reads one packet of the five kinds by the `parse` of its kind. A lone
-    /// packet of another type is refused with 6: such are read in a datagram only.
+    /// Reads one packet by the `parse` of its kind.
     fn parse(data: &'a [u8]) -> Result<Self, RtcpParseError> {
         match data {
             [_, SenderReport::PACKET_TYPE, _, _, ..] => SenderReport::parse(data).map(Packet::Sr),
@@ -159,8 +183,9 @@ impl<'a> RtcpPacketParser<'a> for Packet<'a> {
                 ReceiverReport::parse(data).map(Packet::Rr)
             }
             [_, Sdes::PACKET_TYPE, _, _, ..] => Sdes::parse(data).map(Packet::Sdes),
+            [_, Bye::PACKET_TYPE, _, _, ..] => Bye::parse(data).map(Packet::Bye),
             [_, App::PACKET_TYPE, _, _, ..] => App::parse(data).map(Packet::App),
-            _ => Bye::parse(data).map(Packet::Bye),
+            _ => Unknown::parse(data).map(Packet::Unknown),
         }
     }
 
@@ -171,7 +196,7 @@ impl<'a> RtcpPacketParser<'a> for Packet<'a> {
             Packet::Rr(packet) => packet.bytes(),
             Packet::Sdes(packet) => packet.bytes(),
             Packet::Sr(packet) => packet.bytes(),
-            Packet::Unknown(packet) => packet.data,
+            Packet::Unknown(packet) => packet.bytes(),
         }
     }
 
@@ -182,7 +207,7 @@ impl<'a> RtcpPacketParser<'a> for Packet<'a> {
             Packet::Rr(packet) => packet.padding_bytes(),
             Packet::Sdes(packet) => packet.padding_bytes(),
             Packet::Sr(packet) => packet.padding_bytes(),
-            Packet::Unknown(packet) => packet.padding,
+            Packet::Unknown(packet) => packet.padding_bytes(),
         }
     }
 
@@ -193,7 +218,7 @@ impl<'a> RtcpPacketParser<'a> for Packet<'a> {
             Packet::Rr(packet) => packet.packet_type(),
             Packet::Sdes(packet) => packet.packet_type(),
             Packet::Sr(packet) => packet.packet_type(),
-            Packet::Unknown(packet) => packet.type_,
+            Packet::Unknown(packet) => packet.packet_type(),
         }
     }
 
@@ -204,7 +229,7 @@ impl<'a> RtcpPacketParser<'a> for Packet<'a> {
             Packet::Rr(packet) => packet.low_bits(),
             Packet::Sdes(packet) => packet.low_bits(),
             Packet::Sr(packet) => packet.low_bits(),
-            Packet::Unknown(packet) => packet.count,
+            Packet::Unknown(packet) => packet.low_bits(),
         }
     }
 }
@@ -228,6 +253,22 @@ macro_rules! kinds {
             }
         }
 
+        impl<'a> TryFrom<Unknown<'a>> for $kind<'a> {
+            type Error = RtcpParseError;
+
+            fn try_from(packet: Unknown<'a>) -> Result<Self, RtcpParseError> {
+                $kind::parse(packet.data)
+            }
+        }
+
+        impl<'a> TryFrom<&Unknown<'a>> for $kind<'a> {
+            type Error = RtcpParseError;
+
+            fn try_from(packet: &Unknown<'a>) -> Result<Self, RtcpParseError> {
+                $kind::parse(packet.data)
+            }
+        }
+
         impl<'a> TryFrom<&Packet<'a>> for $kind<'a> {
             type Error = RtcpParseError;
 
@@ -240,7 +281,13 @@ macro_rules! kinds {
 
 kinds! { App App Bye Bye ReceiverReport Rr Sdes Sdes SenderReport Sr }
 
-/// A packet of another type than the five, read inside a datagram.
+impl<'a> From<Unknown<'a>> for Packet<'a> {
+    fn from(packet: Unknown<'a>) -> Self {
+        Packet::Unknown(packet)
+    }
+}
+
+/// A packet of another type than the five.
 ///
 /// ```
 /// use bokyjave::{prelude::*, Compound, Packet};
@@ -261,16 +308,75 @@ pub struct Unknown<'a> {
     padding: &'a [u8],
 }
 
-impl<'a> Unknown<'a> {
-    /// The bytes of the header.
-    const HEADER_LEN: u64 = 4;
+impl RtcpPacket for Unknown<'_> {
+    const MIN_PACKET_LEN: usize = 4;
+    /// Of no use: the packet has a type of its own.
+    const PACKET_TYPE: u8 = 255;
+}
 
+impl<'a> RtcpPacketParser<'a> for Unknown<'a> {
+    /// Reads one packet of whatever type. The library reads such packets in a
+    /// datagram, and not as its first: so it gets a copy, behind an empty report.
+    ///
+    /// ```
+    /// use bokyjave::{prelude::*, RtcpParseError, Unknown};
+    ///
+    /// let nack = b"\x81\xCD\x00\x01nack";
+    /// assert_eq!(Unknown::parse(nack)?.body(), b"nack");
+    /// let refused = RtcpParseError::Truncated { expected: 8, actual: 7 };
+    /// assert_eq!(Unknown::parse(&nack[..7]), Err(refused));
+    /// let refused = RtcpParseError::TooLarge { expected: 8, actual: 9 };
+    /// assert_eq!(Unknown::parse(b"\x81\xCD\x00\x01nacks"), Err(refused));
+    /// # Ok::<(), RtcpParseError>(())
+    /// ```
+    fn parse(data: &'a [u8]) -> Result<Self, RtcpParseError> {
+        const REPORT: [u8; 8] = [0x80, ReceiverReport::PACKET_TYPE, 0, 1, 0, 0, 0, 0];
+        let [_, _, high, low, ..] = *data else {
+            return Err(RtcpParseError::Truncated {
+                expected: Self::MIN_PACKET_LEN,
+                actual: data.len(),
+            });
+        };
+        let expected = 4 * (usize::from(u16::from_be_bytes([high, low])) + 1);
+        let left_over = RtcpParseError::TooLarge {
+            expected,
+            actual: data.len(),
+        };
+        let datagram = [&REPORT, data].concat();
+        match ffi::rtcp_walk_step(&datagram, REPORT.len() as u64).done() {
+            Ok(_) if expected < data.len() => Err(left_over),
+            Ok(step) => Ok(Self::of_step(data, &step)),
+            Err(refusal) => match RtcpParseError::from(refusal) {
+                RtcpParseError::NonLastCompoundPacketPadding => Err(left_over),
+                error => Err(error),
+            },
+        }
+    }
+
+    fn bytes(&self) -> &'a [u8] {
+        self.data
+    }
+
+    fn padding_bytes(&self) -> &'a [u8] {
+        self.padding
+    }
+
+    fn packet_type(&self) -> u8 {
+        self.type_
+    }
+
+    fn low_bits(&self) -> u8 {
+        self.count
+    }
+}
+
+impl<'a> Unknown<'a> {
     fn of_step(data: &'a [u8], step: &ffi::RtcpStep) -> Self {
         Unknown {
             data,
             type_: step.packet_type as u8,
             count: step.count as u8,
-            body: between(data, Self::HEADER_LEN, step.body),
+            body: between(data, Self::MIN_PACKET_LEN as u64, step.body),
             padding: part(data, step.body, step.padding_len),
         }
     }
@@ -314,12 +420,21 @@ impl<'a> Unknown<'a> {
     pub fn padding_bytes(&self) -> &'a [u8] {
         self.padding
     }
+
+    /// The packet as one of a kind or of a type of yours, or why its bytes cannot
+    /// be read as such.
+    pub fn try_as<P>(&'a self) -> Result<P, RtcpParseError>
+    where
+        P: RtcpPacket + TryFrom<&'a Self, Error = RtcpParseError>,
+    {
+        P::try_from(self)
+    }
 }
 
 #[cfg(test)]
 mod tests {
     use super::*;
-    use crate::ffi::rtcp_walk_open;
+    use crate::ffi::{rtcp_walk_open, rtcp_walk_step};
 
     #[test]
     fn a_walk_starts_where_the_library_opens_it() {
@@ -333,6 +448,25 @@ mod tests {
             let opened = rtcp_walk_open(refused).done().expect_err("a refusal");
             let parsed = Compound::parse(refused).expect_err("a refusal");
             assert_eq!(parsed, RtcpParseError::from(opened));
+        }
+    }
+
+    /// Up to four packets are listed, more are walked over: both give the same.
+    #[test]
+    fn listed_packets_are_those_of_the_walk() {
+        let mut datagram = b"\x80\xC9\x00\x01\x11\x22\x33\x44".to_vec();
+        datagram.extend(b"\x81\xCA\x00\x03\x11\x22\x33\x44\x01\x03a@b\x00\x00\x00");
+        for more in [203, 205, 201, 206, 203, 0] {
+            let (mut at, mut walked) = (0, Vec::new());
+            while let Ok(step) = rtcp_walk_step(&datagram, at).done() {
+                walked.push(Packet::of_step(&datagram, &step));
+                at = step.at;
+            }
+            let compound = Compound::parse(&datagram).expect("a datagram");
+            assert_eq!(compound.n_packets(), walked.len());
+            let read: Result<Vec<Packet>, _> = compound.collect();
+            assert_eq!(read, Ok(walked));
+            datagram.extend([0x80, more, 0, 1, 0, 0, 0, 0]);
         }
     }
 

@@ -432,7 +432,10 @@ const SENTENCES: [(&str, &[&str]); 30] = [
         &[],
     ),
     ("an item to write of type 0, which closes a chunk", &[]),
-    ("SDES lists whose lengths do not fit together", &[]),
+    (
+        "lists of blocks, chunks or items whose lengths do not fit together",
+        &[],
+    ),
     ("a step after the last part, or an index past the last", &[]),
     ("a call on a datagram that is closed", &[]),
     ("a datagram to write that does not begin with SR or RR", &[]),

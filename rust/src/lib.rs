@@ -70,6 +70,12 @@ pub use sdes::{
 };
 pub use writer::{CompoundBuilder, CompoundWriter, PacketBuilder};
 
+/// The commit that the library was proved from; a `+` behind it where a source was
+/// changed after that commit.
+pub fn proved_from() -> &'static str {
+    ffi::proved_from()
+}
+
 /// The traits, for `use bokyjave::prelude::*`.
 pub mod prelude {
     pub use super::{

@@ -4,8 +4,9 @@ use crate::{
     RtcpPacketWriter, RtcpParseError, RtcpWriteError,
 };
 use std::iter::FusedIterator;
+use std::slice::ChunksExact;
 
-// What the two kinds of report have in common, for the type and the function that reads its blocks.
+// What the two kinds of report have in common, for the type and the function that reads one of its blocks.
 macro_rules! read_report {
     ($report:ident, $block:path) => {
         impl<'a> $report<'a> {
@@ -25,12 +26,13 @@ macro_rules! read_report {
             }
 
             /// The report blocks, one call of the library for each.
+            #[inline]
             pub fn report_blocks(&self) -> ReportBlocks<'a> {
+                let size = ReportBlock::EXPECTED_SIZE;
+                let from = Self::MIN_PACKET_LEN;
+                let blocks = &self.data[from..from + size * usize::from(self.n_reports)];
                 ReportBlocks {
-                    data: self.data,
-                    read: $block,
-                    at: 0,
-                    count: self.n_reports,
+                    blocks: blocks.chunks_exact(size),
                 }
             }
 
@@ -59,7 +61,7 @@ macro_rules! build_report {
 
             /// Adds a report block.
             pub fn add_report_block(mut self, report_block: ReportBlockBuilder) -> Self {
-                self.blocks.extend(report_block.numbers);
+                self.blocks.push(&report_block);
                 self
             }
         }
@@ -109,6 +111,7 @@ impl RtcpPacket for SenderReport<'_> {
 }
 
 impl<'a> RtcpPacketParser<'a> for SenderReport<'a> {
+    #[inline]
     fn parse(data: &'a [u8]) -> Result<Self, RtcpParseError> {
         let sr = ffi::rtcp_sr_parse(data).done()?;
         Ok(SenderReport {
@@ -181,7 +184,7 @@ impl<'a> SenderReport<'a> {
             rtp_timestamp: 0,
             packet_count: 0,
             octet_count: 0,
-            blocks: Vec::new(),
+            blocks: BlockLists::default(),
         }
     }
 }
@@ -212,6 +215,7 @@ impl RtcpPacket for ReceiverReport<'_> {
 }
 
 impl<'a> RtcpPacketParser<'a> for ReceiverReport<'a> {
+    #[inline]
     fn parse(data: &'a [u8]) -> Result<Self, RtcpParseError> {
         let rr = ffi::rtcp_rr_parse(data).done()?;
         Ok(ReceiverReport {
@@ -252,7 +256,7 @@ impl<'a> ReceiverReport<'a> {
         ReceiverReportBuilder {
             ssrc,
             padding: 0,
-            blocks: Vec::new(),
+            blocks: BlockLists::default(),
         }
     }
 }
@@ -284,20 +288,22 @@ impl ReportBlock {
     /// The bytes of a block.
     pub const EXPECTED_SIZE: usize = 24;
 
+    #[inline]
     fn of(block: ffi::RtcpBlock) -> Self {
         ReportBlock {
-            ssrc: block.ssrc,
+            ssrc: block.ssrc as u32,
             fraction_lost: block.fraction_lost as u8,
-            cumulative_lost: block.cumulative_lost,
-            extended_sequence_number: block.extended_sequence_number,
-            interarrival_jitter: block.interarrival_jitter,
-            last_sender_report_timestamp: block.last_sender_report_timestamp,
-            delay_since_last_sender_report_timestamp: block
-                .delay_since_last_sender_report_timestamp,
+            cumulative_lost: block.cumulative_lost as u32,
+            extended_sequence_number: block.extended_sequence_number as u32,
+            interarrival_jitter: block.interarrival_jitter as u32,
+            last_sender_report_timestamp: block.last_sender_report_timestamp as u32,
+            delay_since_last_sender_report_timestamp: block.delay_since_last_sender_report_timestamp
+                as u32,
         }
     }
 
     /// Reads a lone block.
+    #[inline]
     pub fn parse(data: &[u8]) -> Result<Self, RtcpParseError> {
         Ok(Self::of(ffi::rtcp_block_parse(data).done()?))
     }
@@ -340,7 +346,9 @@ impl ReportBlock {
     /// A builder for a block about a source.
     pub fn builder(ssrc: u32) -> ReportBlockBuilder {
         ReportBlockBuilder {
-            numbers: [ssrc, 0, 0, 0, 0, 0, 0],
+            fraction_lost: 0,
+            cumulative_lost: 0,
+            words: [ssrc, 0, 0, 0, 0],
         }
     }
 }
@@ -348,24 +356,19 @@ impl ReportBlock {
 /// The report blocks of a packet.
 #[derive(Clone, Debug)]
 pub struct ReportBlocks<'a> {
-    data: &'a [u8],
-    read: fn(&[u8], u64) -> ffi::RtcpBlock,
-    at: u8,
-    count: u8,
+    blocks: ChunksExact<'a, u8>,
 }
 
 impl Iterator for ReportBlocks<'_> {
     type Item = ReportBlock;
 
+    #[inline]
     fn next(&mut self) -> Option<ReportBlock> {
-        let block = (self.read)(self.data, self.at.into()).done().ok()?;
-        self.at += 1;
-        Some(ReportBlock::of(block))
+        ReportBlock::parse(self.blocks.next()?).ok()
     }
 
     fn size_hint(&self) -> (usize, Option<usize>) {
-        let left = usize::from(self.count - self.at);
-        (left, Some(left))
+        self.blocks.size_hint()
     }
 }
 
@@ -377,38 +380,40 @@ impl FusedIterator for ReportBlocks<'_> {}
 #[derive(Clone, Copy, Debug, PartialEq, Eq)]
 #[must_use = "a builder does nothing until it is added to a report"]
 pub struct ReportBlockBuilder {
-    /// The fields in the order of the block, as the library takes them.
-    numbers: [u32; 7],
+    fraction_lost: u8,
+    cumulative_lost: u32,
+    /// The other fields in the order of the block.
+    words: [u32; 5],
 }
 
 impl ReportBlockBuilder {
     /// The part of the packets lost since the last report, in 256ths.
     pub fn fraction_lost(mut self, fraction_lost: u8) -> Self {
-        self.numbers[1] = fraction_lost.into();
+        self.fraction_lost = fraction_lost;
         self
     }
 
     /// The packets lost since the beginning, 24 bits.
     pub fn cumulative_lost(mut self, cumulative_lost: u32) -> Self {
-        self.numbers[2] = cumulative_lost;
+        self.cumulative_lost = cumulative_lost;
         self
     }
 
     /// The highest sequence number received, with its cycles.
     pub fn extended_sequence_number(mut self, extended_sequence_number: u32) -> Self {
-        self.numbers[3] = extended_sequence_number;
+        self.words[1] = extended_sequence_number;
         self
     }
 
     /// The jitter of the packets' arrival, in RTP time.
     pub fn interarrival_jitter(mut self, interarrival_jitter: u32) -> Self {
-        self.numbers[4] = interarrival_jitter;
+        self.words[2] = interarrival_jitter;
         self
     }
 
     /// The middle 32 bits of the NTP time of the last sender report received.
     pub fn last_sender_report_timestamp(mut self, last_sender_report_timestamp: u32) -> Self {
-        self.numbers[5] = last_sender_report_timestamp;
+        self.words[3] = last_sender_report_timestamp;
         self
     }
 
@@ -417,8 +422,32 @@ impl ReportBlockBuilder {
         mut self,
         delay_since_last_sender_report_timestamp: u32,
     ) -> Self {
-        self.numbers[6] = delay_since_last_sender_report_timestamp;
+        self.words[4] = delay_since_last_sender_report_timestamp;
         self
+    }
+}
+
+/// Report blocks as the library takes them: for each a fraction, a loss and five
+/// words.
+#[derive(Clone, Debug, Default)]
+struct BlockLists {
+    fractions: Vec<u8>,
+    losses: Vec<u32>,
+    words: Vec<u32>,
+}
+
+impl BlockLists {
+    /// There is room at once for as many as a report has.
+    fn push(&mut self, block: &ReportBlockBuilder) {
+        if self.fractions.is_empty() {
+            let most = usize::from(SenderReport::MAX_COUNT);
+            self.fractions.reserve_exact(most);
+            self.losses.reserve_exact(most);
+            self.words.reserve_exact(most * block.words.len());
+        }
+        self.fractions.push(block.fraction_lost);
+        self.losses.push(block.cumulative_lost);
+        self.words.extend_from_slice(&block.words);
     }
 }
 
@@ -432,7 +461,7 @@ pub struct SenderReportBuilder {
     rtp_timestamp: u32,
     packet_count: u32,
     octet_count: u32,
-    blocks: Vec<u32>,
+    blocks: BlockLists,
 }
 
 impl SenderReportBuilder {
@@ -463,7 +492,12 @@ impl SenderReportBuilder {
 
 impl RtcpPacketWriter for SenderReportBuilder {
     fn calculate_size(&self) -> Result<usize, RtcpWriteError> {
-        size(ffi::rtcp_sr_size(&self.blocks, self.padding.into()))
+        size(ffi::rtcp_sr_size(
+            &self.blocks.fractions,
+            &self.blocks.losses,
+            &self.blocks.words,
+            self.padding.into(),
+        ))
     }
 
     fn get_padding(&self) -> Option<u8> {
@@ -478,7 +512,9 @@ impl RtcpPacketWriter for SenderReportBuilder {
             self.rtp_timestamp,
             self.packet_count,
             self.octet_count,
-            &self.blocks,
+            &self.blocks.fractions,
+            &self.blocks.losses,
+            &self.blocks.words,
             self.padding.into(),
         ))
     }
@@ -486,14 +522,16 @@ impl RtcpPacketWriter for SenderReportBuilder {
     fn add_to(&self, writer: &mut CompoundWriter, buf: &mut [u8]) -> Result<(), RtcpWriteError> {
         writer.call(|state| {
             ffi::rtcp_writer_add_sr(
-                buf,
                 state,
+                buf,
                 self.ssrc,
                 self.ntp_timestamp,
                 self.rtp_timestamp,
                 self.packet_count,
                 self.octet_count,
-                &self.blocks,
+                &self.blocks.fractions,
+                &self.blocks.losses,
+                &self.blocks.words,
                 self.padding.into(),
             )
         })
@@ -515,12 +553,17 @@ impl RtcpPacketWriter for SenderReportBuilder {
 pub struct ReceiverReportBuilder {
     ssrc: u32,
     padding: u8,
-    blocks: Vec<u32>,
+    blocks: BlockLists,
 }
 
 impl RtcpPacketWriter for ReceiverReportBuilder {
     fn calculate_size(&self) -> Result<usize, RtcpWriteError> {
-        size(ffi::rtcp_rr_size(&self.blocks, self.padding.into()))
+        size(ffi::rtcp_rr_size(
+            &self.blocks.fractions,
+            &self.blocks.losses,
+            &self.blocks.words,
+            self.padding.into(),
+        ))
     }
 
     fn get_padding(&self) -> Option<u8> {
@@ -531,14 +574,24 @@ impl RtcpPacketWriter for ReceiverReportBuilder {
         size(ffi::rtcp_rr_write(
             buf,
             self.ssrc,
-            &self.blocks,
+            &self.blocks.fractions,
+            &self.blocks.losses,
+            &self.blocks.words,
             self.padding.into(),
         ))
     }
 
     fn add_to(&self, writer: &mut CompoundWriter, buf: &mut [u8]) -> Result<(), RtcpWriteError> {
         writer.call(|state| {
-            ffi::rtcp_writer_add_rr(buf, state, self.ssrc, &self.blocks, self.padding.into())
+            ffi::rtcp_writer_add_rr(
+                state,
+                buf,
+                self.ssrc,
+                &self.blocks.fractions,
+                &self.blocks.losses,
+                &self.blocks.words,
+                self.padding.into(),
+            )
         })
     }
 }

@@ -5,6 +5,7 @@ use crate::{
 };
 use std::borrow::Cow;
 use std::iter::FusedIterator;
+use std::marker::PhantomData;
 use std::string::FromUtf8Error;
 
 /// An SDES packet.
@@ -36,6 +37,7 @@ impl RtcpPacket for Sdes<'_> {
 }
 
 impl<'a> RtcpPacketParser<'a> for Sdes<'a> {
+    #[inline]
     fn parse(data: &'a [u8]) -> Result<Self, RtcpParseError> {
         let sdes = ffi::rtcp_sdes_parse(data).done()?;
         Ok(Sdes {
@@ -87,6 +89,7 @@ impl<'a> Sdes<'a> {
     }
 
     /// The chunks, one call of the library for each.
+    #[inline]
     pub fn chunks(&self) -> Chunks<'a> {
         Chunks {
             data: self.data,
@@ -112,6 +115,7 @@ pub struct Chunks<'a> {
 impl<'a> Iterator for Chunks<'a> {
     type Item = SdesChunk<'a>;
 
+    #[inline]
     fn next(&mut self) -> Option<SdesChunk<'a>> {
         let step = ffi::rtcp_chunk_walk_step(self.data, self.at, self.end);
         let step = step.done().ok()?;
@@ -170,6 +174,7 @@ impl<'a> SdesChunk<'a> {
     }
 
     /// The items, one call of the library for each.
+    #[inline]
     pub fn items(&self) -> Items<'a> {
         Items {
             data: self.data,
@@ -216,6 +221,7 @@ pub struct Items<'a> {
 impl<'a> Iterator for Items<'a> {
     type Item = SdesItem<'a>;
 
+    #[inline]
     fn next(&mut self) -> Option<SdesItem<'a>> {
         let step = ffi::rtcp_item_walk_step(self.data, self.at).done().ok()?;
         let item = SdesItem {
@@ -342,7 +348,10 @@ impl<'a> SdesItem<'a> {
 #[must_use = "a builder does nothing until it is written"]
 pub struct SdesBuilder<'a> {
     padding: u8,
-    chunks: Vec<SdesChunkBuilder<'a>>,
+    ssrcs: Vec<u32>,
+    counts: Vec<u64>,
+    items: ItemLists,
+    lent: PhantomData<&'a [u8]>,
 }
 
 impl<'a> SdesBuilder<'a> {
@@ -354,25 +363,19 @@ impl<'a> SdesBuilder<'a> {
 
     /// Adds a chunk.
     pub fn add_chunk(mut self, chunk: SdesChunkBuilder<'a>) -> Self {
-        self.chunks.push(chunk);
+        self.ssrcs.push(chunk.ssrc);
+        self.counts.push(chunk.items.len() as u64);
+        self.items.extend(&chunk.items);
         self
-    }
-
-    /// The SSRC and the number of items of each chunk, and all items.
-    fn lists(&self) -> (Vec<u32>, Vec<u64>, ItemLists) {
-        let ssrcs = self.chunks.iter().map(|chunk| chunk.ssrc).collect();
-        let counts = self.chunks.iter().map(|chunk| chunk.items.len() as u64);
-        let items = self.chunks.iter().flat_map(|chunk| &chunk.items);
-        (ssrcs, counts.collect(), ItemLists::of(items))
     }
 }
 
 impl RtcpPacketWriter for SdesBuilder<'_> {
     fn calculate_size(&self) -> Result<usize, RtcpWriteError> {
-        let (ssrcs, counts, items) = self.lists();
+        let items = &self.items;
         size(ffi::rtcp_sdes_size(
-            &ssrcs,
-            &counts,
+            &self.ssrcs,
+            &self.counts,
             &items.types,
             &items.prefixes,
             &items.values,
@@ -386,11 +389,11 @@ impl RtcpPacketWriter for SdesBuilder<'_> {
     }
 
     fn write(&self, buf: &mut [u8]) -> Result<usize, RtcpWriteError> {
-        let (ssrcs, counts, items) = self.lists();
+        let items = &self.items;
         size(ffi::rtcp_sdes_write(
             buf,
-            &ssrcs,
-            &counts,
+            &self.ssrcs,
+            &self.counts,
             &items.types,
             &items.prefixes,
             &items.values,
@@ -400,13 +403,13 @@ impl RtcpPacketWriter for SdesBuilder<'_> {
     }
 
     fn add_to(&self, writer: &mut CompoundWriter, buf: &mut [u8]) -> Result<(), RtcpWriteError> {
-        let (ssrcs, counts, items) = self.lists();
+        let items = &self.items;
         writer.call(|state| {
             ffi::rtcp_writer_add_sdes(
-                buf,
                 state,
-                &ssrcs,
-                &counts,
+                buf,
+                &self.ssrcs,
+                &self.counts,
                 &items.types,
                 &items.prefixes,
                 &items.values,
@@ -419,7 +422,7 @@ impl RtcpPacketWriter for SdesBuilder<'_> {
 
 /// Items as the library takes them: a type and two lengths for each, and one run
 /// of bytes, prefix then value.
-#[derive(Default)]
+#[derive(Clone, Debug, Default)]
 struct ItemLists {
     types: Vec<u8>,
     prefixes: Vec<u64>,
@@ -428,16 +431,29 @@ struct ItemLists {
 }
 
 impl ItemLists {
-    fn of<'b, 'a: 'b>(items: impl IntoIterator<Item = &'b SdesItemBuilder<'a>>) -> Self {
+    fn push(&mut self, item: &SdesItemBuilder) {
+        self.types.push(item.type_);
+        self.prefixes.push(item.prefix.len() as u64);
+        self.values.push(item.value.len() as u64);
+        self.bytes.extend_from_slice(&item.prefix);
+        self.bytes.extend_from_slice(&item.value);
+    }
+
+    fn of(items: &[SdesItemBuilder]) -> Self {
         let mut lists = ItemLists::default();
-        for item in items {
-            lists.types.push(item.type_);
-            lists.prefixes.push(item.prefix.len() as u64);
-            lists.values.push(item.value.len() as u64);
-            lists.bytes.extend_from_slice(&item.prefix);
-            lists.bytes.extend_from_slice(&item.value);
-        }
+        lists.extend(items);
         lists
+    }
+
+    fn extend(&mut self, items: &[SdesItemBuilder]) {
+        let lengths = items
+            .iter()
+            .map(|item| item.prefix.len() + item.value.len());
+        self.bytes.reserve(lengths.sum());
+        self.types.reserve(items.len());
+        self.prefixes.reserve(items.len());
+        self.values.reserve(items.len());
+        items.iter().for_each(|item| self.push(item));
     }
 }
 

@@ -33,9 +33,9 @@ impl Default for CompoundWriter {
 impl CompoundWriter {
     /// A writer of an empty datagram.
     pub fn new() -> Self {
-        CompoundWriter {
-            state: ffi::rtcp_writer_new(),
-        }
+        let mut state = ffi::RtcpWriter::default();
+        ffi::rtcp_writer_new(&mut state);
+        CompoundWriter { state }
     }
 
     /// The length of the datagram so far.
@@ -65,12 +65,12 @@ impl CompoundWriter {
         Ok(self.len())
     }
 
-    /// Makes a call, and holds the writer that it hands back.
+    /// Makes a call, and lends it the state.
     pub(crate) fn call(
         &mut self,
-        call: impl FnOnce(ffi::RtcpWriter) -> ffi::RtcpCall,
+        call: impl FnOnce(&mut ffi::RtcpWriter) -> ffi::RtcpCall,
     ) -> Result<(), RtcpWriteError> {
-        self.state = call(self.state).done()?.writer;
+        call(&mut self.state).done()?;
         Ok(())
     }
 }
@@ -97,6 +97,9 @@ pub struct CompoundBuilder<'a> {
 }
 
 impl<'a> CompoundBuilder<'a> {
+    /// The datagrams up to this length take no heap memory when they are written.
+    const SHORT: usize = 512;
+
     /// Adds a packet.
     pub fn add_packet(mut self, packet: impl RtcpPacketWriter + 'a) -> Self {
         self.packets.push(Box::new(packet));
@@ -105,7 +108,10 @@ impl<'a> CompoundBuilder<'a> {
 
     /// The size of the datagram, or why it cannot be written.
     pub fn calculate_size(&self) -> Result<usize, RtcpWriteError> {
-        self.write(&mut vec![0; self.room()])
+        match self.write(&mut [0; Self::SHORT]) {
+            Err(RtcpWriteError::OutputTooSmall(_)) => self.write(&mut vec![0; self.room()]),
+            size => size,
+        }
     }
 
     /// Writes the datagram at the start of the buffer and gives its size. Bytes
@@ -113,10 +119,19 @@ impl<'a> CompoundBuilder<'a> {
     /// the first packet that has no room; [`calculate_size`](Self::calculate_size)
     /// gives the whole.
     pub fn write_into(&self, buf: &mut [u8]) -> Result<usize, RtcpWriteError> {
-        let mut written = vec![0; self.room().min(buf.len())];
-        let len = self.write(&mut written)?;
-        buf[..len].copy_from_slice(&written[..len]);
-        Ok(len)
+        let mut short = [0; Self::SHORT];
+        let mut long = Vec::new();
+        let room = buf.len().min(Self::SHORT);
+        let written = match self.write(&mut short[..room]) {
+            Err(RtcpWriteError::OutputTooSmall(_)) if room < buf.len() => {
+                long.resize(self.room().min(buf.len()), 0);
+                let len = self.write(&mut long)?;
+                &long[..len]
+            }
+            len => &short[..len?],
+        };
+        buf[..written.len()].copy_from_slice(written);
+        Ok(written.len())
     }
 
     /// Room for every packet that can be written.

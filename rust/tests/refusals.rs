@@ -94,7 +94,7 @@ fn each_number_has_a_section() {
     assert_eq!(seen, (1..=30).collect::<Vec<u64>>());
 }
 
-/// What the program prints of a datagram after its first line, up to the bytes.
+/// The line that the program prints of a refused datagram.
 fn printed(hex: &str) -> String {
     let mut child = Command::new(env!("CARGO_BIN_EXE_rtcpdump"))
         .stdin(Stdio::piped())
@@ -106,11 +106,9 @@ fn printed(hex: &str) -> String {
     drop(stdin);
     let output = child.wait_with_output().expect("an end");
     let text = String::from_utf8(output.stdout).expect("text");
-    let lines = text.lines().skip(1);
-    let lines: Vec<&str> = lines
-        .take_while(|line| !line.starts_with("  bytes: "))
-        .collect();
-    lines.join("\n")
+    let mut lines = text.lines();
+    let refused = lines.find(|line| line.starts_with("  refused: "));
+    refused.expect("a refusal").into()
 }
 
 #[test]

@@ -4,7 +4,7 @@
 use bokyjave::prelude::*;
 use bokyjave::{
     App, Bye, Compound, CompoundWriter, Packet, PacketBuilder, ReceiverReport, ReportBlock,
-    RtcpParseError, RtcpWriteError, Sdes, SdesChunk, SdesItem, SenderReport,
+    RtcpParseError, RtcpWriteError, Sdes, SdesChunk, SdesItem, SenderReport, Unknown,
 };
 
 const RR: &str = "80 C9 00 01 11 22 33 44";
@@ -438,7 +438,30 @@ fn packets_of_any_kind() {
         assert_eq!(Bye::try_from(&packet).is_ok(), kind == 203);
         assert_eq!(App::try_from(packet).map(Packet::from).is_ok(), kind == 204);
     }
-    assert_eq!(unread(Packet::parse(&[0x80, 205, 0, 0])), (6, 205, 203));
+    let unknown = Packet::parse(&[0x80, 205, 0, 0]).expect("a packet");
+    assert!(unknown.is_unknown());
+    assert_eq!((unknown.type_(), unknown.length()), (205, 4));
+    let Packet::Unknown(unknown) = unknown else {
+        panic!("another type");
+    };
+    assert_eq!(Packet::from(unknown), Packet::Unknown(unknown));
+    assert_eq!(unread(unknown.try_as::<Bye>()), (6, 205, 203));
+    // Lone packets of other types: too short, another version, too long, padding.
+    for (data, refused) in [
+        (&[0x80, 205, 0][..], (2, 4, 3)),
+        (&[0x40, 205, 0, 0], (1, 1, 0)),
+        (&[0x80, 205, 0, 1], (2, 8, 4)),
+        (&[0x80, 205, 0, 0, 0], (3, 4, 5)),
+        (&[0xA0, 205, 0, 0, 0, 0, 0, 4], (3, 4, 8)),
+        (&[0xA0, 205, 0, 1, 0, 0, 0, 3], (4, 0, 0)),
+    ] {
+        assert_eq!(unread(Unknown::parse(data)), refused);
+        assert_eq!(unread(Packet::parse(data)), refused);
+    }
+    let padded = [0xA1, 205, 0, 2, 1, 2, 3, 4, 0, 0, 0, 4];
+    let padded = Unknown::parse(&padded).expect("a packet");
+    assert_eq!((padded.count(), padded.padding()), (1, Some(4)));
+    assert_eq!(padded.body(), [1, 2, 3, 4]);
     for kind in 200..=204 {
         assert_eq!(unread(Packet::parse(&[0x80, kind, 0])), (2, 4, 3));
     }
