@@ -4,6 +4,14 @@
 
 use std::process::ExitCode;
 
+/// The prefix of a PRIV item.
+#[cfg(rtcp_types)]
+macro_rules! prefix {
+    ($item:expr) => {
+        $item.priv_prefix()
+    };
+}
+
 #[cfg(rtcp_types)]
 mod operations;
 #[cfg(rtcp_types)]

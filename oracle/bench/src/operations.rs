@@ -1,4 +1,5 @@
-//! The operations, and the loop that is measured.
+//! The operations, and the loop that is measured. bench/bokyjave compiles this file too, over the crate in rust/ under the name of rtcp-types: what
+//! takes a type that differs there is a macro.
 
 use crate::whole::{Compound, CompoundBuilder, Packet};
 use rtcp_types::prelude::*;
@@ -8,6 +9,43 @@ use std::time::Instant;
 
 const BATCHES: usize = 63;
 const BATCH: u64 = 200;
+
+/// The seven numbers of a block.
+macro_rules! numbers {
+    ($block:expr) => {
+        [
+            $block.ssrc(),
+            $block.fraction_lost().into(),
+            $block.cumulative_lost(),
+            $block.extended_sequence_number(),
+            $block.interarrival_jitter(),
+            $block.last_sender_report_timestamp(),
+            $block.delay_since_last_sender_report_timestamp(),
+        ]
+    };
+}
+
+/// Of each block of a report, added up.
+macro_rules! sum_of_blocks {
+    ($report:expr) => {
+        $report.report_blocks().fold(0, |sum, block| {
+            let numbers: [u32; 7] = numbers!(block);
+            numbers
+                .iter()
+                .fold(sum, |sum, number| add(sum, u64::from(*number)))
+        })
+    };
+}
+
+/// The size that a builder writes, 0 where it refuses.
+macro_rules! write {
+    ($builder:expr, $out:expr) => {
+        match black_box($builder).write_into(black_box($out)) {
+            Ok(size) => size as u64,
+            Err(_) => 0,
+        }
+    };
+}
 
 /// The numbers of an input, for writing.
 #[derive(Default)]
@@ -19,11 +57,13 @@ struct Fields {
     octets: u32,
     blocks: Vec<[u32; 7]>,
     chunks: Vec<Chunk>,
+    /// Of the SDES packet.
+    padding: u8,
 }
 
 struct Chunk {
     ssrc: u32,
-    items: Vec<(u8, String)>,
+    items: Vec<(u8, Vec<u8>, String)>,
 }
 
 /// The exit status.
@@ -40,34 +80,41 @@ pub fn main() -> u8 {
     let Some(input) = load(inputs, input) else {
         return 2;
     };
+    match (verb, name) {
+        ("parse", "rrsdes" | "padded") => {
+            return finish(count, || sum_of_compound(black_box(&input)))
+        }
+        ("parse", "sr31") => return finish(count, || sum_of_sr(black_box(&input))),
+        ("parse", "sdes31" | "priv31") => return finish(count, || sum_of_sdes(black_box(&input))),
+        _ => {}
+    }
     let fields = fields(&input);
     let mut out = [0; 1024];
     let written = match (verb, name) {
-        ("parse", "rrsdes") => return finish(count, || sum_of_compound(black_box(&input))),
-        ("parse", "sr31") => return finish(count, || sum_of_sr(black_box(&input))),
-        ("parse", "sdes31") => return finish(count, || sum_of_sdes(black_box(&input))),
-        ("write", "rrsdes") => {
+        ("write", "rrsdes" | "padded") => {
             let (rr, sdes) = (rr(&fields), sdes(&fields));
             finish(count, || write_both(&rr, &sdes, &mut out))
         }
         ("write", "sr31") => {
             let builder = sr(&fields);
-            finish(count, || write(&builder, &mut out))
+            finish(count, || write!(&builder, &mut out))
         }
-        ("write", "sdes31") => {
+        ("write", "sdes31" | "priv31") => {
             let builder = sdes(&fields);
-            finish(count, || write(&builder, &mut out))
+            finish(count, || write!(&builder, &mut out))
         }
         ("write", "compound") => {
             let builder = compound(&fields);
-            finish(count, || write(&builder, &mut out))
+            finish(count, || write!(&builder, &mut out))
         }
-        ("build", "compound") => finish(count, || write(&compound(black_box(&fields)), &mut out)),
-        ("build", "rrsdes") => finish(count, || {
+        ("build", "compound") => finish(count, || write!(&compound(black_box(&fields)), &mut out)),
+        ("build", "rrsdes" | "padded") => finish(count, || {
             write_both(&rr(black_box(&fields)), &sdes(black_box(&fields)), &mut out)
         }),
-        ("build", "sr31") => finish(count, || write(&sr(black_box(&fields)), &mut out)),
-        ("build", "sdes31") => finish(count, || write(&sdes(black_box(&fields)), &mut out)),
+        ("build", "sr31") => finish(count, || write!(&sr(black_box(&fields)), &mut out)),
+        ("build", "sdes31" | "priv31") => {
+            finish(count, || write!(&sdes(black_box(&fields)), &mut out))
+        }
         _ => return 3,
     };
     if written == 0 && out[..input.len()] != input {
@@ -88,13 +135,21 @@ fn load(path: &str, name: &str) -> Option<Vec<u8>> {
         .collect()
 }
 
+/// The fields of a datagram or of a lone packet.
 fn fields(input: &[u8]) -> Fields {
     let mut fields = Fields::default();
-    for packet in Compound::parse(input).expect("a good input") {
-        match packet.expect("a good input") {
+    let packets: Vec<Packet> = match Packet::parse(input) {
+        Ok(packet) => vec![packet],
+        Err(_) => Compound::parse(input)
+            .expect("a good input")
+            .map(|packet| packet.expect("a good input"))
+            .collect(),
+    };
+    for packet in packets {
+        match packet {
             Packet::Rr(rr) => {
                 fields.ssrc = rr.ssrc();
-                fields.blocks = rr.report_blocks().map(numbers).collect();
+                fields.blocks = rr.report_blocks().map(|block| numbers!(block)).collect();
             }
             Packet::Sr(sr) => {
                 fields.ssrc = sr.ssrc();
@@ -102,47 +157,34 @@ fn fields(input: &[u8]) -> Fields {
                 fields.rtp = sr.rtp_timestamp();
                 fields.packets = sr.packet_count();
                 fields.octets = sr.octet_count();
-                fields.blocks = sr.report_blocks().map(numbers).collect();
+                fields.blocks = sr.report_blocks().map(|block| numbers!(block)).collect();
             }
-            Packet::Sdes(sdes) => fields.chunks = sdes.chunks().map(chunk).collect(),
+            Packet::Sdes(sdes) => {
+                fields.padding = sdes.padding().unwrap_or(0);
+                for chunk in sdes.chunks() {
+                    let items = chunk.items().map(|item| {
+                        let value = item.get_value_string().expect("a good input");
+                        let prefix = match item.type_() {
+                            SdesItem::PRIV => prefix!(item).to_vec(),
+                            _ => Vec::new(),
+                        };
+                        (item.type_(), prefix, value)
+                    });
+                    fields.chunks.push(Chunk {
+                        ssrc: chunk.ssrc(),
+                        items: items.collect(),
+                    });
+                }
+            }
             _ => {}
         }
     }
     fields
 }
 
-fn numbers(block: ReportBlock<'_>) -> [u32; 7] {
-    [
-        block.ssrc(),
-        block.fraction_lost().into(),
-        block.cumulative_lost(),
-        block.extended_sequence_number(),
-        block.interarrival_jitter(),
-        block.last_sender_report_timestamp(),
-        block.delay_since_last_sender_report_timestamp(),
-    ]
-}
-
-fn chunk(chunk: &SdesChunk<'_>) -> Chunk {
-    let text = |item: &SdesItem<'_>| item.get_value_string().expect("a good input");
-    let items = chunk.items().map(|item| (item.type_(), text(item)));
-    Chunk {
-        ssrc: chunk.ssrc(),
-        items: items.collect(),
-    }
-}
-
 /// The sums wrap, as those of the sides in C do.
 fn add(sum: u64, number: u64) -> u64 {
     sum.wrapping_add(number)
-}
-
-fn sum_of_blocks<'a>(blocks: impl Iterator<Item = ReportBlock<'a>>) -> u64 {
-    blocks.fold(0, |sum, block| {
-        numbers(block)
-            .iter()
-            .fold(sum, |sum, number| add(sum, u64::from(*number)))
-    })
 }
 
 fn sum_of_chunks(sdes: &Sdes<'_>) -> u64 {
@@ -166,7 +208,7 @@ fn sum_of_compound(input: &[u8]) -> u64 {
         match packet {
             Ok(Packet::Rr(rr)) => {
                 sum = add(sum, rr.ssrc().into());
-                sum = add(sum, sum_of_blocks(rr.report_blocks()));
+                sum = add(sum, sum_of_blocks!(rr));
             }
             Ok(Packet::Sdes(sdes)) => sum = add(sum, sum_of_chunks(&sdes)),
             _ => return 0,
@@ -188,7 +230,7 @@ fn sum_of_sr(input: &[u8]) -> u64 {
     let sum = numbers.iter().fold(sr.ntp_timestamp(), |sum, number| {
         add(sum, u64::from(*number))
     });
-    add(sum, sum_of_blocks(sr.report_blocks()))
+    add(sum, sum_of_blocks!(sr))
 }
 
 fn sum_of_sdes(input: &[u8]) -> u64 {
@@ -227,10 +269,16 @@ fn sr(fields: &Fields) -> SenderReportBuilder {
 }
 
 fn sdes(fields: &Fields) -> SdesBuilder<'_> {
-    fields.chunks.iter().fold(Sdes::builder(), |sdes, chunk| {
+    let packet = Sdes::builder().padding(fields.padding);
+    fields.chunks.iter().fold(packet, |sdes, chunk| {
         let started = SdesChunk::builder(chunk.ssrc);
-        sdes.add_chunk(chunk.items.iter().fold(started, |chunk, (type_, value)| {
-            chunk.add_item(SdesItem::builder(*type_, value))
+        let items = chunk.items.iter();
+        sdes.add_chunk(items.fold(started, |chunk, (type_, prefix, value)| {
+            let item = SdesItem::builder(*type_, value);
+            chunk.add_item(match *type_ {
+                SdesItem::PRIV => item.prefix(&prefix[..]),
+                _ => item,
+            })
         }))
     })
 }
@@ -241,18 +289,11 @@ fn compound(fields: &Fields) -> CompoundBuilder<'_> {
         .add_packet(sdes(fields))
 }
 
-fn write(builder: &impl RtcpPacketWriter, out: &mut [u8]) -> u64 {
-    match black_box(builder).write_into(black_box(out)) {
-        Ok(size) => size as u64,
-        Err(_) => 0,
-    }
-}
-
 /// Packet after packet: fewer instructions than through the compound builder,
 /// which asks each packet for its size twice.
 fn write_both(rr: &ReceiverReportBuilder, sdes: &SdesBuilder<'_>, out: &mut [u8]) -> u64 {
-    let size = write(rr, out);
-    size + write(sdes, &mut out[size as usize..])
+    let size = write!(rr, &mut *out);
+    size + write!(sdes, &mut out[size as usize..])
 }
 
 /// Runs as the arguments say, and prints. By reference, as in C: the loop is not

@@ -21,7 +21,7 @@ use Rattle.rfc3550.specs.Writer.{add, close, addTests, closeTests, call}
 use Rattle.rfc3550.specs.Book.{firstFault, turn}
 ";
 
-const UNFOLDING: &str = "need _>>=_ mapOk _>>_ firstFault turn be val put get sum store readPacket readPackets readCompound lossBits lossOf lossIn lossOver lossShown blocksBytes itemsBytes chunkBytes chunksBytes contentBytes layout kindOf versionIn padded lowIn typeIn stated paddingCount paddingFits checkHeader readBlocks readReport itemOf readItem readFill readItems readChunk readChunks readLeaving readContent readAs readBlock readBlockAt readSourceAt readPrefix openWalk step openSdes sdesStep openItems itemStep lentItems lentChunks itemsGiven chunksGiven lossTests itemTests itemsTests ownTests tests calculateSize itemSize chunkSize room write writeItem writeChunk addTests closeTests call";
+const UNFOLDING: &str = "need _>>=_ mapOk _>>_ firstFault turn be val put get sum store readPacket readPackets readCompound lossBits lossOf lossIn lossOver lossShown blocksBytes itemsBytes chunkBytes chunksBytes contentBytes layout kindOf versionIn padded lowIn typeIn stated paddingCount paddingFits checkHeader readBlocks readReport itemOf readItem readFill readItems readChunk readChunks readLeaving readContent readAs readBlock readBlockAt readSourceAt readPrefix openWalk step openSdes sdesStep openItems itemStep lentBlocks lentItems lentChunks itemsGiven chunksGiven lossTests itemTests itemsTests ownTests tests calculateSize itemSize chunkSize room write writeItem writeChunk addTests closeTests call";
 
 /// Equations in one declaration.
 const ROWS: usize = 40;
@@ -188,9 +188,11 @@ fn given(given: &Given) -> String {
             blocks,
             padding,
         } => format!(
-            "(giveReport {} {} {padding})",
+            "(giveReport {} (record {{ fractions = {}; losses = {}; words = {} }}) {padding})",
             reporter(*ssrc, sender),
-            list(blocks, block)
+            numbers(&blocks.fractions),
+            numbers(&blocks.losses),
+            numbers(&blocks.words)
         ),
         Given::Sdes { lists, padding } => format!(
             "(giveSdes (record {{ ssrcs = {}; counts = {}; types = {}; prefixes = {}; values = {}; bytes = {} }}) {padding})",
@@ -322,8 +324,9 @@ fn right(operation: &Operation, outcome: &Outcome) -> String {
             format!("({}, {})", chunk(c), sdes_walk(walk))
         }),
         Outcome::ItemStep(a) => answer(a, |(i, next)| format!("({}, {next})", item(i))),
-        Outcome::Listed(a, list) => {
-            format!("({}, {})", answer(a, u64::to_string), numbers(list))
+        Outcome::Listed(a, lists) => {
+            let lists = list(lists, |list| numbers(list));
+            format!("({}, {lists})", answer(a, u64::to_string))
         }
         Outcome::Written(a, buffer) => {
             format!("({}, {})", answer(a, u64::to_string), numbers(buffer))

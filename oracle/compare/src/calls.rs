@@ -1,5 +1,5 @@
-//! Lists of the compound writer's calls: each gets the writer that the last
-//! returned, and a buffer of any length with the datagram so far at its start.
+//! Lists of the compound writer's calls: each is lent the writer as the last
+//! left it, and a buffer of any length with the datagram so far at its start.
 //! Answer, datagram and, once closed, what reading it gives must be the book's.
 
 use crate::generate::{lent, request, STALE};
@@ -57,24 +57,33 @@ pub fn run(count: usize, seed: u64) -> bool {
 
 fn list(rng: &mut Rng, counts: &mut Counts) -> Result<(), String> {
     let mut book = Book::default();
-    let mut writer = rtcp_writer_new().ok_or("no rtcp_writer_new")?;
+    let mut writer = RtcpWriter {
+        length: 1,
+        padded: 2,
+        cname: 3,
+        closed: 4,
+    };
+    rtcp_writer_new(&mut writer).ok_or("no rtcp_writer_new")?;
+    if writer != RtcpWriter::default() {
+        return Err(format!("a new writer is {writer:?}"));
+    }
     let tame = rng.once_in(2);
     for _ in 0..1 + rng.below(12) {
         let given = drawn(rng, &writer, tame);
+        let before = writer;
         let (call, booked) = match &given {
-            None => (rtcp_writer_close(writer), book.turn(&Call::Close)),
-            Some(given) => add(rng, &mut book, writer, given, tame)?,
+            None => (rtcp_writer_close(&mut writer), book.turn(&Call::Close)),
+            Some(given) => add(rng, &mut book, &mut writer, given, tame)?,
         };
         let closed = booked.is_ok() && given.is_none();
         note(counts, &booked, closed);
         let call = call.ok_or("a call is missing")?;
-        let wanted = wanted_call(&booked, &book, writer);
-        if call != wanted {
+        let wanted = wanted_call(&booked, &book, before);
+        if (call, writer) != wanted {
             return Err(format!(
-                "{given:?} on {writer:?} gave {call:?}, wanted {wanted:?}"
+                "{given:?} on {before:?} gave {call:?} and {writer:?}, wanted {wanted:?}"
             ));
         }
-        writer = call.writer();
         if closed {
             read_back(&book)?;
         }
@@ -86,7 +95,7 @@ fn list(rng: &mut Rng, counts: &mut Counts) -> Result<(), String> {
 fn add(
     rng: &mut Rng,
     book: &mut Book,
-    writer: RtcpWriter,
+    writer: &mut RtcpWriter,
     given: &Given,
     tame: bool,
 ) -> Result<(Option<RtcpCall>, Answer<()>), String> {
@@ -136,7 +145,7 @@ fn wanted_buffer(booked: &Answer<()>, book: &Book, before: &[u8]) -> Vec<u8> {
 }
 
 /// The book's answer and, where it is done, what the book says of the writer.
-fn wanted_call(booked: &Answer<()>, book: &Book, before: RtcpWriter) -> RtcpCall {
+fn wanted_call(booked: &Answer<()>, book: &Book, before: RtcpWriter) -> (RtcpCall, RtcpWriter) {
     let last = book.packets.last();
     let after = match booked {
         Err(_) => before,
@@ -148,15 +157,12 @@ fn wanted_call(booked: &Answer<()>, book: &Book, before: RtcpWriter) -> RtcpCall
         },
     };
     let refusal = booked.err().unwrap_or(Refusal::bare(0));
-    RtcpCall {
+    let call = RtcpCall {
         number: refusal.number.into(),
         first: refusal.first,
         second: refusal.second,
-        length: after.length,
-        padded: after.padded,
-        cname: after.cname,
-        closed: after.closed,
-    }
+    };
+    (call, after)
 }
 
 fn note(counts: &mut Counts, booked: &Answer<()>, closed: bool) {

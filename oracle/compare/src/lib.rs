@@ -8,6 +8,7 @@ pub mod generate;
 pub mod library;
 pub mod limits;
 pub mod operation;
+pub mod program;
 pub mod rng;
 pub mod rows;
 #[cfg(rtcp_types)]
@@ -17,4 +18,3 @@ pub mod sample;
 pub mod side;
 pub mod text;
 pub mod view;
-pub mod write_row;

@@ -1,7 +1,7 @@
 //! Inputs by enumeration: short ones exhaustively, every length around each
 //! boundary, both sides of every limit.
 
-use crate::generate::{item_lists, sdes_lists, stale_list, STALE};
+use crate::generate::{item_lists, lengths, sdes_lists, stale_lists, STALE};
 use crate::operation::Operation;
 use model::*;
 
@@ -266,23 +266,28 @@ fn large_steps(visit: &mut dyn FnMut(Operation)) {
 
 // ---- lists filled with what is read
 
-/// Lists of every length around the right one, and around the one from which on
-/// items are not counted first. Where the reading is refused, an empty one and
-/// one of some length.
+/// Lists of every length around the right one, all of them and each alone, and
+/// around the one from which on items are not counted first.
 pub fn lists(listing: Listing, bytes: &[u8], visit: &mut dyn FnMut(Operation)) {
-    let mut lengths = vec![0, 5];
-    if let Ok(numbers) = listing.numbers(bytes) {
-        let count = numbers.len();
-        lengths = vec![0, count.saturating_sub(1), count, count + 1];
-        if listing == Listing::Items {
-            let enough = bytes.len() / 2 * 5;
-            lengths.extend([enough.saturating_sub(1), enough]);
+    let right = lengths(listing, bytes);
+    let around = |right: usize| [0, right.saturating_sub(1), right, right + 1];
+    let mut tried: Vec<Vec<usize>> = Vec::new();
+    for i in 0..4 {
+        tried.push(right.iter().map(|right| around(*right)[i]).collect());
+        for at in 0..right.len() {
+            let mut lengths = right.clone();
+            lengths[at] = around(right[at])[i];
+            tried.push(lengths);
         }
-        lengths.sort_unstable();
-        lengths.dedup();
     }
-    for length in lengths {
-        let before = stale_list(listing, length);
+    if listing == Listing::Items {
+        let enough = bytes.len() / 2 * 5;
+        tried.extend([vec![enough.saturating_sub(1)], vec![enough]]);
+    }
+    tried.sort_unstable();
+    tried.dedup();
+    for lengths in tried {
+        let before = stale_lists(listing, &lengths);
         visit(Operation::List(listing, bytes.to_vec(), before));
     }
 }
@@ -367,6 +372,23 @@ fn packet_writes(given: Given, visit: &mut dyn FnMut(Operation)) {
     }
 }
 
+/// Lengths of a report's lists, each of them one too short or too long, or five
+/// for the words.
+fn disagreeing() -> Vec<[usize; 3]> {
+    let mut lengths = Vec::new();
+    for count in [1usize, 2, 31, 32] {
+        let right = [count, count, 5 * count];
+        for list in 0..3 {
+            for change in [-5, -1, 1, 5] {
+                let mut wrong = right;
+                wrong[list] = wrong[list].saturating_add_signed(change);
+                lengths.push(wrong);
+            }
+        }
+    }
+    lengths
+}
+
 fn report_writes(visit: &mut dyn FnMut(Operation)) {
     let some = |lost: u32| Block {
         ssrc: 0x0102_0304,
@@ -384,7 +406,7 @@ fn report_writes(visit: &mut dyn FnMut(Operation)) {
         octet_count: u32::MAX,
     };
     for sender in [None, Some(sender)] {
-        let mut report = |blocks: Vec<Block>, padding: u64| {
+        let mut lent = |blocks: BlockLists, padding: u64| {
             let given = Given::Report {
                 ssrc: 0xDEAD_BEEF,
                 sender,
@@ -393,6 +415,15 @@ fn report_writes(visit: &mut dyn FnMut(Operation)) {
             };
             packet_writes(given, visit);
         };
+        for [fractions, losses, words] in disagreeing() {
+            let blocks = BlockLists {
+                fractions: vec![5; fractions],
+                losses: vec![u32::MAX; losses],
+                words: vec![6; words],
+            };
+            lent(blocks, 1);
+        }
+        let mut report = |blocks: Vec<Block>, padding: u64| lent(BlockLists::of(&blocks), padding);
         for count in 0..35 {
             for padding in [0, 4, 3] {
                 report(vec![some(0xABCDEF); count], padding);

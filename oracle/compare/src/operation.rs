@@ -18,8 +18,8 @@ pub enum Operation {
     SdesStep(Vec<u8>, SdesWalk),
     OpenItems(Vec<u8>),
     ItemStep(Vec<u8>, u64),
-    /// The last part is the list before it.
-    List(Listing, Vec<u8>, Vec<u64>),
+    /// The last part is the lists before it: three of blocks, else one.
+    List(Listing, Vec<u8>, Vec<Vec<u64>>),
     /// The last part of a write is the buffer before it.
     Write(Given, Vec<u8>),
     WriteChunk(ChunkLists, Vec<u8>),
@@ -45,7 +45,7 @@ pub enum Outcome {
     OpenedSdes(Answer<SdesWalk>),
     SdesStep(Answer<(Chunk, SdesWalk)>),
     ItemStep(Answer<(Item, u64)>),
-    Listed(Answer<u64>, Vec<u64>),
+    Listed(Answer<u64>, Vec<Vec<u64>>),
     Written(Answer<u64>, Vec<u8>),
     Added(Answer<()>, Writer, Vec<u8>),
     Closed(Answer<()>, Writer),
@@ -112,8 +112,8 @@ impl Operation {
             Operation::OpenItems(bytes) => Outcome::Opened(open_items(bytes)),
             Operation::ItemStep(bytes, position) => Outcome::ItemStep(item_step(bytes, *position)),
             Operation::List(listing, bytes, before) => {
-                let mut list = before.clone();
-                Outcome::Listed(listing.fill(bytes, &mut list), list)
+                let mut lists = before.clone();
+                Outcome::Listed(listing.fill(bytes, &mut lists), lists)
             }
             Operation::Write(given, before) => written(before, |buffer| write(given, buffer)),
             Operation::WriteChunk(lists, before) => {

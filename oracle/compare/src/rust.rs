@@ -334,6 +334,7 @@ fn write_packet(given: &Given, before: &[u8]) -> Option<View> {
                 .rtp_timestamp(sender.rtp_time)
                 .packet_count(sender.packet_count)
                 .octet_count(sender.octet_count);
+            let blocks = blocks.split().ok()?;
             let builder = blocks
                 .iter()
                 .map(block_builder)
@@ -346,6 +347,7 @@ fn write_packet(given: &Given, before: &[u8]) -> Option<View> {
             blocks,
             ..
         } => {
+            let blocks = blocks.split().ok()?;
             let builder = blocks.iter().map(block_builder).fold(
                 ReceiverReport::builder(*ssrc).padding(padding),
                 ReceiverReportBuilder::add_report_block,

@@ -2,15 +2,14 @@
 
 use crate::generate::{operation, Sort};
 use crate::operation::Operation;
+use crate::program::{self, Row};
 use crate::rng::Rng;
 use crate::rows::{explain, Rows};
 use crate::rust::Rust;
 use crate::side::{Model, Side};
-use crate::view::{hex, Value, Verdict, View};
-use crate::write_row;
+use crate::view::{Value, Verdict, View};
 use model::{Kind, CNAME, PRIV};
 use std::collections::{BTreeMap, BTreeSet};
-use std::fmt::Write;
 
 pub struct Line {
     pub name: String,
@@ -21,7 +20,7 @@ pub struct Line {
 /// Inputs drawn for each line of the sample.
 const DRAWN: usize = 60;
 
-/// The longest input: the program that replays the sample reads 262,144 bytes.
+/// The longest input: the program that replays the sample reads 262,400 bytes.
 const LONGEST: usize = 64;
 
 /// The longest row for writing.
@@ -96,8 +95,10 @@ fn classes(sorts: &[Sort], count: usize, seed: u64) -> BTreeMap<Class, Vec<Pair>
 
 /// What an operation asks of the C functions: itself, and the steps of a walk.
 fn asked(operation: &Operation) -> Vec<(Class, Pair)> {
-    if let Some(row) = write_row::input(operation) {
-        return asked_to_write(operation, row).into_iter().collect();
+    if let Some(row) = program::input(operation) {
+        return asked_to_write(operation, row.to_string())
+            .into_iter()
+            .collect();
     }
     let Some((function, index, bytes)) = function(operation) else {
         return Vec::new();
@@ -120,7 +121,10 @@ fn asked(operation: &Operation) -> Vec<(Class, Pair)> {
         Verdict::Refused(refusal) => refusal.number,
         _ => 0,
     };
-    let pair = (input(function, &index, bytes), answer(operation, &view));
+    let pair = (
+        input(function, &index, bytes),
+        answer(operation, bytes, &view),
+    );
     let mut asked = vec![((function, number, rows), pair)];
     if rows == Rows::NONE && number == 0 {
         match operation {
@@ -145,7 +149,7 @@ fn asked_to_write(operation: &Operation, row: String) -> Option<(Class, Pair)> {
         _ => 0,
     };
     let function = write_function(operation);
-    Some(((function, number, rows), (row, write_row::answer(&view))))
+    Some(((function, number, rows), (row, program::answer_of(&view))))
 }
 
 fn write_function(operation: &Operation) -> &'static str {
@@ -182,14 +186,7 @@ fn function(operation: &Operation) -> Option<(&'static str, Option<u64>, &[u8])>
 }
 
 fn input(function: &str, numbers: &[u64], bytes: &[u8]) -> String {
-    let mut line = function.to_string();
-    for number in numbers {
-        let _ = write!(line, " {number}");
-    }
-    match bytes.len() {
-        0 => line + " -",
-        _ => line + " " + &hex(bytes),
-    }
+    Row::new(function, numbers, bytes).to_string()
 }
 
 /// What the Rust shows, with document 01's values where it shows none.
@@ -203,98 +200,126 @@ fn filled(rust: View, model: &View) -> View {
     view
 }
 
-/// The C function's result as text: numbers, and parts with their places.
-struct Text(String);
+/// The fields of a C function's result, each part as its place and its length: the
+/// bytes there are the part.
+struct Fields<'a> {
+    input: &'a [u8],
+    numbers: Vec<u64>,
+}
 
-impl Text {
-    fn ok() -> Self {
-        Text("ok".to_string())
+impl<'a> Fields<'a> {
+    /// Of what is not refused.
+    fn of(input: &'a [u8]) -> Self {
+        Fields {
+            input,
+            numbers: vec![0; 3],
+        }
     }
 
-    fn number(mut self, name: &str, number: u64) -> Self {
-        let _ = write!(self.0, " {name}={number}");
+    fn number(mut self, number: u64) -> Self {
+        self.numbers.push(number);
         self
     }
 
-    fn part(mut self, name: &str, offset: u64, bytes: &[u8]) -> Self {
-        let _ = write!(self.0, " {name}={offset}+{}:{}", bytes.len(), hex(bytes));
-        self
+    fn part(self, offset: u64, bytes: &[u8]) -> Self {
+        let at = offset as usize;
+        assert_eq!(&self.input[at..at + bytes.len()], bytes);
+        self.number(offset).number(bytes.len() as u64)
     }
 
     fn item(self, at: u64, item: &SeenItem) -> Self {
         let prefix = at + 2 + u64::from(item.item_type == u64::from(PRIV));
-        self.number("type", item.item_type)
-            .number("length", item.length)
-            .part("prefix", prefix, &item.prefix)
-            .part("value", prefix + item.prefix.len() as u64, &item.value)
+        self.number(item.item_type)
+            .number(item.length)
+            .part(prefix, &item.prefix)
+            .part(prefix + item.prefix.len() as u64, &item.value)
+    }
+
+    fn shown(&self) -> String {
+        program::shown(&self.numbers)
     }
 }
 
-fn answer(operation: &Operation, view: &View) -> String {
+/// How many fields a result has after its refusal.
+fn fields(operation: &Operation) -> usize {
+    match operation {
+        Operation::ReadAs(Kind::Sr, _) => 10,
+        Operation::ReadAs(Kind::App | Kind::Bye, _) => 8,
+        Operation::ReadAs(Kind::Rr, _) | Operation::ReadItem(_) => 6,
+        Operation::ReadAs(Kind::Sdes, _) => 5,
+        Operation::ReadPrefix(_) => 2,
+        Operation::ReadChunk(_) => 3,
+        Operation::ReadSourceAt(..) => 1,
+        _ => 7,
+    }
+}
+
+fn answer(operation: &Operation, input: &[u8], view: &View) -> String {
     if let Verdict::Refused(refusal) = view.verdict {
-        return format!("{}({}, {})", refusal.number, refusal.first, refusal.second);
+        let head = [refusal.number.into(), refusal.first, refusal.second];
+        return program::shown(&[&head[..], &vec![0; fields(operation)]].concat());
     }
     let seen = Seen(view);
     let n = |name| seen.number(name);
-    let text = match operation {
+    let fields = match operation {
         Operation::ReadAs(kind @ (Kind::Sr | Kind::Rr), _) => {
-            let mut text = Text::ok().number("ssrc", n("ssrc"));
+            let mut fields = Fields::of(input).number(n("ssrc"));
             if *kind == Kind::Sr {
-                text = text
-                    .number("ntp", n("ntp_time"))
-                    .number("rtp", n("rtp_time"))
-                    .number("packets", n("packet_count"))
-                    .number("octets", n("octet_count"));
+                fields = fields
+                    .number(n("ntp_time"))
+                    .number(n("rtp_time"))
+                    .number(n("packet_count"))
+                    .number(n("octet_count"));
             }
             let extension = kind.least() as u64 + 24 * n("blocks");
-            let text = text.number("n_reports", n("blocks"));
-            seen.padding(text.part("extension", extension, seen.bytes("extension")))
+            let fields = fields.number(n("blocks"));
+            seen.padding(fields.part(extension, seen.bytes("extension")))
         }
         Operation::ReadAs(Kind::App, _) => seen.padding(
-            Text::ok()
-                .number("subtype", n("low"))
-                .number("ssrc", n("ssrc"))
-                .part("name", 8, seen.bytes("name"))
-                .part("data", 12, seen.bytes("data")),
+            Fields::of(input)
+                .number(n("low"))
+                .number(n("ssrc"))
+                .part(8, seen.bytes("name"))
+                .part(12, seen.bytes("data")),
         ),
         Operation::ReadAs(Kind::Bye, _) => {
             let has_reason = u64::from(seen.value("reason") != &Value::Nothing);
             let reason = seen.bytes("reason");
             let start = 4 + 4 * n("sources") + has_reason;
             seen.padding(
-                Text::ok()
-                    .number("n_sources", n("sources"))
-                    .number("has_reason", has_reason)
-                    .part("reason", start, reason)
-                    .part("tail", start + reason.len() as u64, seen.bytes("tail")),
+                Fields::of(input)
+                    .number(n("sources"))
+                    .number(has_reason)
+                    .part(start, reason)
+                    .part(start + reason.len() as u64, seen.bytes("tail")),
             )
         }
         Operation::ReadAs(Kind::Sdes, _) => {
             let has_cname = seen.chunks().iter().any(|chunk| chunk.cname() != 0);
             seen.padding(
-                Text::ok()
-                    .number("n_chunks", n("chunks"))
-                    .number("has_cname", has_cname.into())
-                    .number("body", seen.body()),
+                Fields::of(input)
+                    .number(n("chunks"))
+                    .number(has_cname.into())
+                    .number(seen.body()),
             )
         }
-        Operation::ReadItem(_) => Text::ok().item(0, &seen.chunks()[0].items[0]),
-        Operation::ReadPrefix(_) => Text::ok().part("prefix", 3, seen.bytes("prefix")),
-        Operation::ReadChunk(_) => Text::ok()
-            .number("ssrc", n("chunk_ssrc"))
-            .number("length", n("used"))
-            .number("cname", seen.chunks()[0].cname()),
-        Operation::ReadSourceAt(..) => Text::ok().number("ssrc", n("source")),
-        _ => Text::ok()
-            .number("ssrc", n("block_ssrc"))
-            .number("fraction", n("fraction_lost"))
-            .number("lost", n("cumulative_lost"))
-            .number("sequence", n("extended_sequence"))
-            .number("jitter", n("jitter"))
-            .number("lsr", n("last_sr"))
-            .number("dlsr", n("delay")),
+        Operation::ReadItem(_) => Fields::of(input).item(0, &seen.chunks()[0].items[0]),
+        Operation::ReadPrefix(_) => Fields::of(input).part(3, seen.bytes("prefix")),
+        Operation::ReadChunk(_) => Fields::of(input)
+            .number(n("chunk_ssrc"))
+            .number(n("used"))
+            .number(seen.chunks()[0].cname()),
+        Operation::ReadSourceAt(..) => Fields::of(input).number(n("source")),
+        _ => Fields::of(input)
+            .number(n("block_ssrc"))
+            .number(n("fraction_lost"))
+            .number(n("cumulative_lost"))
+            .number(n("extended_sequence"))
+            .number(n("jitter"))
+            .number(n("last_sr"))
+            .number(n("delay")),
     };
-    text.0
+    fields.shown()
 }
 
 /// The steps of a walk over an SDES packet, and the one after the last.
@@ -304,21 +329,21 @@ fn chunk_steps(bytes: &[u8], view: &View) -> Vec<(Class, Pair)> {
     let mut steps = Vec::new();
     for chunk in seen.chunks() {
         let length = (chunk.items_end() / 4 + 1) * 4;
-        let answer = Text::ok()
-            .number("ssrc", chunk.ssrc)
-            .number("length", length)
-            .number("cname", chunk.cname())
-            .number("at", at + length)
-            .number("end", end);
+        let answer = Fields::of(bytes)
+            .number(chunk.ssrc)
+            .number(length)
+            .number(chunk.cname())
+            .number(at + length)
+            .number(end);
         let class = ("chunk_walk_step", 0, Rows::of(&[8]));
         steps.push((
             class,
-            (input("chunk_walk_step", &[at, end], bytes), answer.0),
+            (input("chunk_walk_step", &[at, end], bytes), answer.shown()),
         ));
         at += length;
     }
     let class = ("chunk_walk_step", 25, Rows::NONE);
-    let answer = format!("25(0, 0) at={at} end={end}");
+    let answer = program::shown(&[25, 0, 0, 0, 0, 0, at, end]);
     steps.push((class, (input("chunk_walk_step", &[at, end], bytes), answer)));
     steps
 }
@@ -329,13 +354,16 @@ fn item_steps(bytes: &[u8], view: &View) -> Vec<(Class, Pair)> {
     let mut steps = Vec::new();
     for item in &Seen(view).chunks()[0].items {
         let next = at + 2 + item.length;
-        let answer = Text::ok().item(at, item).number("at", next);
+        let answer = Fields::of(bytes).item(at, item).number(next);
         let class = ("item_walk_step", 0, Rows::NONE);
-        steps.push((class, (input("item_walk_step", &[at], bytes), answer.0)));
+        steps.push((
+            class,
+            (input("item_walk_step", &[at], bytes), answer.shown()),
+        ));
         at = next;
     }
     let class = ("item_walk_step", 25, Rows::NONE);
-    let answer = format!("25(0, 0) at={at}");
+    let answer = program::shown(&[25, 0, 0, 0, 0, 0, 0, 0, 0, at]);
     steps.push((class, (input("item_walk_step", &[at], bytes), answer)));
     steps
 }
@@ -393,8 +421,8 @@ impl<'a> Seen<'a> {
         self.number("length") - self.bytes("padding_bytes").len() as u64
     }
 
-    fn padding(&self, text: Text) -> Text {
-        text.part("padding", self.body(), self.bytes("padding_bytes"))
+    fn padding<'b>(&self, fields: Fields<'b>) -> Fields<'b> {
+        fields.part(self.body(), self.bytes("padding_bytes"))
     }
 
     /// The chunks; a lone item is in a chunk without SSRC.

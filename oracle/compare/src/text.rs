@@ -1,7 +1,7 @@
 //! The input of an operation as a line of text.
 
 use crate::operation::Operation;
-use crate::view::{self, hex, View};
+use crate::view::hex;
 use model::*;
 
 /// The operation's name and its inputs, each as `name=value`.
@@ -38,7 +38,9 @@ pub fn inputs(operation: &Operation) -> String {
         }
         Operation::List(_, bytes, before) => {
             put("bytes", run(bytes));
-            put("list", list(before, u64::to_string));
+            for numbers in before {
+                put("list", list(numbers, u64::to_string));
+            }
         }
         Operation::Write(g, buffer) => {
             given(g, &mut put);
@@ -134,14 +136,9 @@ fn given(given: &Given, put: &mut impl FnMut(&str, String)) {
                 put("packet_count", sender.packet_count.to_string());
                 put("octet_count", sender.octet_count.to_string());
             }
-            put("blocks", blocks.len().to_string());
-            let mut fields = View::accepted();
-            for block in blocks {
-                view::block(&mut fields, block);
-            }
-            for (name, value) in fields.fields {
-                put(name, value.to_string());
-            }
+            put("fractions", run(&blocks.fractions));
+            put("losses", list(&blocks.losses, u32::to_string));
+            put("words", list(&blocks.words, u32::to_string));
         }
         Given::Sdes { lists, .. } => {
             put("ssrcs", list(&lists.ssrcs, u32::to_string));

@@ -126,9 +126,11 @@ impl View {
                 item(view, &i);
                 view.number("position", position);
             }),
-            Outcome::Listed(answer, list) => {
+            Outcome::Listed(answer, lists) => {
                 let mut view = View::of_answer(answer, |view, count| view.number("listed", count));
-                view.put("list", Value::Numbers(list));
+                for list in lists {
+                    view.put("list", Value::Numbers(list));
+                }
                 view
             }
             Outcome::Written(answer, buffer) => {

@@ -14,16 +14,17 @@ use model::*;
 
 const ROUNDS: usize = 20_000;
 
-/// The blocks by their index.
-fn blocks(kind: Kind, bytes: &[u8]) -> Answer<Vec<u64>> {
+/// The blocks by their index: fractions, losses, and five words of each.
+fn blocks(kind: Kind, bytes: &[u8]) -> Answer<Vec<Vec<u64>>> {
     read_as(kind, bytes)?;
-    let mut numbers = Vec::new();
-    while let Ok(b) = read_block_at(kind, bytes, numbers.len() as u64 / 7) {
-        let fraction_lost = u32::from(b.fraction_lost);
-        numbers.extend([b.ssrc, fraction_lost, b.cumulative_lost].map(u64::from));
-        numbers.extend([b.extended_sequence, b.jitter, b.last_sr, b.delay].map(u64::from));
+    let [mut fractions, mut losses, mut words] = [const { Vec::new() }; 3];
+    while let Ok(b) = read_block_at(kind, bytes, losses.len() as u64) {
+        fractions.push(b.fraction_lost.into());
+        losses.push(b.cumulative_lost.into());
+        words.push(b.ssrc.into());
+        words.extend([b.extended_sequence, b.jitter, b.last_sr, b.delay].map(u64::from));
     }
-    Ok(numbers)
+    Ok(vec![fractions, losses, words])
 }
 
 /// The items by the walks.
@@ -60,8 +61,8 @@ fn packets(bytes: &[u8]) -> Answer<Vec<u64>> {
 fn check(listing: Listing, bytes: &[u8]) {
     let walked = match listing {
         Listing::Blocks(kind) => blocks(kind, bytes),
-        Listing::Items => items(bytes),
-        Listing::Packets => packets(bytes),
+        Listing::Items => items(bytes).map(|rows| vec![rows]),
+        Listing::Packets => packets(bytes).map(|rows| vec![rows]),
     };
     assert_eq!(listing.numbers(bytes), walked);
     lists(listing, bytes, &mut |list| {

@@ -1,54 +1,18 @@
 //! The sample's answers are those of the static library, where it is there.
 #![cfg(rtcp_types)]
 
+use compare::program::{shown, Row};
 use compare::sample::{lines, READING, WRITING};
-use compare::text::from_hex;
 use library::*;
 
 #[test]
 fn the_library_answers_as_the_sample() {
     for line in lines(&READING, 600, 1) {
-        let words: Vec<&str> = line.input.split(' ').collect();
-        let s = match words[words.len() - 1] {
-            "-" => Vec::new(),
-            digits => from_hex(digits),
-        };
-        let wanted = numbers(&line.answer, &s);
-        if let Some(given) = given(&words, &s) {
-            assert_eq!(given, wanted, "{} {}", line.name, line.input);
+        let row = Row::parse(&line.input);
+        if let Some(given) = given(&row) {
+            assert_eq!(shown(&given), line.answer, "{} {}", line.name, line.input);
         }
     }
-}
-
-/// The numbers of an answer. A part is its place and its length, and its bytes
-/// are those of the input.
-fn numbers(answer: &str, s: &[u8]) -> Vec<u64> {
-    // The fields start at the name before the first `=`.
-    let (verdict, fields) = match answer.find('=') {
-        None => (answer, ""),
-        Some(at) => answer.split_at(answer[..at].rfind(' ').unwrap_or(0)),
-    };
-    let mut numbers = match verdict {
-        "ok" => vec![0; 3],
-        refusal => refusal
-            .split(|c: char| !c.is_ascii_digit())
-            .filter(|number| !number.is_empty())
-            .map(|number| number.parse().expect("a number"))
-            .collect(),
-    };
-    for field in fields.split_whitespace() {
-        let value = field.split_once('=').expect("a field").1;
-        match value.split_once('+') {
-            None => numbers.push(value.parse().expect("a number")),
-            Some((offset, part)) => {
-                let (len, digits) = part.split_once(':').expect("a part");
-                let [offset, len] = [offset, len].map(|n| n.parse::<usize>().expect("a number"));
-                assert_eq!(s[offset..offset + len], from_hex(digits));
-                numbers.extend([offset as u64, len as u64]);
-            }
-        }
-    }
-    numbers
 }
 
 #[test]
@@ -74,7 +38,7 @@ fn the_lists_of_the_program_are_the_samples() {
     replayed("stdin", inputs.collect());
     let answers = sample
         .iter()
-        .map(|line| format!("{}: {}", line.name, line.answer));
+        .map(|line| format!("{}:{}", line.name, line.answer));
     replayed("stdout", answers.collect());
 }
 
@@ -90,52 +54,33 @@ fn replayed(file: &str, wanted: Vec<String>) {
 }
 
 /// What the C function gives, or nothing where it is not there.
-fn given(words: &[&str], s: &[u8]) -> Option<Vec<u64>> {
-    let number = |at: usize| {
-        words
-            .get(at)
-            .and_then(|word| word.parse().ok())
-            .unwrap_or(0)
-    };
-    let (a, b) = (number(1), number(2));
-    Some(match words[0] {
-        "sr_parse" => all(rtcp_sr_parse(s)?, 0),
-        "rr_parse" => all(rtcp_rr_parse(s)?, 0),
-        "sdes_parse" => all(rtcp_sdes_parse(s)?, 0),
-        "bye_parse" => all(rtcp_bye_parse(s)?, 0),
-        "app_parse" => all(rtcp_app_parse(s)?, 0),
-        "block_parse" => block(rtcp_block_parse(s)?),
-        "sr_report_block" => block(rtcp_sr_report_block(s, a)?),
-        "rr_report_block" => block(rtcp_rr_report_block(s, a)?),
-        "bye_source" => all(rtcp_bye_source(s, a)?, 0),
-        "item_parse" => all(rtcp_item_parse(s)?, 0),
-        "item_priv_prefix" => all(rtcp_item_priv_prefix(s)?, 0),
-        "chunk_parse" => all(rtcp_chunk_parse(s)?, 0),
-        "chunk_walk_step" => all(rtcp_chunk_walk_step(s, a, b)?, 2),
-        "item_walk_step" => all(rtcp_item_walk_step(s, a)?, 1),
+fn given(row: &Row) -> Option<Vec<u64>> {
+    let (s, n) = (&row.bytes[..], &row.numbers[..]);
+    Some(match row.function.as_str() {
+        "sr_parse" => all(rtcp_sr_parse(s)?),
+        "rr_parse" => all(rtcp_rr_parse(s)?),
+        "sdes_parse" => all(rtcp_sdes_parse(s)?),
+        "bye_parse" => all(rtcp_bye_parse(s)?),
+        "app_parse" => all(rtcp_app_parse(s)?),
+        "block_parse" => all(rtcp_block_parse(s)?),
+        "sr_report_block" => all(rtcp_sr_report_block(s, n[0])?),
+        "rr_report_block" => all(rtcp_rr_report_block(s, n[0])?),
+        "bye_source" => all(rtcp_bye_source(s, n[0])?),
+        "item_parse" => all(rtcp_item_parse(s)?),
+        "item_priv_prefix" => all(rtcp_item_priv_prefix(s)?),
+        "chunk_parse" => all(rtcp_chunk_parse(s)?),
+        "chunk_walk_step" => all(rtcp_chunk_walk_step(s, n[0], n[1])?),
+        "item_walk_step" => all(rtcp_item_walk_step(s, n[0])?),
         other => panic!("{other}"),
     })
 }
 
-/// The numbers of a result; on a refusal only the last `kept` fields.
-fn all<R: Outcome>(result: R, kept: usize) -> Vec<u64> {
+/// The numbers of a result.
+fn all<R: Outcome>(result: R) -> Vec<u64> {
     let Head {
         number,
         first,
         second,
     } = result.head();
-    let mut fields = result.fields();
-    if number != 0 {
-        fields.drain(..fields.len() - kept);
-    }
-    [vec![number, first, second], fields].concat()
-}
-
-/// A block without its last field, which is always 0.
-fn block(block: RtcpBlock) -> Vec<u64> {
-    let mut numbers = all(block, 0);
-    if block.number == 0 {
-        assert_eq!(numbers.pop(), Some(0));
-    }
-    numbers
+    [vec![number, first, second], result.fields()].concat()
 }

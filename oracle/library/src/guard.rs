@@ -66,6 +66,7 @@ pub trait Number: Copy {}
 impl Number for u8 {}
 impl Number for u32 {}
 impl Number for u64 {}
+impl Number for crate::RtcpWriter {}
 
 /// Which end of the slice lies at a closed page.
 #[derive(Clone, Copy, Debug, PartialEq, Eq)]

@@ -41,6 +41,7 @@ macro_rules! results {
                 Head { number: self.number, first: self.first, second: self.second }
             }
 
+            #[allow(clippy::needless_update)]
             fn bare(head: Head) -> Self {
                 $name {
                     number: head.number,
@@ -57,38 +58,41 @@ macro_rules! results {
     )* };
 }
 
-/// One function: its parameters are taken one by one, and a slice becomes a
-/// pointer and a length.
+/// One function: its parameters are taken one by one, a slice becomes a pointer
+/// and a length, and a struct that is lent a pointer.
 macro_rules! function {
-    ($symbol:tt $name:ident $result:ident [] [] [] ,) => {
-        function! { $symbol $name $result [] [] [] }
-    };
-    ($symbol:tt $name:ident $result:ident [$($wrapped:tt)*] [$($declared:tt)*] [$($passed:tt)*]
+    ($symbol:tt $name:ident $result:ty, [$($wrapped:tt)*] [$($declared:tt)*] [$($passed:tt)*]
         $arg:ident: &mut [$width:ident], $($rest:tt)*) => {
-        function! { $symbol $name $result [$($wrapped)* $arg: &mut [$width],]
+        function! { $symbol $name $result, [$($wrapped)* $arg: &mut [$width],]
             [$($declared)* $arg: *mut $width, _: usize,]
             [$($passed)* $arg.as_mut_ptr(), $arg.len(),] $($rest)* }
     };
-    ($symbol:tt $name:ident $result:ident [$($wrapped:tt)*] [$($declared:tt)*] [$($passed:tt)*]
+    ($symbol:tt $name:ident $result:ty, [$($wrapped:tt)*] [$($declared:tt)*] [$($passed:tt)*]
         $arg:ident: &[$width:ident], $($rest:tt)*) => {
-        function! { $symbol $name $result [$($wrapped)* $arg: &[$width],]
+        function! { $symbol $name $result, [$($wrapped)* $arg: &[$width],]
             [$($declared)* $arg: *const $width, _: usize,]
             [$($passed)* $arg.as_ptr(), $arg.len(),] $($rest)* }
     };
-    ($symbol:tt $name:ident $result:ident [$($wrapped:tt)*] [$($declared:tt)*] [$($passed:tt)*]
+    ($symbol:tt $name:ident $result:ty, [$($wrapped:tt)*] [$($declared:tt)*] [$($passed:tt)*]
+        $arg:ident: &mut $lent:ident, $($rest:tt)*) => {
+        function! { $symbol $name $result, [$($wrapped)* $arg: &mut $lent,]
+            [$($declared)* $arg: *mut $lent,] [$($passed)* $arg,] $($rest)* }
+    };
+    ($symbol:tt $name:ident $result:ty, [$($wrapped:tt)*] [$($declared:tt)*] [$($passed:tt)*]
         $arg:ident: $width:ident, $($rest:tt)*) => {
-        function! { $symbol $name $result [$($wrapped)* $arg: $width,]
+        function! { $symbol $name $result, [$($wrapped)* $arg: $width,]
             [$($declared)* $arg: $width,] [$($passed)* $arg,] $($rest)* }
     };
-    ($symbol:tt $name:ident $result:ident [$($wrapped:tt)*] [$($declared:tt)*] [$($passed:tt)*]) => {
+    ($symbol:tt $name:ident $result:ty, [$($wrapped:tt)*] [$($declared:tt)*] [$($passed:tt)*]) => {
         #[cfg(c_function = $symbol)]
         #[allow(clippy::too_many_arguments)]
         pub fn $name($($wrapped)*) -> Option<$result> {
             extern "C" {
                 fn $name($($declared)*) -> $result;
             }
-            // Each pointer goes with the length of its slice, only what is lent
-            // mutably is written, and nothing is kept after the call.
+            // Each pointer goes with the length of its slice or is of a struct that
+            // is lent, only what is lent mutably is written, and nothing is kept
+            // after the call.
             Some(unsafe { $name($($passed)*) })
         }
 
@@ -101,8 +105,8 @@ macro_rules! function {
 }
 
 macro_rules! functions {
-    ($($symbol:tt $name:ident($($parameters:tt)*) -> $result:ident;)*) => {
-        $(function! { $symbol $name $result [] [] [] $($parameters)*, })*
+    ($($symbol:tt $name:ident($($parameters:tt)*) -> $result:ty;)*) => {
+        $(function! { $symbol $name $result, [] [] [] $($parameters)*, })*
 
         /// Every function, and whether the static library has it.
         pub const FUNCTIONS: &[(&str, bool)] = &[$(($symbol, cfg!(c_function = $symbol))),*];
@@ -110,22 +114,6 @@ macro_rules! functions {
 }
 
 include!("../../../rust/src/declared.rs");
-
-results! {
-    RtcpCall { length: u64, padded: u64, cname: u64, closed: u64 }
-}
-
-impl RtcpCall {
-    /// The writer after the call: the struct's last field in C.
-    pub fn writer(&self) -> RtcpWriter {
-        RtcpWriter {
-            length: self.length,
-            padded: self.padded,
-            cname: self.cname,
-            closed: self.closed,
-        }
-    }
-}
 
 /// Whether the static library was there.
 pub fn present() -> bool {

@@ -81,10 +81,13 @@ fn faults(given: &Given) -> Vec<Refusal> {
     let bad_padding = Refusal::invalid_padding(padding);
     match given {
         Given::Report { blocks, .. } => {
-            fault(blocks.len() > 31, Refusal::too_many_blocks(blocks.len()));
+            let count = blocks.fractions.len();
+            let disagree = (blocks.losses.len(), blocks.words.len()) != (count, 5 * count);
+            fault(disagree, Refusal::LISTS_DISAGREE);
+            fault(count > 31, Refusal::too_many_blocks(count));
             fault(padding_holds, bad_padding);
-            for lost in blocks.iter().map(|block| block.cumulative_lost) {
-                fault(lost >= 1 << 24, Refusal::loss_too_large(lost));
+            for lost in &blocks.losses {
+                fault(*lost >= 1 << 24, Refusal::loss_too_large(*lost));
             }
         }
         Given::Sdes { lists, .. } => match lists.split() {
@@ -140,7 +143,7 @@ pub fn written_packet(given: &Given) -> Packet {
         } => Content::Report {
             ssrc: *ssrc,
             sender: *sender,
-            blocks: blocks.clone(),
+            blocks: blocks.split().expect("the lists agree"),
             extension: Vec::new(),
         },
         Given::Sdes { lists, .. } => Content::Sdes {

@@ -26,7 +26,7 @@ pub use read::{
 pub use refusal::{Answer, Refusal};
 pub use walk::{item_step, open, open_items, open_sdes, sdes_step, step, SdesWalk, SDES_LIMIT};
 pub use write::{
-    size, size_of_chunk, size_of_item, write, write_chunk, write_item, ChunkLists, Given,
-    ItemLists, SdesLists, CHUNK_LIMIT, PACKET_LIMIT,
+    size, size_of_chunk, size_of_item, write, write_chunk, write_item, BlockLists, ChunkLists,
+    Given, ItemLists, SdesLists, CHUNK_LIMIT, PACKET_LIMIT,
 };
 pub use writer::Writer;

@@ -1,17 +1,18 @@
-//! All parts of a packet or a datagram at once, as the numbers of a list: what
-//! reading gives, in the rows that include/rtcp.h names. The places are those of
-//! the layout.
+//! All parts of a packet or a datagram at once, as the numbers of lists: what
+//! reading gives, in the lists and rows that include/rtcp.h names. The places are
+//! those of the layout.
 
 use crate::compound::read_compound;
 use crate::layout::{layout, layout_chunk, layout_item};
 use crate::packet::*;
 use crate::read::read_as;
 use crate::refusal::{Answer, Refusal};
+use crate::write::BlockLists;
 
 /// What a list is of.
 #[derive(Clone, Copy, Debug, PartialEq, Eq, Hash)]
 pub enum Listing {
-    /// The blocks of an SR or an RR.
+    /// The blocks of an SR or an RR, in three lists: fractions, losses and words.
     Blocks(Kind),
     /// The chunks of an SDES, with their items.
     Items,
@@ -27,36 +28,43 @@ impl Listing {
         Listing::Packets,
     ];
 
-    /// The numbers that there are.
-    pub fn numbers(self, bytes: &[u8]) -> Answer<Vec<u64>> {
+    /// The numbers that there are, list by list.
+    pub fn numbers(self, bytes: &[u8]) -> Answer<Vec<Vec<u64>>> {
         if self == Listing::Packets {
-            return Ok(packet_rows(&read_compound(bytes)?));
+            return Ok(vec![packet_rows(&read_compound(bytes)?)]);
         }
         let kind = match self {
             Listing::Blocks(kind) => kind,
             _ => Kind::Sdes,
         };
         Ok(match read_as(kind, bytes)?.content {
-            Content::Report { blocks, .. } => blocks
-                .iter()
-                .flat_map(|block| block.numbers().map(u64::from))
-                .collect(),
-            Content::Sdes { chunks } => chunk_rows(&chunks),
+            Content::Report { blocks, .. } => block_lists(&blocks),
+            Content::Sdes { chunks } => vec![chunk_rows(&chunks)],
             _ => Vec::new(),
         })
     }
 
-    /// The numbers at the list's start, and how many. A list that is too short
-    /// gets 10, after every other refusal.
-    pub fn fill(self, bytes: &[u8], list: &mut [u64]) -> Answer<u64> {
+    /// The numbers at the start of each list, and how many blocks or numbers these
+    /// are. Where a list is too short there is 10, after every other refusal.
+    pub fn fill(self, bytes: &[u8], lists: &mut [Vec<u64>]) -> Answer<u64> {
         let numbers = self.numbers(bytes)?;
-        let count = numbers.len() as u64;
-        let Some(start) = list.get_mut(..numbers.len()) else {
+        let count = numbers[0].len() as u64;
+        let mut pairs = lists.iter().zip(&numbers);
+        if pairs.any(|(list, numbers)| list.len() < numbers.len()) {
             return Err(Refusal::output_too_small(count));
-        };
-        start.copy_from_slice(&numbers);
+        }
+        for (list, numbers) in lists.iter_mut().zip(&numbers) {
+            list[..numbers.len()].copy_from_slice(numbers);
+        }
         Ok(count)
     }
+}
+
+fn block_lists(blocks: &[Block]) -> Vec<Vec<u64>> {
+    let lists = BlockLists::of(blocks);
+    let wide = |words: &[u32]| words.iter().map(|word| (*word).into()).collect();
+    let fractions = lists.fractions.iter().map(|fraction| (*fraction).into());
+    vec![fractions.collect(), wide(&lists.losses), wide(&lists.words)]
 }
 
 /// A row for each item, and one for the closing zero of each chunk.

@@ -71,6 +71,17 @@ impl Block {
             self.delay,
         ]
     }
+
+    /// What is not its fraction and its loss, in the order of the wire.
+    pub fn words(&self) -> [u32; 5] {
+        [
+            self.ssrc,
+            self.extended_sequence,
+            self.jitter,
+            self.last_sr,
+            self.delay,
+        ]
+    }
 }
 
 /// What an SR has and an RR has not.

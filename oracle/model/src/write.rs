@@ -6,6 +6,15 @@ use crate::refusal::{Answer, Refusal};
 pub const PACKET_LIMIT: usize = 262_144;
 pub const CHUNK_LIMIT: usize = 262_140;
 
+/// The blocks of a report, lent as lists: of each a fraction lost, a cumulative
+/// lost, and its five other words in the order of the wire.
+#[derive(Clone, Debug, Default, PartialEq, Eq, Hash)]
+pub struct BlockLists {
+    pub fractions: Vec<u8>,
+    pub losses: Vec<u32>,
+    pub words: Vec<u32>,
+}
+
 /// The items of an SDES packet or of a lone chunk, lent as flat lists.
 #[derive(Clone, Debug, Default, PartialEq, Eq, Hash)]
 pub struct ItemLists {
@@ -34,7 +43,7 @@ pub enum Given {
     Report {
         ssrc: u32,
         sender: Option<SenderInfo>,
-        blocks: Vec<Block>,
+        blocks: BlockLists,
         padding: u64,
     },
     Sdes {
@@ -139,8 +148,8 @@ pub(crate) fn packet_bytes(given: &Given) -> Answer<Vec<u8>> {
             blocks,
             padding,
         } => {
-            check_report(blocks, *padding)?;
-            put_report(&mut bytes, *ssrc, sender.as_ref(), blocks);
+            let blocks = check_report(blocks, *padding)?;
+            put_report(&mut bytes, *ssrc, sender.as_ref(), &blocks);
             blocks.len()
         }
         Given::Sdes { lists, padding } => {
@@ -206,17 +215,18 @@ fn check_padding(padding: u64) -> Answer<()> {
     Ok(())
 }
 
-fn check_report(blocks: &[Block], padding: u64) -> Answer<()> {
+fn check_report(lists: &BlockLists, padding: u64) -> Answer<Vec<Block>> {
+    let blocks = lists.split()?;
     if blocks.len() > 31 {
         return Err(Refusal::too_many_blocks(blocks.len()));
     }
     check_padding(padding)?;
-    for block in blocks {
+    for block in &blocks {
         if block.cumulative_lost > 0xFF_FFFF {
             return Err(Refusal::loss_too_large(block.cumulative_lost));
         }
     }
-    Ok(())
+    Ok(blocks)
 }
 
 fn put_report(bytes: &mut Vec<u8>, ssrc: u32, sender: Option<&SenderInfo>, blocks: &[Block]) {
@@ -240,6 +250,35 @@ fn put_report(bytes: &mut Vec<u8>, ssrc: u32, sender: Option<&SenderInfo>, block
 
 fn sum(numbers: &[u64]) -> u128 {
     numbers.iter().map(|number| u128::from(*number)).sum()
+}
+
+impl BlockLists {
+    pub fn of(blocks: &[Block]) -> BlockLists {
+        BlockLists {
+            fractions: blocks.iter().map(|block| block.fraction_lost).collect(),
+            losses: blocks.iter().map(|block| block.cumulative_lost).collect(),
+            words: blocks.iter().flat_map(Block::words).collect(),
+        }
+    }
+
+    /// The blocks one by one, or 24.
+    pub fn split(&self) -> Answer<Vec<Block>> {
+        let count = self.fractions.len();
+        if self.losses.len() != count || self.words.len() != 5 * count {
+            return Err(Refusal::LISTS_DISAGREE);
+        }
+        Ok((0..count)
+            .map(|i| Block {
+                ssrc: self.words[5 * i],
+                fraction_lost: self.fractions[i],
+                cumulative_lost: self.losses[i],
+                extended_sequence: self.words[5 * i + 1],
+                jitter: self.words[5 * i + 2],
+                last_sr: self.words[5 * i + 3],
+                delay: self.words[5 * i + 4],
+            })
+            .collect())
+    }
 }
 
 impl ItemLists {

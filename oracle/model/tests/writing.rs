@@ -29,6 +29,25 @@ fn report_order() {
     };
     let large = lost(u32::MAX);
     assert_eq!(size(&give_rr(vec![large; 32], 1)), refused(18, 32, 31));
+    for short in 0..3 {
+        let Given::Report { mut blocks, .. } = give_rr(vec![large; 32], 1) else {
+            panic!("a report");
+        };
+        match short {
+            0 => drop(blocks.fractions.pop()),
+            1 => drop(blocks.losses.pop()),
+            _ => drop(blocks.words.pop()),
+        }
+        let given = Given::Report {
+            ssrc: 1,
+            sender: None,
+            blocks,
+            padding: 1,
+        };
+        assert_eq!(size(&given), refused(24, 0, 0));
+        let call = Call::Add { given, buffer: 0 };
+        assert_eq!(Book::default().turn(&call), refused(24, 0, 0));
+    }
     assert_eq!(size(&give_rr(vec![large], 1)), refused(11, 1, 0));
     assert_eq!(
         size(&give_rr(vec![lost(1), lost(1 << 24), large], 0)),
@@ -58,7 +77,7 @@ fn report_bytes() {
             packet_count: 0x1112_1314,
             octet_count: 0x1516_1718,
         }),
-        blocks: Vec::new(),
+        blocks: BlockLists::default(),
         padding: 0,
     };
     let bytes = written(&sender).expect("it is written");

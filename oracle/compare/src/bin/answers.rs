@@ -1,14 +1,12 @@
-//! Prints document 01's answers to the rows for writing among the lines of
-//! standard input: `NAME ROW` gives `NAME: ANSWER`. See `compare::write_row`.
+//! Prints document 01's answers to the rows of the program `rows`:
+//!
+//!     answers < crates/rows/stdin | diff - crates/rows/stdout
 
-use compare::write_row::{expected, is_write};
+use compare::program::lines;
 
 fn main() {
-    for line in std::io::stdin().lines() {
-        let line = line.expect("text");
-        let (name, row) = line.split_once(' ').expect("a name and a row");
-        if is_write(row) {
-            println!("{name}: {}", expected(row));
-        }
+    let input = std::io::read_to_string(std::io::stdin()).expect("text");
+    for line in lines(&input) {
+        println!("{line}");
     }
 }

@@ -3,15 +3,9 @@
 //!
 //!     sample inputs|answers|write-inputs|write-answers [COUNT] [SEED]
 //!
-//! The last two forms are of rows for writing, and in the form of
-//! `compare::write_row`; the others are of readings.
-//!
-//! An input is a line `NAME FUNCTION NUMBER.. BYTES`, an answer a line
-//! `NAME: ANSWER`; both lists have the same names in the same order. The function
-//! is a C function without `rtcp_`, its numbers come before its bytes, and bytes
-//! are hexadecimal, `-` for none. The answer is `ok` with every field as
-//! `NAME=NUMBER`, a part as `NAME=OFFSET+LENGTH:BYTES`, or a refusal as
-//! `N(FIRST, SECOND)`; a step's walk follows on a refusal too.
+//! The last two forms are of rows for writing, the others of readings. An input is a
+//! line `NAME ROW`, an answer a line `NAME: ANSWER`, as `compare::program` has them;
+//! both lists have the same names in the same order.
 //!
 //! A name that starts with `rust` says that the answer is the Rust's; what the
 //! Rust has no accessor for (extension, tail and padding bytes, the size of a lone
@@ -50,7 +44,7 @@ fn main() {
     for line in lines(sorts, count, seed) {
         match form {
             "inputs" => println!("{} {}", line.name, line.input),
-            "answers" => println!("{}: {}", line.name, line.answer),
+            "answers" => println!("{}:{}", line.name, line.answer),
             _ => panic!("the form is inputs or answers, for writing with write- before it"),
         }
     }

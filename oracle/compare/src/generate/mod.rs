@@ -16,13 +16,25 @@ pub use writings::{item_lists, sdes_lists};
 /// The byte that buffers and lists are filled with before a call.
 pub const STALE: u8 = 0x5A;
 
-/// A list of stale numbers, as wide as the listing's.
-pub fn stale_list(listing: Listing, length: usize) -> Vec<u64> {
-    let number = match listing {
-        Listing::Packets => u64::from_be_bytes([STALE; 8]),
-        _ => u32::from_be_bytes([STALE; 4]).into(),
+/// Lists of stale numbers, each as wide as the listing's.
+pub fn stale_lists(listing: Listing, lengths: &[usize]) -> Vec<Vec<u64>> {
+    let word = u32::from_be_bytes([STALE; 4]).into();
+    let numbers: &[u64] = match listing {
+        Listing::Blocks(_) => &[STALE.into(), word, word],
+        Listing::Items => &[word],
+        Listing::Packets => &[u64::from_be_bytes([STALE; 8])],
     };
-    vec![number; length]
+    let lists = numbers.iter().zip(lengths);
+    lists.map(|(number, len)| vec![*number; *len]).collect()
+}
+
+/// The lengths that the lists must have; some, where the reading is refused.
+pub fn lengths(listing: Listing, bytes: &[u8]) -> Vec<usize> {
+    match (listing.numbers(bytes), listing) {
+        (Ok(lists), _) => lists.iter().map(Vec::len).collect(),
+        (Err(_), Listing::Blocks(_)) => vec![8; 3],
+        _ => vec![8],
+    }
 }
 
 /// Nothing, around the size wanted, or more.
@@ -45,7 +57,7 @@ fn room(size: Answer<u64>) -> usize {
     size.map_or(8, |size| size as usize)
 }
 
-/// A list of any length, often around the right one or around the one from which
+/// Lists of any length, often around the right one or around the one from which
 /// on items are not counted first.
 fn list(rng: &mut Rng) -> Operation {
     let listing = rng.pick(&Listing::ALL);
@@ -55,11 +67,12 @@ fn list(rng: &mut Rng) -> Operation {
         Listing::Packets => datagram(rng),
     };
     let wanted = if listing == Listing::Items && rng.once_in(4) {
-        bytes.len() / 2 * 5
+        vec![bytes.len() / 2 * 5]
     } else {
-        listing.numbers(&bytes).map_or(8, |numbers| numbers.len())
+        lengths(listing, &bytes)
     };
-    let before = stale_list(listing, length_around(rng, wanted));
+    let lent = wanted.iter().map(|wanted| length_around(rng, *wanted));
+    let before = stale_lists(listing, &lent.collect::<Vec<_>>());
     Operation::List(listing, bytes, before)
 }
 
@@ -140,6 +153,9 @@ pub fn request(rng: &mut Rng, so_far: u64) -> Option<Given> {
     } else {
         kind(rng)
     };
+    if kind.is_report() && rng.once_in(12) {
+        return Some(disturbed_report(rng));
+    }
     Some(given(rng, kind))
 }
 
@@ -193,6 +209,8 @@ pub enum Sort {
     Write,
     WriteChunk,
     WriteItem,
+    /// A report whose lists of blocks disagree.
+    WriteDisturbed,
     ReadCompound,
     Open,
     Step,
@@ -206,7 +224,7 @@ pub enum Sort {
 }
 
 impl Sort {
-    pub const ALL: [Sort; 20] = [
+    pub const ALL: [Sort; 21] = [
         Sort::ReadAs,
         Sort::ReadBlock,
         Sort::ReadItem,
@@ -217,6 +235,7 @@ impl Sort {
         Sort::Write,
         Sort::WriteChunk,
         Sort::WriteItem,
+        Sort::WriteDisturbed,
         Sort::ReadCompound,
         Sort::Open,
         Sort::Step,
@@ -285,6 +304,14 @@ pub fn operation(rng: &mut Rng, sort: Sort) -> Operation {
             let item = given_item(rng);
             let buffer = buffer(rng, room(size_of_item(&item)));
             Operation::WriteItem(item, buffer)
+        }
+        Sort::WriteDisturbed => {
+            let given = disturbed_report(rng);
+            let buffer = buffer(rng, room(size(&given)));
+            if rng.once_in(2) {
+                return Operation::Add(writer(rng), given, buffer);
+            }
+            Operation::Write(given, buffer)
         }
         Sort::ReadCompound => Operation::ReadCompound(datagram(rng)),
         Sort::Open => Operation::Open(datagram(rng)),

@@ -99,6 +99,33 @@ pub(super) fn disturb(rng: &mut Rng, lists: &mut ItemLists) {
     }
 }
 
+/// A report whose lists of blocks disagree, or that has one block more.
+pub(super) fn disturbed_report(rng: &mut Rng) -> Given {
+    let kind = rng.pick(&[Kind::Sr, Kind::Rr]);
+    let mut report = given(rng, kind);
+    if let Given::Report { blocks, .. } = &mut report {
+        disturb_blocks(rng, blocks);
+    }
+    report
+}
+
+fn disturb_blocks(rng: &mut Rng, lists: &mut BlockLists) {
+    match rng.below(8) {
+        0 => drop(lists.fractions.pop()),
+        1 => lists.fractions.push(1),
+        2 => drop(lists.losses.pop()),
+        3 => lists.losses.push(u32::MAX),
+        4 => drop(lists.words.pop()),
+        5 => lists.words.push(1),
+        6 => lists.words.extend([1; 5]),
+        _ => {
+            lists.fractions.push(1);
+            lists.losses.push(2);
+            lists.words.extend([3; 5]);
+        }
+    }
+}
+
 pub(super) fn given_items(rng: &mut Rng) -> Vec<Item> {
     let count = rng.pick(&[0, 0, 1, 1, 1, 2, 3]);
     many(rng, count, given_item)
@@ -166,7 +193,7 @@ pub fn given(rng: &mut Rng, kind: Kind) -> Given {
             Given::Report {
                 ssrc: word(rng),
                 sender: (kind == Kind::Sr).then(|| sender_info(rng)),
-                blocks,
+                blocks: BlockLists::of(&blocks),
                 padding,
             }
         }

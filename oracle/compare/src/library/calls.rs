@@ -1,15 +1,14 @@
 //! The compound writer's calls.
 
-use super::writing::LentItems;
-use super::{broken, walked, Library};
+use super::writing::{LentBlocks, LentItems};
+use super::{broken, shown, Library};
 use crate::view::View;
-use crate::write_row::flat;
 use library::*;
 use model::{Given, Writer};
 
 impl Library {
     /// An add as C answers it, on a buffer as it stands.
-    pub fn add(&self, writer: RtcpWriter, given: &Given, buf: &mut [u8]) -> Option<RtcpCall> {
+    pub fn add(&self, writer: &mut RtcpWriter, given: &Given, buf: &mut [u8]) -> Option<RtcpCall> {
         match given {
             Given::Report { .. } => self.add_report(writer, given, buf),
             Given::Sdes { lists, padding } => {
@@ -21,7 +20,7 @@ impl Library {
                     bytes,
                 } = self.lend_items(&lists.items);
                 rtcp_writer_add_sdes(
-                    buf, writer, &ssrcs, &counts, &types, &prefixes, &values, &bytes, *padding,
+                    writer, buf, &ssrcs, &counts, &types, &prefixes, &values, &bytes, *padding,
                 )
             }
             Given::Bye {
@@ -30,7 +29,7 @@ impl Library {
                 padding,
             } => {
                 let (sources, reason) = (self.lend(sources), self.lend(reason));
-                rtcp_writer_add_bye(buf, writer, &sources, &reason, *padding)
+                rtcp_writer_add_bye(writer, buf, &sources, &reason, *padding)
             }
             Given::App {
                 subtype,
@@ -40,12 +39,17 @@ impl Library {
                 padding,
             } => {
                 let (name, data) = (self.lend(name), self.lend(data));
-                rtcp_writer_add_app(buf, writer, *subtype, *ssrc, &name, &data, *padding)
+                rtcp_writer_add_app(writer, buf, *subtype, *ssrc, &name, &data, *padding)
             }
         }
     }
 
-    fn add_report(&self, writer: RtcpWriter, given: &Given, buf: &mut [u8]) -> Option<RtcpCall> {
+    fn add_report(
+        &self,
+        writer: &mut RtcpWriter,
+        given: &Given,
+        buf: &mut [u8],
+    ) -> Option<RtcpCall> {
         let Given::Report {
             ssrc,
             sender,
@@ -55,18 +59,24 @@ impl Library {
         else {
             return None;
         };
-        let blocks = self.lend(&flat(blocks));
+        let LentBlocks {
+            fractions,
+            losses,
+            words,
+        } = self.lend_blocks(blocks);
         match sender {
-            None => rtcp_writer_add_rr(buf, writer, *ssrc, &blocks, *padding),
+            None => rtcp_writer_add_rr(writer, buf, *ssrc, &fractions, &losses, &words, *padding),
             Some(sender) => rtcp_writer_add_sr(
-                buf,
                 writer,
+                buf,
                 *ssrc,
                 sender.ntp_time,
                 sender.rtp_time,
                 sender.packet_count,
                 sender.octet_count,
-                &blocks,
+                &fractions,
+                &losses,
+                &words,
                 *padding,
             ),
         }
@@ -74,22 +84,44 @@ impl Library {
 
     pub(super) fn added(&self, writer: Writer, given: &Given, before: &[u8]) -> Option<View> {
         let [one, other] = SET.map(|set| {
-            let (writer, mut buf) = (handed(writer, set), self.lend(before));
-            let call = self.add(writer, given, &mut buf)?;
-            let mut view = show_call(writer, call);
+            let mut buf = self.lend(before);
+            let mut view = self.called(writer, set, |writer| self.add(writer, given, &mut buf))?;
             view.bytes("buffer", &buf);
-            Some((view, call))
+            Some(view)
         });
-        both(one?, other?)
+        both(one?, &other?)
     }
 
     pub(super) fn closed(&self, writer: Writer) -> Option<View> {
-        let [one, other] = SET.map(|set| {
-            let writer = handed(writer, set);
-            let call = rtcp_writer_close(writer)?;
-            Some((show_call(writer, call), call))
-        });
-        both(one?, other?)
+        let [one, other] = SET.map(|set| self.called(writer, set, rtcp_writer_close));
+        both(one?, &other?)
+    }
+
+    /// A call that is lent the writer: its answer, and the writer after it. On a
+    /// refusal that is the one that was lent, else each flag is 0 or 1.
+    fn called(
+        &self,
+        writer: Writer,
+        set: u64,
+        call: impl FnOnce(&mut RtcpWriter) -> Option<RtcpCall>,
+    ) -> Option<View> {
+        let lent = handed(writer, set);
+        let mut after = self.lend(&[lent]);
+        let call = call(&mut after[0])?;
+        let after = after[0];
+        let mut view = shown(call, |_| {});
+        let mut flags = [after.closed, after.padded, after.cname];
+        if call.number != 0 {
+            if after != lent {
+                broken(&mut view, "another writer with a refusal");
+            }
+            flags = flags.map(|flag| u64::from(flag != 0));
+        }
+        view.number("so_far", after.length);
+        view.number("closed", flags[0]);
+        view.number("padded", flags[1]);
+        view.number("cname", flags[2]);
+        Some(view)
     }
 }
 
@@ -106,32 +138,10 @@ fn handed(writer: Writer, set: u64) -> RtcpWriter {
     }
 }
 
-/// The answer, and the writer with flags of 0 and 1, or on a refusal the one that
-/// went in.
-fn show_call(writer: RtcpWriter, call: RtcpCall) -> View {
-    let keep = |kept: &mut RtcpCall| {
-        kept.length = writer.length;
-        kept.padded = writer.padded;
-        kept.cname = writer.cname;
-        kept.closed = writer.closed;
-    };
-    let mut view = walked(call, keep, |_| {});
-    let flags = [call.closed, call.padded, call.cname].map(|flag| match call.number {
-        0 => flag,
-        _ => u64::from(flag != 0),
-    });
-    view.number("so_far", call.length);
-    view.number("closed", flags[0]);
-    view.number("padded", flags[1]);
-    view.number("cname", flags[2]);
-    view
-}
-
 /// What a set flag's number is does not matter.
-fn both(one: (View, RtcpCall), other: (View, RtcpCall)) -> Option<View> {
-    let (mut view, call) = one;
-    if view != other.0 || (call.number == 0 && call != other.1) {
-        broken(&mut view, "another number for a set flag");
+fn both(mut one: View, other: &View) -> Option<View> {
+    if one != *other {
+        broken(&mut one, "another number for a set flag");
     }
-    Some(view)
+    Some(one)
 }

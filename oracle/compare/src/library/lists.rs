@@ -5,23 +5,38 @@ use crate::view::{Value, View};
 use library::*;
 use model::{Kind, Listing};
 
+/// What a call that fills lists answers, and the lists after it.
+type Filled = (RtcpWritten, Vec<Vec<u64>>);
+
 impl Library {
-    pub(super) fn listed(&self, listing: Listing, bytes: &[u8], before: &[u64]) -> Option<View> {
+    pub(super) fn listed(
+        &self,
+        listing: Listing,
+        bytes: &[u8],
+        before: &[Vec<u64>],
+    ) -> Option<View> {
         let s = self.lend(bytes);
         let filled = match listing {
             Listing::Blocks(Kind::Sr) => {
-                self.narrow(before, |list| rtcp_sr_report_blocks(&s, list))?
+                self.fill_blocks(before, |f, l, w| rtcp_sr_report_blocks(&s, f, l, w))?
             }
-            Listing::Blocks(_) => self.narrow(before, |list| rtcp_rr_report_blocks(&s, list))?,
-            Listing::Items => self.narrow(before, |list| rtcp_sdes_items(&s, list))?,
+            Listing::Blocks(_) => {
+                self.fill_blocks(before, |f, l, w| rtcp_rr_report_blocks(&s, f, l, w))?
+            }
+            Listing::Items => {
+                let mut rows = self.lend(&words(&before[0]));
+                (rtcp_sdes_items(&s, &mut rows)?, vec![wide(&rows)])
+            }
             Listing::Packets => {
-                let mut list = self.lend(before);
-                (rtcp_compound_packets(&s, &mut list)?, list.to_vec())
+                let mut rows = self.lend(&before[0]);
+                (rtcp_compound_packets(&s, &mut rows)?, vec![rows.to_vec()])
             }
         };
-        let (written, list) = &filled;
+        let (written, lists) = &filled;
         let mut view = shown(*written, |view| view.number("listed", written.size));
-        view.put("list", Value::Numbers(list.clone()));
+        for list in lists {
+            view.put("list", Value::Numbers(list.clone()));
+        }
         if let Listing::Blocks(kind) = listing {
             if self.read(kind, &s, before)? != filled {
                 broken(&mut view, "a report that is read otherwise with its blocks");
@@ -31,20 +46,18 @@ impl Library {
         Some(view)
     }
 
-    /// A report and its blocks in one call, as an answer of the call that fills the list. One whose numbers are not those of the report by itself
+    /// A report and its blocks in one call, as an answer of the call that fills the lists. One whose numbers are not those of the report by itself
     /// has no size that any list has.
-    fn read(&self, kind: Kind, s: &[u8], before: &[u64]) -> Option<(RtcpWritten, Vec<u64>)> {
-        self.narrow(before, |list| {
+    fn read(&self, kind: Kind, s: &[u8], before: &[Vec<u64>]) -> Option<Filled> {
+        self.fill_blocks(before, |f, l, w| {
             let (written, is_parsed) = match kind {
                 Kind::Sr => {
-                    let sr = rtcp_sr_read(s, list)?;
-                    let head = [sr.number, sr.first, sr.second];
-                    (written(head, sr.n_reports), sr == rtcp_sr_parse(s)?)
+                    let sr = rtcp_sr_read(s, f, l, w)?;
+                    (written(sr.head(), sr.n_reports), sr == rtcp_sr_parse(s)?)
                 }
                 _ => {
-                    let rr = rtcp_rr_read(s, list)?;
-                    let head = [rr.number, rr.first, rr.second];
-                    (written(head, rr.n_reports), rr == rtcp_rr_parse(s)?)
+                    let rr = rtcp_rr_read(s, f, l, w)?;
+                    (written(rr.head(), rr.n_reports), rr == rtcp_rr_parse(s)?)
                 }
             };
             let size = if written.number == 0 && !is_parsed {
@@ -56,28 +69,32 @@ impl Library {
         })
     }
 
-    /// A list of 32-bit numbers.
-    fn narrow(
+    /// Lends the three lists of blocks.
+    fn fill_blocks(
         &self,
-        before: &[u64],
-        fill: impl FnOnce(&mut [u32]) -> Option<RtcpWritten>,
-    ) -> Option<(RtcpWritten, Vec<u64>)> {
-        let before: Vec<u32> = before.iter().map(|number| *number as u32).collect();
-        let mut list = self.lend(&before);
-        let written = fill(&mut list)?;
-        Some((
-            written,
-            list.iter().map(|number| (*number).into()).collect(),
-        ))
+        before: &[Vec<u64>],
+        fill: impl FnOnce(&mut [u8], &mut [u32], &mut [u32]) -> Option<RtcpWritten>,
+    ) -> Option<Filled> {
+        let fractions: Vec<u8> = before[0].iter().map(|number| *number as u8).collect();
+        let mut fractions = self.lend(&fractions);
+        let mut losses = self.lend(&words(&before[1]));
+        let mut five = self.lend(&words(&before[2]));
+        let written = fill(&mut fractions, &mut losses, &mut five)?;
+        Some((written, vec![wide(&fractions), wide(&losses), wide(&five)]))
     }
 }
 
-fn written(head: [u64; 3], n_reports: u64) -> RtcpWritten {
-    let [number, first, second] = head;
+fn words(numbers: &[u64]) -> Vec<u32> {
+    numbers.iter().map(|number| *number as u32).collect()
+}
+
+fn wide<T: Copy + Into<u64>>(numbers: &[T]) -> Vec<u64> {
+    numbers.iter().map(|number| (*number).into()).collect()
+}
+
+fn written(head: Head, n_reports: u64) -> RtcpWritten {
     RtcpWritten {
-        number,
-        first,
-        second,
-        size: 7 * n_reports,
+        size: n_reports,
+        ..RtcpWritten::bare(head)
     }
 }

@@ -96,9 +96,6 @@ fn show_blocks(view: &mut View, count: u64, block: impl Fn(u64) -> Option<RtcpBl
 }
 
 fn show_block(view: &mut View, block: &RtcpBlock) {
-    if block.reserved != 0 {
-        broken(view, "reserved");
-    }
     view.number("block_ssrc", block.ssrc);
     view.number("fraction_lost", block.fraction_lost);
     view.number("cumulative_lost", block.cumulative_lost);

@@ -2,10 +2,9 @@
 
 use super::{shown, Library};
 use crate::view::{Value, View};
-use crate::write_row::flat;
 use library::guard::{Guarded, Number};
 use library::*;
-use model::{Block, ChunkLists, Given, Item, ItemLists, Refusal, SdesLists, SenderInfo};
+use model::{BlockLists, ChunkLists, Given, Item, ItemLists, Refusal, SdesLists, SenderInfo};
 
 /// The lists of items in guarded memory.
 pub(super) struct LentItems {
@@ -15,12 +14,27 @@ pub(super) struct LentItems {
     pub bytes: Guarded<u8>,
 }
 
+/// The lists of blocks in guarded memory.
+pub(super) struct LentBlocks {
+    pub fractions: Guarded<u8>,
+    pub losses: Guarded<u32>,
+    pub words: Guarded<u32>,
+}
+
 /// What a write and its size answer.
 type Answers = (Option<RtcpWritten>, Option<RtcpWritten>);
 
 impl Library {
     pub(super) fn lend<T: Number>(&self, items: &[T]) -> Guarded<T> {
         Guarded::new(items, self.0)
+    }
+
+    pub(super) fn lend_blocks(&self, blocks: &BlockLists) -> LentBlocks {
+        LentBlocks {
+            fractions: self.lend(&blocks.fractions),
+            losses: self.lend(&blocks.losses),
+            words: self.lend(&blocks.words),
+        }
     }
 
     pub(super) fn lend_items(&self, items: &ItemLists) -> LentItems {
@@ -75,14 +89,18 @@ impl Library {
         buf: &mut [u8],
         ssrc: u32,
         sender: Option<&SenderInfo>,
-        blocks: &[Block],
+        blocks: &BlockLists,
         padding: u64,
     ) -> Answers {
-        let blocks = self.lend(&flat(blocks));
+        let LentBlocks {
+            fractions,
+            losses,
+            words,
+        } = self.lend_blocks(blocks);
         let Some(sender) = sender else {
             return (
-                rtcp_rr_write(buf, ssrc, &blocks, padding),
-                rtcp_rr_size(&blocks, padding),
+                rtcp_rr_write(buf, ssrc, &fractions, &losses, &words, padding),
+                rtcp_rr_size(&fractions, &losses, &words, padding),
             );
         };
         let written = rtcp_sr_write(
@@ -92,10 +110,13 @@ impl Library {
             sender.rtp_time,
             sender.packet_count,
             sender.octet_count,
-            &blocks,
+            &fractions,
+            &losses,
+            &words,
             padding,
         );
-        (written, rtcp_sr_size(&blocks, padding))
+        let size = rtcp_sr_size(&fractions, &losses, &words, padding);
+        (written, size)
     }
 
     fn write_sdes(&self, buf: &mut [u8], lists: &SdesLists, padding: u64) -> Answers {

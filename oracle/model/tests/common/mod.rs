@@ -53,7 +53,7 @@ pub fn give_rr(blocks: Vec<Block>, padding: u64) -> Given {
     Given::Report {
         ssrc: 0x1122_3344,
         sender: None,
-        blocks,
+        blocks: BlockLists::of(&blocks),
         padding,
     }
 }

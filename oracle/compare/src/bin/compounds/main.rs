@@ -4,8 +4,7 @@
 //!
 //! COUNT lists of writer calls against the book of document 01; the real
 //! datagrams (`compare::captures`) with the answer that each must get; and long
-//! datagrams, whose time per byte must stay flat. The exit status is 1 where
-//! something differs.
+//! datagrams. The exit status is 1 where something differs.
 
 mod long;
 mod real;

@@ -3,8 +3,6 @@
 use compare::generate::STALE;
 use compare::limits::lists;
 use compare::operation::Operation;
-use library::guard::{Guarded, Side};
-use library::*;
 use model::*;
 
 #[derive(Clone)]
@@ -53,58 +51,6 @@ impl Case {
         operations.push(Draw(&self.bytes).write());
         operations.push(Draw(&self.bytes).call());
         operations
-    }
-
-    /// A run of numbers that are no blocks (no whole number of them, or a
-    /// fraction above 255) gets 24 before anything else, but for 26 and 29 of a
-    /// writer.
-    pub fn other_blocks(&self) -> Option<String> {
-        let mut draw = Draw(&self.bytes);
-        let numbers: Vec<u32> = draw.many(40, Draw::word);
-        let mut fractions = numbers.iter().skip(1).step_by(7);
-        if numbers.len().is_multiple_of(7) && fractions.all(|fraction| *fraction < 256) {
-            return None;
-        }
-        let blocks = Guarded::new(&numbers, Side::End);
-        let before = vec![STALE; draw.below(60)];
-        let mut buf = Guarded::new(&before, Side::End);
-        let padding = draw.padding();
-        let answers = [
-            rtcp_rr_write(&mut buf, 1, &blocks, padding),
-            rtcp_sr_write(&mut buf, 1, 2, 3, 4, 5, &blocks, padding),
-            rtcp_rr_size(&blocks, padding),
-            rtcp_sr_size(&blocks, padding),
-        ];
-        let wanted = RtcpWritten {
-            number: 24,
-            ..RtcpWritten::default()
-        };
-        let writer = draw.flags();
-        let calls = [
-            rtcp_writer_add_rr(&mut buf, writer, 1, &blocks, padding),
-            rtcp_writer_add_sr(&mut buf, writer, 1, 2, 3, 4, 5, &blocks, padding),
-        ];
-        let turned = turned_down(writer);
-        let right = answers.iter().flatten().all(|answer| *answer == wanted)
-            && calls.iter().flatten().all(|call| *call == turned)
-            && *buf == before[..];
-        (!right).then(|| format!("blocks {numbers:?}, padding {padding}: {answers:?}, {calls:?}"))
-    }
-}
-
-/// What a report without blocks that fit together gets of a writer.
-fn turned_down(writer: RtcpWriter) -> RtcpCall {
-    RtcpCall {
-        number: match writer {
-            RtcpWriter { closed: 1.., .. } => 26,
-            RtcpWriter { padded: 1.., .. } => 29,
-            _ => 24,
-        },
-        length: writer.length,
-        padded: writer.padded,
-        cname: writer.cname,
-        closed: writer.closed,
-        ..RtcpCall::default()
     }
 }
 
@@ -166,6 +112,18 @@ impl Draw<'_> {
             last_sr: self.word(),
             delay: self.word(),
         }
+    }
+
+    /// Lists that mostly agree.
+    fn blocks(&mut self) -> BlockLists {
+        let mut blocks = BlockLists::of(&self.many(34, Self::block));
+        match self.byte() % 16 {
+            1 => blocks.fractions = self.run(34),
+            2 => blocks.losses = self.many(34, Self::word),
+            3 => blocks.words = self.many(170, Self::word),
+            _ => {}
+        }
+        blocks
     }
 
     /// Rarely 0, often PRIV.
@@ -270,21 +228,6 @@ impl Draw<'_> {
         Operation::Write(given, buffer)
     }
 
-    /// Any numbers as a writer's state.
-    fn flags(&mut self) -> RtcpWriter {
-        let mut flag = || match self.byte() % 4 {
-            0 | 1 => 0,
-            2 => 1,
-            _ => self.long(),
-        };
-        RtcpWriter {
-            length: flag(),
-            padded: flag(),
-            cname: flag(),
-            closed: flag(),
-        }
-    }
-
     /// A call of the compound writer, from any state.
     fn call(&mut self) -> Operation {
         let byte = self.byte();
@@ -318,7 +261,7 @@ impl Draw<'_> {
                     packet_count: self.word(),
                     octet_count: self.word(),
                 }),
-                blocks: self.many(34, Self::block),
+                blocks: self.blocks(),
                 padding,
             },
             Kind::Sdes => Given::Sdes {

@@ -178,9 +178,6 @@ impl Fuzz {
         for operation in case.operations() {
             self.ask(operation);
         }
-        if let Some(fault) = case.other_blocks() {
-            self.differs(&fault);
-        }
         if self.seen.len() > known {
             self.kept.push(case);
         }

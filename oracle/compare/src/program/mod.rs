@@ -1,0 +1,149 @@
+//! The rows of the program `crates/rows`: their text, and what document 01 answers
+//! to them.
+//!
+//! A row is `FUNCTION NUMBER.. BYTES`: a C function without `rtcp_`, a part of a
+//! packet or of an item, `writer_set`, which sets the compound writer, or a form that
+//! lends records (`rr_records`) or holds its bytes (`held_step`). Bytes are
+//! digits after an `x`, and `*N` is the last byte N times more. An answer is
+//! `NUMBER.. BYTES`: every field of a C result in its order; of a part its bytes; of
+//! a write what the size function and the write answer, and the buffer; of a call of
+//! the compound writer its answer, the writer after it, and the buffer.
+//!
+//! In the program's files a name stands before each, and the first line of the input
+//! has the functions' names.
+
+mod read;
+mod write;
+
+pub use write::{answer_of, input, is_write, operation};
+
+use crate::text::from_hex;
+use std::fmt::{Display, Formatter, Result};
+
+/// The space that a buffer is a part of.
+const SPACE: usize = 262_400;
+
+/// Equal bytes from the ninth on are counted.
+const SHOWN: usize = 8;
+
+#[derive(Clone, Debug, Default, PartialEq, Eq)]
+pub struct Row {
+    pub function: String,
+    pub numbers: Vec<u64>,
+    pub bytes: Vec<u8>,
+}
+
+impl Row {
+    pub fn new(function: &str, numbers: &[u64], bytes: &[u8]) -> Row {
+        Row {
+            function: function.to_string(),
+            numbers: numbers.to_vec(),
+            bytes: bytes.to_vec(),
+        }
+    }
+
+    pub fn parse(text: &str) -> Row {
+        let mut words = text.split(' ');
+        let mut row = Row::new(words.next().expect("a function"), &[], &[]);
+        for word in words {
+            match word.split_at(1) {
+                ("x", digits) => row.bytes.extend(from_hex(digits)),
+                ("*", count) => {
+                    let last = *row.bytes.last().expect("a byte");
+                    let count: usize = count.parse().expect("a number");
+                    row.bytes.resize(row.bytes.len() + count, last);
+                }
+                _ => row.numbers.push(word.parse().expect("a number")),
+            }
+        }
+        row
+    }
+
+    /// The numbers from one place to another.
+    fn list(&self, from: u64, to: u64) -> &[u64] {
+        &self.numbers[from as usize..to as usize]
+    }
+
+    /// The numbers from one place to another, each of 32 bits.
+    fn words(&self, from: u64, to: u64) -> Vec<u32> {
+        let word = |n: &u64| u32::try_from(*n).expect("a number of 32 bits");
+        self.list(from, to).iter().map(word).collect()
+    }
+
+    fn word(&self, at: u64) -> u32 {
+        self.words(at, at + 1)[0]
+    }
+
+    /// The bytes up to the place that a number gives, and the others.
+    fn split(&self, at: u64) -> (Vec<u8>, Vec<u8>) {
+        let (first, second) = self.bytes.split_at(self.numbers[at as usize] as usize);
+        (first.to_vec(), second.to_vec())
+    }
+}
+
+impl Display for Row {
+    fn fmt(&self, f: &mut Formatter<'_>) -> Result {
+        write!(f, "{}{}", self.function, shown(&self.numbers))?;
+        write!(f, " {}", run(&self.bytes))
+    }
+}
+
+/// What the compound writer's calls leave to the next row: its numbers, and what
+/// stands in the space.
+pub struct Program {
+    writer: [u64; 4],
+    space: Vec<u8>,
+}
+
+impl Default for Program {
+    fn default() -> Self {
+        Program {
+            writer: [0; 4],
+            space: vec![0; SPACE],
+        }
+    }
+}
+
+impl Program {
+    /// Document 01's answer.
+    pub fn answer(&mut self, row: &Row) -> String {
+        if let Some(function) = row.function.strip_suffix("_records") {
+            return self.records(row, function);
+        }
+        if row.function.starts_with("writer_") {
+            return self.call(row);
+        }
+        if is_write(&row.function) {
+            return write::expected(row);
+        }
+        match read::part(&row.function, &row.bytes) {
+            Some(part) => format!(" {}", run(&part)),
+            None => shown(&read::answer(row)),
+        }
+    }
+}
+
+/// The lines that the program writes to the lines that it reads.
+pub fn lines(input: &str) -> Vec<String> {
+    let mut program = Program::default();
+    let line = |line: &str| {
+        let (name, row) = line.split_once(' ').expect("a name and a row");
+        format!("{name}:{}", program.answer(&Row::parse(row)))
+    };
+    input.lines().skip(1).map(line).collect()
+}
+
+pub fn shown(numbers: &[u64]) -> String {
+    numbers.iter().map(|number| format!(" {number}")).collect()
+}
+
+fn run(bytes: &[u8]) -> String {
+    let mut text = "x".to_string();
+    for same in bytes.chunk_by(|a, b| a == b) {
+        text += &format!("{:02x}", same[0]).repeat(same.len().min(SHOWN));
+        if same.len() > SHOWN {
+            text += &format!(" *{} x", same.len() - SHOWN);
+        }
+    }
+    text
+}
