@@ -91,8 +91,8 @@ static void open_out(GstRTCPBuffer *rtcp) {
 
 static void put_blocks(GstRTCPPacket *p, const struct Input *in) {
     for (size_t i = 0; i < in->n_blocks; i++) {
-        const uint32_t *n = in->blocks[i];
-        gst_rtcp_packet_add_rb(p, n[0], (guint8)n[1], (gint32)n[2], n[3], n[4], n[5], n[6]);
+        const uint32_t *w = in->words + 5 * i;
+        gst_rtcp_packet_add_rb(p, w[0], in->fractions[i], (gint32)in->losses[i], w[1], w[2], w[3], w[4]);
     }
 }
 

@@ -11,7 +11,7 @@
 
 enum { BATCHES = 63, BATCH = 200 };
 
-struct Input rrsdes, sr31, sdes31;
+struct Input rrsdes, sr31, sdes31, padded, priv31;
 
 static uint32_t word(const uint8_t *p) {
     return (uint32_t)p[0] << 24 | (uint32_t)p[1] << 16 | (uint32_t)p[2] << 8 | p[3];
@@ -29,11 +29,11 @@ static void take_report(struct Input *in, const uint8_t *p) {
     }
     in->n_blocks = p[0] & 31;
     for (size_t i = 0; i < in->n_blocks; i++, block += 24) {
-        uint32_t *numbers = in->blocks[i];
-        numbers[0] = word(block);
-        numbers[1] = block[4];
-        numbers[2] = word(block + 4) & 0xffffff;
-        for (size_t k = 0; k < 4; k++) numbers[3 + k] = word(block + 8 + 4 * k);
+        uint32_t *words = in->words + 5 * i;
+        in->fractions[i] = block[4];
+        in->losses[i] = word(block + 4) & 0xffffff;
+        words[0] = word(block);
+        for (size_t k = 0; k < 4; k++) words[1 + k] = word(block + 8 + 4 * k);
     }
 }
 
@@ -43,10 +43,12 @@ static void take_chunks(struct Input *in, const uint8_t *p) {
     for (size_t i = 0; i < in->n_chunks; i++) {
         in->ssrcs[i] = word(at);
         for (at += 4; *at != 0; at += 2 + at[1]) {
+            size_t is_priv = at[0] == 8, prefix = is_priv ? at[2] : 0, both = at[1] - is_priv;
             in->types[in->n_items] = at[0];
-            in->lengths[in->n_items] = at[1];
-            memcpy(in->text + in->text_len, at + 2, at[1]);
-            in->text_len += at[1];
+            in->prefixes[in->n_items] = prefix;
+            in->lengths[in->n_items] = both - prefix;
+            memcpy(in->text + in->text_len, at + 2 + is_priv, both);
+            in->text_len += both;
             in->n_items++;
             in->counts[i]++;
         }
@@ -59,16 +61,18 @@ static void take_fields(struct Input *in) {
         const uint8_t *p = in->bytes + at;
         if (p[1] == 202) take_chunks(in, p);
         else take_report(in, p);
+        if ((p[0] & 0x20) != 0) in->padding = in->bytes[in->len - 1];
     }
 }
 
 static uint64_t sum_of(const struct Input *in) {
     uint64_t sum = in->ntp + in->ssrc + in->rtp + in->packets + in->octets;
     const uint8_t *value = in->text;
-    for (size_t i = 0; i < in->n_blocks; i++)
-        for (size_t k = 0; k < 7; k++) sum += in->blocks[i][k];
+    for (size_t i = 0; i < in->n_blocks; i++) sum += in->fractions[i] + (uint64_t)in->losses[i];
+    for (size_t i = 0; i < 5 * in->n_blocks; i++) sum += in->words[i];
     for (size_t i = 0; i < in->n_chunks; i++) sum += in->ssrcs[i];
     for (size_t i = 0; i < in->n_items; i++) {
+        value += in->prefixes[i];
         sum += in->types[i] + in->lengths[i] + value[0];
         value += in->lengths[i];
     }
@@ -79,6 +83,8 @@ static struct Input *named(const char *name) {
     if (strcmp(name, "rrsdes") == 0) return &rrsdes;
     if (strcmp(name, "sr31") == 0) return &sr31;
     if (strcmp(name, "sdes31") == 0) return &sdes31;
+    if (strcmp(name, "padded") == 0) return &padded;
+    if (strcmp(name, "priv31") == 0) return &priv31;
     return NULL;
 }
 
@@ -100,7 +106,7 @@ static int load(const char *path) {
         n++;
     }
     fclose(file);
-    return n == 3;
+    return n == 5;
 }
 
 static const struct Operation *find(const char *name) {

@@ -14,19 +14,21 @@ struct Input {
     uint32_t ssrc;
     uint64_t ntp;
     uint32_t rtp, packets, octets;
-    uint32_t blocks[MOST][7];
+    uint8_t fractions[MOST];
+    uint32_t losses[MOST], words[MOST * 5]; /* of a block: SSRC, sequence, jitter, last SR, delay */
     size_t n_blocks;
     uint32_t ssrcs[MOST];
     uint64_t counts[MOST];
     size_t n_chunks;
     uint8_t types[MOST];
-    uint64_t lengths[MOST];
+    uint64_t prefixes[MOST], lengths[MOST]; /* of the prefix, which only PRIV has, and of the value */
     size_t n_items;
-    uint8_t text[ROOM]; /* the values of all items, one after the other */
+    uint8_t text[ROOM]; /* the prefix and the value of each item, one after the other */
     size_t text_len;
+    uint64_t padding; /* of the last packet */
 };
 
-extern struct Input rrsdes, sr31, sdes31;
+extern struct Input rrsdes, sr31, sdes31, padded, priv31;
 
 /* A reading returns the sum of all fields; a writing, whose name starts with "write", how many bytes it wrote. `input` is what it reads or must
    write; where it is null, nothing is held against it. */

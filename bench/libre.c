@@ -25,14 +25,14 @@ static void end_texts(const struct Input *in) {
 
 static void take_blocks(const struct Input *in) {
     for (size_t i = 0; i < in->n_blocks; i++) {
-        const uint32_t *n = in->blocks[i];
-        blocks[i].ssrc = n[0];
-        blocks[i].fraction = n[1] & 0xff;
-        blocks[i].lost = (int)n[2];
-        blocks[i].last_seq = n[3];
-        blocks[i].jitter = n[4];
-        blocks[i].lsr = n[5];
-        blocks[i].dlsr = n[6];
+        const uint32_t *w = in->words + 5 * i;
+        blocks[i].ssrc = w[0];
+        blocks[i].fraction = in->fractions[i];
+        blocks[i].lost = (int)in->losses[i];
+        blocks[i].last_seq = w[1];
+        blocks[i].jitter = w[2];
+        blocks[i].lsr = w[3];
+        blocks[i].dlsr = w[4];
     }
 }
 

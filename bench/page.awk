@@ -1,20 +1,15 @@
 # Writes docs/PERFORMANCE.md from the lines of bench/run: what, operation, side, value.
 BEGIN {
     FS = "\t"
-    n_ops = split("parse-rrsdes parse-sr31 parse-sdes31 write-rrsdes write-sr31 write-sdes31 write-compound", ops, " ")
+    n_ops = split("parse-rrsdes parse-sr31 parse-sdes31 parse-padded parse-priv31 write-rrsdes write-sr31 write-sdes31 write-compound write-padded write-priv31", ops, " ")
     title["parse-rrsdes"] = "read RR+SDES"; title["parse-sr31"] = "read SR, 31 blocks"; title["parse-sdes31"] = "read SDES, 31 chunks"
+    title["parse-padded"] = "read RR+SDES, padded"; title["parse-priv31"] = "read SDES, 31 PRIV items"
     title["write-rrsdes"] = "write RR+SDES"; title["write-sr31"] = "write SR, 31 blocks"; title["write-sdes31"] = "write SDES, 31 chunks"
     title["write-compound"] = "write RR+SDES by a compound writer"
-    # In 32-bit words. Reading: header, SSRC and block words, and two for each SDES item (type and length; where its value is). Writing: all words.
-    fields["parse-rrsdes"] = 18; fields["parse-sr31"] = 193; fields["parse-sdes31"] = 94
-    fields["write-rrsdes"] = 25; fields["write-sr31"] = 193; fields["write-sdes31"] = 125
-    fields["write-compound"] = 25
-    how["parse-rrsdes"] = "(2 + 6) + (2 + 4 × 2)"; how["parse-sr31"] = "7 + 31 × 6"; how["parse-sdes31"] = "1 + 31 × (1 + 2)"
-    how["write-rrsdes"] = "100 bytes / 4"; how["write-sr31"] = "772 bytes / 4"; how["write-sdes31"] = "500 bytes / 4"
-    how["write-compound"] = "100 bytes / 4"
+    title["write-padded"] = "write RR+SDES, padded"; title["write-priv31"] = "write SDES, 31 PRIV items"
     n_peers = split("rtcp-types gstreamer libre pion", peers, " ")
-    n_counted = split("ours rtcp-types rtcp-types-builder rtcp-types-lto gstreamer libre pion", counted, " ")
-    n_timed = split("rtcp-types rtcp-types-builder rtcp-types-lto gstreamer libre pion", timed, " ")
+    n_counted = split("ours bokyjave bokyjave-builder rtcp-types rtcp-types-builder rtcp-types-lto gstreamer libre pion", counted, " ")
+    n_timed = split("bokyjave bokyjave-builder rtcp-types rtcp-types-builder rtcp-types-lto gstreamer libre pion", timed, " ")
 }
 
 $1 == "version" { version[$3] = $4 }
@@ -28,7 +23,8 @@ $1 == "growth-ns" && (!(($2, $3) in growth_ns) || $4 < growth_ns[$2, $3]) { grow
 function label(side) {
     if (side == "ours") return "ours"
     if (side == "rtcp-types") return "rtcp-types"
-    if (side == "rtcp-types-builder") return "with its builder"
+    if (side == "bokyjave") return "our crate"
+    if (side == "bokyjave-builder" || side == "rtcp-types-builder") return "with its builder"
     if (side == "rtcp-types-lto") return "with LTO"
     if (side == "gstreamer") return "GStreamer"
     return side
@@ -65,23 +61,27 @@ function count_of(op, side) {
     return (op, side) in ir ? thousands(ir[op, side]) : "-"
 }
 
+function parts(op, one, other) {
+    return (op, one) in ir && (op, other) in ir ? sprintf("%.2f", ir[op, one] / ir[op, other]) : "-"
+}
+
 function ratio_of(op, side) {
     if ((op, side) in wrong) return "wrong bytes"
     return (op, side) in ns ? sprintf("%.2f", ns[op, side] / ns[op, "ours"]) : "-"
 }
 
 function print_share(i, op, cells) {
-    print "| operation | ours | best peer | ours in parts of it | words | limit | ours in parts of the limit |"
-    rule(7)
+    print "| operation | ours | best peer | ours in parts of it | by hand | ours in parts of it | our crate | in parts of rtcp-types |"
+    rule(8)
     for (i = 1; i <= n_ops; i++) {
         op = ops[i]
         find_best(op)
         cells[1] = title[op]; cells[2] = thousands(ir[op, "ours"])
         cells[3] = best_side == "" ? "-" : thousands(best) " (" label(best_side) ")"
         cells[4] = best_side == "" ? "-" : sprintf("%.2f", ir[op, "ours"] / best)
-        cells[5] = how[op] " = " fields[op]; cells[6] = thousands(3 * fields[op])
-        cells[7] = sprintf("%.1f", ir[op, "ours"] / (3 * fields[op]))
-        row(cells, 7)
+        cells[5] = count_of(op, "by-hand"); cells[6] = parts(op, "ours", "by-hand")
+        cells[7] = count_of(op, "bokyjave"); cells[8] = parts(op, "bokyjave", "rtcp-types")
+        row(cells, 8)
     }
 }
 
@@ -111,13 +111,14 @@ function print_times(i, k, cells) {
 
 function print_growth(i, n, packets, cells) {
     n = split("1 10 100 1000", packets, " ")
-    print "| packets | bytes | check, instructions a byte | check, ns a byte | walk, instructions a byte | walk, ns a byte |"
-    rule(6)
+    print "| packets | bytes | check, instructions a byte | check, ns a byte | walk, instructions a byte | walk, ns a byte | writing, instructions a byte | writing, ns a byte |"
+    rule(8)
     for (i = 1; i <= n; i++) {
         cells[1] = thousands(packets[i]); cells[2] = thousands(bytes[packets[i]])
         cells[3] = sprintf("%.2f", growth_ir[packets[i], "parse"]); cells[4] = sprintf("%.2f", growth_ns[packets[i], "parse"] / bytes[packets[i]])
         cells[5] = sprintf("%.2f", growth_ir[packets[i], "walk"]); cells[6] = sprintf("%.2f", growth_ns[packets[i], "walk"] / bytes[packets[i]])
-        row(cells, 6)
+        cells[7] = sprintf("%.2f", growth_ir[packets[i], "fill"]); cells[8] = sprintf("%.2f", growth_ns[packets[i], "fill"] / bytes[packets[i]])
+        row(cells, 8)
     }
 }
 
@@ -125,14 +126,15 @@ END {
     print "# What reading and writing take"
     print ""
     print "`bench/run` measures and writes this page; `bench/run --check` counts our instructions alone and fails where one operation takes more"
-    print "than the command allows it. Sides of this run: ours through the C functions of librtcp.a (C by gcc " version["gcc"] " -O2);"
-    print known("rtcp-types") ", its sources unchanged (rustc " version["rustc"] ", the defaults of cargo's release profile); " known("gstreamer") "; " known("libre") ";"
+    print "than the command allows it. Sides of this run: ours through the C functions of librtcp.a (C by gcc " version["gcc"] " -O2), and through the crate"
+    print "in rust/ (rustc " version["rustc"] ", the defaults of cargo's release profile);"
+    print known("rtcp-types") ", its sources unchanged (compiled as the crate); " known("gstreamer") "; " known("libre") ";"
     print known("pion") " (Go " version["go"] ")."
     print ""
     print "## What is measured"
     print ""
-    print "Three inputs (bench/inputs.tsv): a datagram of RR and SDES (100 bytes, one block, one chunk of four items), an SR with 31 blocks (772 bytes) and an"
-    print "SDES with 31 chunks of one item (500 bytes)."
+    print "Five inputs (bench/inputs.tsv): a datagram of RR and SDES (100 bytes, one block, one chunk of four items), an SR with 31 blocks (772 bytes), an"
+    print "SDES with 31 chunks of one item (500 bytes), the datagram with 4 bytes of padding, and an SDES with 31 chunks of one PRIV item (500 bytes)."
     print ""
     print "Reading checks the bytes and reads every field: each SSRC, the sender's numbers, the seven numbers of each block; of each SDES item the type, the"
     print "length of the value and its first byte. All fields are added up; the command fails where the sums of two sides differ. Writing writes the same"
@@ -141,7 +143,8 @@ END {
     print "- rtcp-types reads the datagram through its own compound.rs, with stand-ins for the feedback and XR packets that it names. It writes with builders"
     print "  made before the loop, so that only `write_into`, which checks and writes, is measured; 'with its builder' makes the builders in the loop."
     print "  'with LTO' has the whole program compiled as one, so that the crate's functions are merged into the loop that reads. None of the sides is"
-    print "  compiled so by default, and the best peer below is taken without it."
+    print "  compiled so by default, and the best peer below is taken without it. It refuses an SDES packet with padding, so it has no such row."
+    print "- Our crate runs the same program as rtcp-types: the same calls of the same names, its builders made before the loop or in it."
     print "- RR and SDES are written packet after packet, and once more by a compound writer: ours holds the rules of a compound, rtcp-types' own (its"
     print "  compound builder, made before the loop) only that padding comes last. pion writes a datagram by its compound in any case, which holds the rules;"
     print "  GStreamer and libre have none."
@@ -150,9 +153,8 @@ END {
     print ""
     print "## Instructions"
     print ""
-    print "By callgrind, (Ir(3N) - Ir(N)) / 2N with N = 1000. The limit is a load, a byte swap and a store for each 32-bit word: 3 × words. Words, for reading:"
-    print "the header, each SSRC, the words of the sender's numbers and of the blocks, and two for each SDES item (its type and length; where its value is). For"
-    print "writing: all words of the packet. It is the limit of code that takes one word at a time; vector instructions could go below it."
+    print "By callgrind, (Ir(3N) - Ir(N)) / 2N with N = 1000. 'By hand' are the same C functions written by hand (bench/floor.c), with the same arguments, lists"
+    print "and checks but for padding and PRIV, which they leave out: what the machine code of the proved functions is held against."
     print ""
     print_share()
     print ""
@@ -169,8 +171,8 @@ END {
     print ""
     print "## Growth"
     print ""
-    print "`rtcp_compound_parse`, and a whole walk (`rtcp_walk_open`, then `rtcp_walk_step` to the end), over datagrams that repeat RR, SDES with CNAME, SR,"
-    print "APP and BYE. The command fails where the instructions a byte at 1,000 packets are more than 2 % above those at 10. The datagram of one packet has"
+    print "`rtcp_compound_parse`, a whole walk (`rtcp_walk_open`, then `rtcp_walk_step` to the end), and writing by the compound writer's calls, of datagrams"
+    print "that repeat RR, SDES with CNAME, SR, APP and BYE. The command fails where the instructions a byte at 1,000 packets are more than 2 % above those at 10. The datagram of one packet has"
     print "no CNAME, so it is refused once all of it is read; the calls are the same."
     print ""
     print_growth()

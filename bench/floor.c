@@ -1,0 +1,279 @@
+/* The same C functions by hand, with the same checks of packets without padding, PRIV and other types (those: number 99). It is the limit that
+   the machine code of the proved functions is held against: same arguments, same lists, same answers in memory. */
+#include <string.h>
+
+#include "rtcp.h"
+
+#define LIKELY(x) __builtin_expect(!!(x), 1)
+
+static inline uint32_t load32(const void *p) {
+    uint32_t v;
+    memcpy(&v, p, 4);
+    return __builtin_bswap32(v);
+}
+
+static inline uint64_t load64(const void *p) {
+    uint64_t v;
+    memcpy(&v, p, 8);
+    return __builtin_bswap64(v);
+}
+
+static inline void store32(void *p, uint32_t v) {
+    v = __builtin_bswap32(v);
+    memcpy(p, &v, 4);
+}
+
+static inline void store64(void *p, uint64_t v) {
+    v = __builtin_bswap64(v);
+    memcpy(p, &v, 8);
+}
+
+/* Two words in the other order. */
+static inline uint64_t turned(uint64_t v) { return v << 32 | v >> 32; }
+
+static inline uint32_t head(uint32_t type, size_t count, size_t size) {
+    return 0x80000000u | (uint32_t)count << 24 | type << 16 | (uint32_t)(size / 4 - 1);
+}
+
+static inline int headed(uint32_t w, uint32_t type, size_t len) {
+    return (w & 0xe0ff0000u) == (0x80000000u | type << 16) && ((w & 0xffff) + 1) * 4 == len;
+}
+
+/* ---- reading ---- */
+
+static inline void list(const uint8_t *restrict s, uint8_t *restrict fractions, uint32_t *restrict losses, uint32_t *restrict words, size_t n) {
+    for (size_t i = 0; i < n; i++, s += 24, words += 5) {
+        uint64_t h = load64(s), m = turned(load64(s + 8)), t = turned(load64(s + 16));
+        words[0] = (uint32_t)(h >> 32);
+        fractions[i] = (uint8_t)(h >> 24);
+        losses[i] = (uint32_t)h & 0xffffff;
+        memcpy(words + 1, &m, 8);
+        memcpy(words + 3, &t, 8);
+    }
+}
+
+struct RtcpSr rtcp_sr_read(const uint8_t *s, size_t len, uint8_t *fractions, size_t n_fractions, uint32_t *losses, size_t n_losses,
+                           uint32_t *words, size_t n_words) {
+    if (LIKELY(len >= 28)) {
+        uint32_t w = load32(s);
+        size_t n = w >> 24 & 31, end = 28 + 24 * n;
+        if (LIKELY(headed(w, 200, len) && end <= len && n <= n_fractions && n <= n_losses && 5 * n <= n_words)) {
+            list(s + 28, fractions, losses, words, n);
+            return (struct RtcpSr){0, 0, 0, load32(s + 4), load64(s + 8), load32(s + 16), load32(s + 20), load32(s + 24), n, end, len - end, len, 0};
+        }
+    }
+    return (struct RtcpSr){.number = 99};
+}
+
+struct RtcpRr rtcp_rr_read(const uint8_t *s, size_t len, uint8_t *fractions, size_t n_fractions, uint32_t *losses, size_t n_losses,
+                           uint32_t *words, size_t n_words) {
+    if (LIKELY(len >= 8)) {
+        uint32_t w = load32(s);
+        size_t n = w >> 24 & 31, end = 8 + 24 * n;
+        if (LIKELY(headed(w, 201, len) && end <= len && n <= n_fractions && n <= n_losses && 5 * n <= n_words)) {
+            list(s + 8, fractions, losses, words, n);
+            return (struct RtcpRr){0, 0, 0, load32(s + 4), n, end, len - end, len, 0};
+        }
+    }
+    return (struct RtcpRr){.number = 99};
+}
+
+static inline int scan(const uint8_t *s, size_t end, size_t n, int *cname) {
+    size_t at = 4;
+    for (; n != 0; n--) {
+        if (end - at < 8) return 0;
+        at += 4;
+        while (s[at] != 0) { /* at < end - 1 here */
+            if (s[at] == 8) return 0;
+            *cname |= s[at] == 1;
+            at += 2 + (size_t)s[at + 1];
+            if (at > end - 1) return 0;
+            if (at == end - 1) {
+                if (s[at] != 0) return 0;
+                break;
+            }
+        }
+        for (size_t up = (at | 3) + 1; at < up; at++)
+            if (s[at] != 0) return 0;
+    }
+    return at == end;
+}
+
+struct RtcpWritten rtcp_sdes_items(const uint8_t *s, size_t len, uint32_t *rows, size_t room) {
+    uint32_t *r = rows, w = len < 4 ? 0 : load32(s);
+    size_t n = w >> 24 & 31, at = 4;
+    int cname = 0;
+    if (!LIKELY(headed(w, 202, len) && len / 2 * 5 <= room && scan(s, len, n, &cname))) return (struct RtcpWritten){.number = 99};
+    for (; n != 0; n--) {
+        uint32_t ssrc = load32(s + at);
+        for (at += 4; s[at] != 0; r += 5) {
+            uint32_t l = s[at + 1];
+            r[0] = ssrc, r[1] = s[at], r[2] = (uint32_t)at + 2, r[3] = 0, r[4] = l;
+            at += 2 + l;
+        }
+        r[0] = ssrc, r[1] = 0, r[2] = (uint32_t)at, r[3] = 0, r[4] = 0;
+        r += 5;
+        at = (at | 3) + 1;
+    }
+    return (struct RtcpWritten){0, 0, 0, (size_t)(r - rows)};
+}
+
+static inline int packet_is_right(const uint8_t *s, uint32_t w, size_t len, int *cname) {
+    size_t n = w >> 24 & 31;
+    uint32_t type = w >> 16 & 255;
+    if (type == 201) return 8 + 24 * n <= len;
+    if (type == 200) return 28 + 24 * n <= len;
+    return type == 202 && scan(s, len, n, cname);
+}
+
+struct RtcpWritten rtcp_compound_packets(const uint8_t *s, size_t len, uint64_t *p, size_t room) {
+    uint64_t n = 0;
+    int cname = 0;
+    for (size_t at = 0; at < len; n += 3) {
+        if (len - at < 4) return (struct RtcpWritten){.number = 99};
+        uint32_t w = load32(s + at);
+        size_t l = ((w & 0xffff) + 1) * 4;
+        if ((w & 0xe0000000u) != 0x80000000u || len - at < l || (at == 0 && (w >> 16 & 0xfe) != 200) || !packet_is_right(s + at, w, l, &cname))
+            return (struct RtcpWritten){.number = 99};
+        at += l;
+    }
+    if (!cname || room < n) return (struct RtcpWritten){.number = 99};
+    for (size_t at = 0; at < len; p += 3) {
+        uint32_t w = load32(s + at);
+        p[0] = w >> 16 & 255, p[1] = at, p[2] = ((w & 0xffff) + 1) * 4;
+        at += p[2];
+    }
+    return (struct RtcpWritten){0, 0, 0, n};
+}
+
+/* ---- writing ---- */
+
+static inline int fit(const uint32_t *losses, size_t n) {
+    uint32_t all = 0;
+    for (size_t i = 0; i < n; i++) all |= losses[i];
+    return all <= 0xffffff;
+}
+
+static inline void lay(uint8_t *restrict p, const uint8_t *restrict fractions, const uint32_t *restrict losses, const uint32_t *restrict words, size_t n) {
+    for (size_t i = 0; i < n; i++, p += 24, words += 5) {
+        uint64_t m, t;
+        memcpy(&m, words + 1, 8);
+        memcpy(&t, words + 3, 8);
+        store64(p, (uint64_t)words[0] << 32 | (uint32_t)fractions[i] << 24 | losses[i]);
+        store64(p + 8, turned(m));
+        store64(p + 16, turned(t));
+    }
+}
+
+#define BLOCKS const uint8_t *fractions, size_t n, const uint32_t *losses, size_t n_losses, const uint32_t *words, size_t n_words
+#define BLOCKS_FIT (n == n_losses && 5 * n == n_words && n <= 31 && fit(losses, n))
+
+struct RtcpWritten rtcp_rr_write(uint8_t *buf, size_t room, uint32_t ssrc, BLOCKS, uint64_t padding) {
+    size_t size = 8 + 24 * n;
+    if (!LIKELY(padding == 0 && BLOCKS_FIT && size <= room)) return (struct RtcpWritten){.number = 99};
+    store64(buf, (uint64_t)head(201, n, size) << 32 | ssrc);
+    lay(buf + 8, fractions, losses, words, n);
+    return (struct RtcpWritten){0, 0, 0, size};
+}
+
+struct RtcpWritten rtcp_sr_write(uint8_t *buf, size_t room, uint32_t ssrc, uint64_t ntp, uint32_t rtp, uint32_t packets, uint32_t octets, BLOCKS,
+                                 uint64_t padding) {
+    size_t size = 28 + 24 * n;
+    if (!LIKELY(padding == 0 && BLOCKS_FIT && size <= room)) return (struct RtcpWritten){.number = 99};
+    store64(buf, (uint64_t)head(200, n, size) << 32 | ssrc);
+    store64(buf + 8, ntp);
+    store32(buf + 16, rtp);
+    store32(buf + 20, packets);
+    store32(buf + 24, octets);
+    lay(buf + 28, fractions, losses, words, n);
+    return (struct RtcpWritten){0, 0, 0, size};
+}
+
+static inline void text(uint8_t *d, const uint8_t *s, size_t n) {
+    if (n > 32) {
+        memcpy(d, s, n);
+    } else if (n >= 8) {
+        if (n > 16) {
+            memcpy(d + 8, s + 8, 8);
+            memcpy(d + n - 16, s + n - 16, 8);
+        }
+        memcpy(d, s, 8);
+        memcpy(d + n - 8, s + n - 8, 8);
+    } else if (n >= 4) {
+        memcpy(d, s, 4);
+        memcpy(d + n - 4, s + n - 4, 4);
+    } else if (n != 0) {
+        d[0] = s[0];
+        d[n / 2] = s[n / 2];
+        d[n - 1] = s[n - 1];
+    }
+}
+
+#define CHUNKS                                                                                                                                  \
+    const uint32_t *ssrcs, size_t nc, const uint64_t *counts, size_t n_counts, const uint8_t *types, size_t nt, const uint64_t *prefixes,       \
+        size_t np, const uint64_t *values, size_t nv, const uint8_t *bytes, size_t nb
+
+static inline int lists_fit(CHUNKS) {
+    uint64_t left = nt, high = 0, prefix = 0, sum = 0;
+    (void)ssrcs, (void)bytes;
+    if (((nc ^ n_counts) | (nt ^ np) | (nt ^ nv)) != 0 || nc > 31 || nt > 65536 || nb > 65536) return 0;
+    for (size_t k = 0; k < nc; k++) {
+        if (left < counts[k]) return 0;
+        left -= counts[k];
+    }
+    for (size_t i = 0; i < nt; i++) {
+        prefix |= prefixes[i];
+        high |= values[i];
+        sum += values[i];
+        if ((types[i] & 0xf7) == 0) return 0;
+    }
+    return left == 0 && prefix == 0 && high >> 8 == 0 && sum == nb;
+}
+
+struct RtcpWritten rtcp_sdes_write(uint8_t *buf, size_t room, CHUNKS, uint64_t padding) {
+    uint8_t *p = buf + 4;
+    size_t size;
+    if (!LIKELY(padding == 0 && 252 + 3 * nt + nb <= room && lists_fit(ssrcs, nc, counts, n_counts, types, nt, prefixes, np, values, nv, bytes, nb)))
+        return (struct RtcpWritten){.number = 99};
+    for (size_t k = 0; k < nc; k++) {
+        store32(p, ssrcs[k]);
+        p += 4;
+        for (uint64_t c = counts[k]; c != 0; c--) {
+            size_t v = *values++;
+            p[0] = *types++;
+            p[1] = (uint8_t)v;
+            text(p + 2, bytes, v);
+            p += 2 + v;
+            bytes += v;
+        }
+        do *p++ = 0;
+        while (((p - buf) & 3) != 0);
+    }
+    size = (size_t)(p - buf);
+    store32(buf, head(202, nc, size));
+    return (struct RtcpWritten){0, 0, 0, size};
+}
+
+void rtcp_writer_new(struct RtcpWriter *w) { *w = (struct RtcpWriter){0, 0, 0, 0}; }
+
+struct RtcpCall rtcp_writer_add_rr(struct RtcpWriter *w, uint8_t *buf, size_t room, uint32_t ssrc, BLOCKS, uint64_t padding) {
+    if (!LIKELY((w->closed | w->padded) == 0 && w->length <= room)) return (struct RtcpCall){.number = 99};
+    struct RtcpWritten r = rtcp_rr_write(buf + w->length, room - w->length, ssrc, fractions, n, losses, n_losses, words, n_words, padding);
+    w->length += r.size;
+    return (struct RtcpCall){.number = r.number};
+}
+
+struct RtcpCall rtcp_writer_add_sdes(struct RtcpWriter *w, uint8_t *buf, size_t room, CHUNKS, uint64_t padding) {
+    if (!LIKELY((w->closed | w->padded) == 0 && w->length != 0 && w->length <= room)) return (struct RtcpCall){.number = 99};
+    struct RtcpWritten r =
+        rtcp_sdes_write(buf + w->length, room - w->length, ssrcs, nc, counts, n_counts, types, nt, prefixes, np, values, nv, bytes, nb, padding);
+    for (size_t i = 0; i < nt && w->cname == 0 && r.number == 0; i++) w->cname = types[i] == 1;
+    w->length += r.size;
+    return (struct RtcpCall){.number = r.number};
+}
+
+struct RtcpCall rtcp_writer_close(struct RtcpWriter *w) {
+    if (w->closed != 0 || w->cname == 0) return (struct RtcpCall){.number = 99};
+    w->closed = 1;
+    return (struct RtcpCall){0, 0, 0};
+}
