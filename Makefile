@@ -1,37 +1,48 @@
-# `make` builds the static library, `make install` puts it, its header and rtcp.pc under PREFIX, with DESTDIR before it. `make sample` runs the main
-# job over the real datagrams in samples/.
+# `make` proves the library and builds the archive and the shared library; `make install` puts them with the header, rtcp.pc, a CMake config, rtcpdump
+# and its manual page under PREFIX, with DESTDIR before it; `make sample` runs the main job over the real datagrams in samples/.
 PREFIX ?= /usr/local
 DESTDIR ?=
 VERSION := $(shell sed -n 's/^version = "\(.*\)"/\1/p' rust/Cargo.toml)
-ARCHIVE := target/staticlib/librtcp.a
-
-CARGO_RUN := cargo run --quiet --offline --manifest-path rust/Cargo.toml
+STATICLIB := target/staticlib
+ARCHIVE := $(STATICLIB)/librtcp.a
+SOURCES := crates.txt $(shell find crates -type f \( -name '*.rt' -o -name '*.antt' \))
+RTCPDUMP := rust/target/release/rtcpdump
+RUST_SOURCES := rust/Cargo.toml rust/build.rs $(shell find rust/src -name '*.rs')
 CAPTURES := $(sort $(wildcard samples/captures/*.hex))
+ROOT := $(DESTDIR)$(PREFIX)
 
 .PHONY: all install uninstall sample
 
-# `rt check` proves two crates at a time, `rt staticlib` one after the other.
-all:
-	rt check rtcp
-	rt staticlib rtcp
+all: $(ARCHIVE)
 
-# Only where there is none: an install need not have the toolchain.
-$(ARCHIVE):
-	rt check rtcp >&2
-	rt staticlib rtcp >&2
+# Where no source is newer, nothing is proved again, and the toolchain need not be there.
+$(ARCHIVE): $(SOURCES)
+	tools/archive
 
-install: $(ARCHIVE)
-	install -d "$(DESTDIR)$(PREFIX)/lib/pkgconfig" "$(DESTDIR)$(PREFIX)/include"
-	install -m 644 $(ARCHIVE) "$(DESTDIR)$(PREFIX)/lib"
-	install -m 644 include/rtcp.h "$(DESTDIR)$(PREFIX)/include"
-	sed -e "s|@PREFIX@|$(PREFIX)|" -e "s|@VERSION@|$(VERSION)|" rtcp.pc.in >"$(DESTDIR)$(PREFIX)/lib/pkgconfig/rtcp.pc"
-	chmod 644 "$(DESTDIR)$(PREFIX)/lib/pkgconfig/rtcp.pc"
+$(RTCPDUMP): $(ARCHIVE) $(RUST_SOURCES)
+	tools/needs cargo
+	cargo build --quiet --release --offline --manifest-path rust/Cargo.toml --bin rtcpdump
+
+install: $(ARCHIVE) $(RTCPDUMP)
+	install -d "$(ROOT)/bin" "$(ROOT)/include" "$(ROOT)/lib/pkgconfig" "$(ROOT)/lib/cmake/rtcp" "$(ROOT)/share/man/man1"
+	install -m 644 $(ARCHIVE) "$(ROOT)/lib"
+	install -m 755 $(STATICLIB)/librtcp.so.0 "$(ROOT)/lib"
+	ln -sf librtcp.so.0 "$(ROOT)/lib/librtcp.so"
+	install -m 644 include/rtcp.h "$(ROOT)/include"
+	sed -e 's|@PREFIX@|$(PREFIX)|' -e 's|@VERSION@|$(VERSION)|' rtcp.pc.in >"$(ROOT)/lib/pkgconfig/rtcp.pc"
+	sed -e 's|@VERSION@|$(VERSION)|' rtcp-config-version.cmake.in >"$(ROOT)/lib/cmake/rtcp/rtcp-config-version.cmake"
+	install -m 644 rtcp-config.cmake "$(ROOT)/lib/cmake/rtcp"
+	install -m 755 $(RTCPDUMP) "$(ROOT)/bin"
+	install -m 644 docs/rtcpdump.1 "$(ROOT)/share/man/man1"
+	chmod 644 "$(ROOT)/lib/pkgconfig/rtcp.pc" "$(ROOT)/lib/cmake/rtcp/rtcp-config-version.cmake"
+	@echo "installed under $(ROOT): version $(VERSION), proved from commit $$(cat $(STATICLIB)/proved_from)"
 
 uninstall:
-	rm -f "$(DESTDIR)$(PREFIX)/lib/librtcp.a" "$(DESTDIR)$(PREFIX)/lib/pkgconfig/rtcp.pc"
-	rm -f "$(DESTDIR)$(PREFIX)/include/rtcp.h"
+	rm -f "$(ROOT)/lib/librtcp.a" "$(ROOT)/lib/librtcp.so" "$(ROOT)/lib/librtcp.so.0" "$(ROOT)/lib/pkgconfig/rtcp.pc" "$(ROOT)/include/rtcp.h"
+	rm -f "$(ROOT)/lib/cmake/rtcp/rtcp-config.cmake" "$(ROOT)/lib/cmake/rtcp/rtcp-config-version.cmake"
+	rm -f "$(ROOT)/bin/rtcpdump" "$(ROOT)/share/man/man1/rtcpdump.1"
 
-sample: $(ARCHIVE)
-	$(CARGO_RUN) --bin rtcpdump -- --first 1 $(CAPTURES)
-	$(CARGO_RUN) --example sample -- target/sample.hex $(CAPTURES)
-	$(CARGO_RUN) --bin rtcpdump -- target/sample.hex
+sample: $(ARCHIVE) $(RTCPDUMP)
+	$(RTCPDUMP) --first 1 $(CAPTURES)
+	cargo run --quiet --release --offline --manifest-path rust/Cargo.toml --example sample -- target/sample.hex $(CAPTURES)
+	$(RTCPDUMP) target/sample.hex
