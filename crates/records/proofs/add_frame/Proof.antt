@@ -34,17 +34,6 @@ returns-2 c =
 pub add-frame-spec : {M : Type 1} → statement M
 add-frame-spec {M} =
     let answers = tie.spec {M = M}
-    (λ c κs. search added)
-    (λ c κs. search added)
-    (λ c κs. search added)
-    (λ c κs. search added)
-    (λ c κs. search added)
-    (λ c κs. search added)
-    returns
-    (λ c. search added)
-    (λ c. search added)
-    (λ c. search added)
-    write-frame-unchecked-requires
-    (λ c. search added)
-    returns-2 in
+    (λ c κs. search added) (λ c κs. search added) (λ c κs. search added) (λ c κs. search added) (λ c κs. search added) (λ c κs. search added) returns
+    (λ c. search added) (λ c. search added) (λ c. search added) write-frame-unchecked-requires (λ c. search added) returns-2 in
     tie.close answers

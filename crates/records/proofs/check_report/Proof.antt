@@ -5,9 +5,5 @@ use Rattle.records.proofs.check_report.Tie as tie
 pub check-report-spec : {M : Type 1} → statement M
 check-report-spec {M} =
     let answers = tie.spec {M = M}
-    (λ c κs. search records)
-    (λ c κs. search records)
-    (λ c κs. search records)
-    (λ c. search records)
-    (λ c. search records) in
+    (λ c κs. search records) (λ c κs. search records) (λ c κs. search records) (λ c. search records) (λ c. search records) in
     tie.close answers

@@ -5,10 +5,5 @@ use Rattle.records.proofs.conclude.Tie as tie
 pub conclude-spec : {M : Type 1} → statement M
 conclude-spec {M} =
     let answers = tie.spec {M = M}
-    (λ c. search added)
-    (λ c κs. search added)
-    (λ c. search added)
-    (λ c κs. search added)
-    (λ c. search added)
-    (λ c. search added) in
+    (λ c. search added) (λ c κs. search added) (λ c. search added) (λ c κs. search added) (λ c. search added) (λ c. search added) in
     tie.close answers

@@ -5,8 +5,5 @@ use Rattle.records.proofs.laid_count.Tie as tie
 pub laid-count-spec : {M : Type 1} → statement M
 laid-count-spec {M} =
     let answers = tie.spec {M = M}
-    (λ c. search records)
-    (λ c. search records)
-    (λ c. search records)
-    (λ c. search records) in
+    (λ c. search records) (λ c. search records) (λ c. search records) (λ c. search records) in
     tie.close answers

@@ -5,9 +5,5 @@ use Rattle.records.proofs.write_frame_unchecked.Tie as tie
 pub write-frame-unchecked-spec : {M : Type 1} → statement M
 write-frame-unchecked-spec {M} =
     let answers = tie.spec {M = M}
-    (λ c. search records)
-    (λ c κs. search records)
-    (λ c κs. search records)
-    (λ c. search records)
-    (λ c. search records) in
+    (λ c. search records) (λ c κs. search records) (λ c κs. search records) (λ c. search records) (λ c. search records) in
     tie.close answers

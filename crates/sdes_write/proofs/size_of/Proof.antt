@@ -17,16 +17,6 @@ returns-8 c =
 pub size-of-spec : {M : Type 1} → statement M
 size-of-spec {M} =
     let answers = tie.spec {M = M}
-    (λ c. search sdess)
-    (λ c. search sdess)
-    (λ c. search sdess)
-    (λ c. search sdess)
-    (λ c κs. search sdess)
-    (λ c. search sdess)
-    (λ c κs. search sdess)
-    (λ c. search sdess)
-    sub-if7
-    (λ c. search sdess)
-    (λ c. search sdess)
-    returns-8 in
+    (λ c. search sdess) (λ c. search sdess) (λ c. search sdess) (λ c. search sdess) (λ c κs. search sdess) (λ c. search sdess) (λ c κs. search sdess)
+    (λ c. search sdess) sub-if7 (λ c. search sdess) (λ c. search sdess) returns-8 in
     tie.close answers

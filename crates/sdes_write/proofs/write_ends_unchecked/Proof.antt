@@ -5,10 +5,5 @@ use Rattle.sdes_write.proofs.write_ends_unchecked.Tie as tie
 pub write-ends-unchecked-spec : {M : Type 1} → statement M
 write-ends-unchecked-spec {M} =
     let answers = tie.spec {M = M}
-    (λ c. search sdess)
-    (λ c κs. search sdess)
-    (λ c. search sdess)
-    (λ c κs. search sdess)
-    (λ c. search sdess)
-    (λ c. search sdess) in
+    (λ c. search sdess) (λ c κs. search sdess) (λ c. search sdess) (λ c κs. search sdess) (λ c. search sdess) (λ c. search sdess) in
     tie.close answers

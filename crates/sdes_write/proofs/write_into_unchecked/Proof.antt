@@ -5,8 +5,5 @@ use Rattle.sdes_write.proofs.write_into_unchecked.Tie as tie
 pub write-into-unchecked-spec : {M : Type 1} → statement M
 write-into-unchecked-spec {M} =
     let answers = tie.spec {M = M}
-    (λ c κs. search sdess)
-    (λ c κs. search sdess)
-    (λ c. search sdess)
-    (λ c. search sdess) in
+    (λ c κs. search sdess) (λ c κs. search sdess) (λ c. search sdess) (λ c. search sdess) in
     tie.close answers

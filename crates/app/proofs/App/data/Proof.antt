@@ -5,8 +5,5 @@ use Rattle.app.proofs.App.data.Tie as tie
 pub data-spec : {M : Type 1} → statement M
 data-spec {M} =
     let answers = tie.spec {M = M}
-    (λ c. search apps)
-    (λ c. search apps)
-    (λ c κs. search apps)
-    (λ c. search apps) in
+    (λ c. search apps) (λ c. search apps) (λ c κs. search apps) (λ c. search apps) in
     tie.close answers

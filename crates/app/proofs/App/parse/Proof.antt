@@ -5,11 +5,5 @@ use Rattle.app.proofs.App.parse.Tie as tie
 pub parse-spec : {M : Type 1} → statement M
 parse-spec {M} =
     let answers = tie.spec {M = M}
-    (λ c κs. search apps)
-    (λ c. search apps)
-    (λ c. search apps)
-    (λ c. search apps)
-    (λ c κs. search apps)
-    (λ c. search apps)
-    (λ c. search apps) in
+    (λ c κs. search apps) (λ c. search apps) (λ c. search apps) (λ c. search apps) (λ c κs. search apps) (λ c. search apps) (λ c. search apps) in
     tie.close answers

@@ -5,10 +5,5 @@ use Rattle.app.proofs.App.read.Tie as tie
 pub read-spec : {M : Type 1} → statement M
 read-spec {M} =
     let answers = tie.spec {M = M}
-    (λ c κs. search apps)
-    (λ c. search apps)
-    (λ c κs. search apps)
-    (λ c κs. search apps)
-    (λ c. search apps)
-    (λ c. search apps) in
+    (λ c κs. search apps) (λ c. search apps) (λ c κs. search apps) (λ c κs. search apps) (λ c. search apps) (λ c. search apps) in
     tie.close answers

@@ -5,6 +5,5 @@ use Rattle.app.proofs.App.why.Tie as tie
 pub why-spec : {M : Type 1} → statement M
 why-spec {M} =
     let answers = tie.spec {M = M}
-    (λ c κs. search apps)
-    (λ c. search apps) in
+    (λ c κs. search apps) (λ c. search apps) in
     tie.close answers

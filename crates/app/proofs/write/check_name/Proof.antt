@@ -5,7 +5,5 @@ use Rattle.app.proofs.write.check_name.Tie as tie
 pub check-name-spec : {M : Type 1} → statement M
 check-name-spec {M} =
     let answers = tie.spec {M = M}
-    (λ c. search writes)
-    (λ c κs. search writes)
-    (λ c. search writes) in
+    (λ c. search writes) (λ c κs. search writes) (λ c. search writes) in
     tie.close answers

@@ -15,13 +15,6 @@ abbrev μ-loop : tie.MeasureT-loop
 pub is-ascii-spec : {M : Type 1} → statement M
 is-ascii-spec {M} =
     let answers = tie.spec {M = M}
-    Inv-loop
-    μ-loop
-    (λ c. search writes)
-    (λ c. search writes)
-    (λ c. search writes)
-    (λ c. search writes)
-    (λ c. search writes)
-    (λ c. search writes)
+    Inv-loop μ-loop (λ c. search writes) (λ c. search writes) (λ c. search writes) (λ c. search writes) (λ c. search writes) (λ c. search writes)
     (λ c. search writes) in
     tie.close answers

@@ -12,14 +12,6 @@ add-size-2 c =
 pub size-of-spec : {M : Type 1} → statement M
 size-of-spec {M} =
     let answers = tie.spec {M = M}
-    (λ c. search writes)
-    (λ c κs. search writes)
-    (λ c. search writes)
-    (λ c. search writes)
-    (λ c κs. search writes)
-    (λ c. search writes)
-    (λ c. search writes)
-    add-size-2
-    (λ c. search writes)
-    (λ c. search writes) in
+    (λ c. search writes) (λ c κs. search writes) (λ c. search writes) (λ c. search writes) (λ c κs. search writes) (λ c. search writes)
+    (λ c. search writes) add-size-2 (λ c. search writes) (λ c. search writes) in
     tie.close answers

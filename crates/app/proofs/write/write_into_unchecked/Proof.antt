@@ -10,16 +10,6 @@ returns c =
 pub write-into-unchecked-spec : {M : Type 1} → statement M
 write-into-unchecked-spec {M} =
     let answers = tie.spec {M = M}
-    (λ c. search writes)
-    (λ c. search writes)
-    (λ c κs. search writes)
-    (λ c κs. search writes)
-    (λ c κs. search writes)
-    (λ c. search writes)
-    (λ c. search writes)
-    (λ c κs. search writes)
-    (λ c κs. search writes)
-    (λ c κs. search writes)
-    (λ c. search writes)
-    returns in
+    (λ c. search writes) (λ c. search writes) (λ c κs. search writes) (λ c κs. search writes) (λ c κs. search writes) (λ c. search writes)
+    (λ c. search writes) (λ c κs. search writes) (λ c κs. search writes) (λ c κs. search writes) (λ c. search writes) returns in
     tie.close answers

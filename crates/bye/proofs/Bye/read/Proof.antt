@@ -5,22 +5,7 @@ use Rattle.bye.proofs.Bye.read.Tie as tie
 pub read-spec : {M : Type 1} → statement M
 read-spec {M} =
     let answers = tie.spec {M = M}
-    (λ c κs. search byes)
-    (λ c κs. search byes)
-    (λ c. search byes)
-    (λ c κs. search byes)
-    (λ c. search byes)
-    (λ c. search byes)
-    (λ c. search byes)
-    (λ c κs. search byes)
-    (λ c. search byes)
-    (λ c. search byes)
-    (λ c. search byes)
-    (λ c. search byes)
-    (λ c κs. search byes)
-    (λ c. search byes)
-    (λ c. search byes)
-    (λ c κs. search byes)
-    (λ c. search byes)
-    (λ c. search byes) in
+    (λ c κs. search byes) (λ c κs. search byes) (λ c. search byes) (λ c κs. search byes) (λ c. search byes) (λ c. search byes) (λ c. search byes)
+    (λ c κs. search byes) (λ c. search byes) (λ c. search byes) (λ c. search byes) (λ c. search byes) (λ c κs. search byes) (λ c. search byes)
+    (λ c. search byes) (λ c κs. search byes) (λ c. search byes) (λ c. search byes) in
     tie.close answers

@@ -5,15 +5,6 @@ use Rattle.bye.proofs.Bye.source.Tie as tie
 pub source-spec : {M : Type 1} → statement M
 source-spec {M} =
     let answers = tie.spec {M = M}
-    (λ c κs. search byes)
-    (λ c. search byes)
-    (λ c. search byes)
-    (λ c. search byes)
-    (λ c κs. search byes)
-    (λ c. search byes)
-    (λ c. search byes)
-    (λ c. search byes)
-    (λ c. search byes)
-    (λ c κs. search byes)
-    (λ c. search byes) in
+    (λ c κs. search byes) (λ c. search byes) (λ c. search byes) (λ c. search byes) (λ c κs. search byes) (λ c. search byes) (λ c. search byes)
+    (λ c. search byes) (λ c. search byes) (λ c κs. search byes) (λ c. search byes) in
     tie.close answers

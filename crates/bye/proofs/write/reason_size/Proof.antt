@@ -8,8 +8,5 @@ returns-2 c = reason-long (c .before .args .reason .now) (c .before .pre) (c .if
 pub reason-size-spec : {M : Type 1} → statement M
 reason-size-spec {M} =
     let answers = tie.spec {M = M}
-    (λ c. search writes)
-    (λ c. search writes)
-    (λ c. search writes)
-    returns-2 in
+    (λ c. search writes) (λ c. search writes) (λ c. search writes) returns-2 in
     tie.close answers

@@ -17,14 +17,6 @@ returns-4 c =
 pub size-of-spec : {M : Type 1} → statement M
 size-of-spec {M} =
     let answers = tie.spec {M = M}
-    (λ c. search writes)
-    (λ c κs. search writes)
-    (λ c. search writes)
-    (λ c. search writes)
-    (λ c. search writes)
-    (λ c. search writes)
-    (λ c κs. search writes)
-    (λ c. search writes)
-    add-result-3
-    returns-4 in
+    (λ c. search writes) (λ c κs. search writes) (λ c. search writes) (λ c. search writes) (λ c. search writes) (λ c. search writes)
+    (λ c κs. search writes) (λ c. search writes) add-result-3 returns-4 in
     tie.close answers

@@ -23,16 +23,6 @@ same-length c = c .before .before .write-zeros-unchecked .kept .0 ∙ c .before 
 pub write-reason-spec : {M : Type 1} → statement M
 write-reason-spec {M} =
     let answers = tie.spec {M = M}
-    (λ c. search writes)
-    (λ c. search writes)
-    slice-write-buf
-    (λ c. search writes)
-    write-bytes-unchecked-requires
-    (λ c. search writes)
-    (λ c. search writes)
-    (λ c. search writes)
-    (λ c. search writes)
-    write-zeros-unchecked-requires
-    same-length
-    (λ c. search writes) in
+    (λ c. search writes) (λ c. search writes) slice-write-buf (λ c. search writes) write-bytes-unchecked-requires (λ c. search writes)
+    (λ c. search writes) (λ c. search writes) (λ c. search writes) write-zeros-unchecked-requires same-length (λ c. search writes) in
     tie.close answers

@@ -17,17 +17,6 @@ shared-slice-read-write-u32-unchecked c = search writes
 pub write-sources-spec : {M : Type 1} → statement M
 write-sources-spec {M} =
     let answers = tie.spec {M = M}
-    Inv-loop
-    μ-loop
-    (λ c. search writes)
-    (λ c. search writes)
-    (λ c. search writes)
-    (λ c. search writes)
-    shared-slice-read-write-u32-unchecked
-    (λ c κs. search writes)
-    (λ c. search writes)
-    (λ c. search writes)
-    (λ c. search writes)
-    (λ c. search writes)
-    (λ c. search writes) in
+    Inv-loop μ-loop (λ c. search writes) (λ c. search writes) (λ c. search writes) (λ c. search writes) shared-slice-read-write-u32-unchecked
+    (λ c κs. search writes) (λ c. search writes) (λ c. search writes) (λ c. search writes) (λ c. search writes) (λ c. search writes) in
     tie.close answers

@@ -5,20 +5,7 @@ use Rattle.chunk_write.proofs.chunk.calculate_size.Tie as tie
 pub calculate-size-spec : {M : Type 1} → statement M
 calculate-size-spec {M} =
     let answers = tie.spec {M = M}
-    (λ c κs. search chunks)
-    (λ c. search chunks)
-    (λ c. search chunks)
-    (λ c. search chunks)
-    (λ c. search chunks)
-    (λ c. search chunks)
-    (λ c. search chunks)
-    (λ c. search chunks)
-    (λ c. search chunks)
-    (λ c. search chunks)
-    (λ c. search chunks)
-    (λ c. search chunks)
-    (λ c. search chunks)
-    (λ c κs. search chunks)
-    (λ c. search chunks)
-    (λ c. search chunks) in
+    (λ c κs. search chunks) (λ c. search chunks) (λ c. search chunks) (λ c. search chunks) (λ c. search chunks) (λ c. search chunks)
+    (λ c. search chunks) (λ c. search chunks) (λ c. search chunks) (λ c. search chunks) (λ c. search chunks) (λ c. search chunks) (λ c. search chunks)
+    (λ c κs. search chunks) (λ c. search chunks) (λ c. search chunks) in
     tie.close answers

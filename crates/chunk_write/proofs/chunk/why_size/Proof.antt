@@ -5,8 +5,5 @@ use Rattle.chunk_write.proofs.chunk.why_size.Tie as tie
 pub why-size-spec : {M : Type 1} → statement M
 why-size-spec {M} =
     let answers = tie.spec {M = M}
-    (λ c κs. search chunks)
-    (λ c. search chunks)
-    (λ c κs. search chunks)
-    (λ c. search chunks) in
+    (λ c κs. search chunks) (λ c. search chunks) (λ c κs. search chunks) (λ c. search chunks) in
     tie.close answers

@@ -5,9 +5,5 @@ use Rattle.chunk_write.proofs.chunk.write_into_unchecked.Tie as tie
 pub write-into-unchecked-spec : {M : Type 1} → statement M
 write-into-unchecked-spec {M} =
     let answers = tie.spec {M = M}
-    (λ c. search chunks)
-    (λ c. search chunks)
-    (λ c κs. search chunks)
-    (λ c. search chunks)
-    (λ c. search chunks) in
+    (λ c. search chunks) (λ c. search chunks) (λ c κs. search chunks) (λ c. search chunks) (λ c. search chunks) in
     tie.close answers

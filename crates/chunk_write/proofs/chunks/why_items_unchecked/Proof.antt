@@ -13,24 +13,7 @@ abbrev μ-loop : tie.MeasureT-loop
 pub why-items-unchecked-spec : {M : Type 1} → statement M
 why-items-unchecked-spec {M} =
     let answers = tie.spec {M = M}
-    Inv-loop
-    μ-loop
-    (λ c. search ends)
-    (λ c. search ends)
-    (λ c. search ends)
-    (λ c. search ends)
-    (λ c. search ends)
-    (λ c. search ends)
-    (λ c κs. search ends)
-    (λ c. search ends)
-    (λ c. search ends)
-    (λ c. search ends)
-    (λ c. search ends)
-    (λ c. search ends)
-    (λ c κs. search ends)
-    (λ c. search ends)
-    (λ c. search ends)
-    (λ c. search ends)
-    (λ c. search ends)
-    (λ c. search ends) in
+    Inv-loop μ-loop (λ c. search ends) (λ c. search ends) (λ c. search ends) (λ c. search ends) (λ c. search ends) (λ c. search ends)
+    (λ c κs. search ends) (λ c. search ends) (λ c. search ends) (λ c. search ends) (λ c. search ends) (λ c. search ends) (λ c κs. search ends)
+    (λ c. search ends) (λ c. search ends) (λ c. search ends) (λ c. search ends) (λ c. search ends) in
     tie.close answers

@@ -5,10 +5,5 @@ use Rattle.chunk_write.proofs.chunks.write_chunk_at.Tie as tie
 pub write-chunk-at-spec : {M : Type 1} → statement M
 write-chunk-at-spec {M} =
     let answers = tie.spec {M = M}
-    (λ c. search chunks)
-    (λ c. search chunks)
-    (λ c. search chunks)
-    (λ c κs. search chunks)
-    (λ c. search chunks)
-    (λ c. search chunks) in
+    (λ c. search chunks) (λ c. search chunks) (λ c. search chunks) (λ c κs. search chunks) (λ c. search chunks) (λ c. search chunks) in
     tie.close answers

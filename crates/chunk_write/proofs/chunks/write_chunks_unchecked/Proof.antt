@@ -13,18 +13,7 @@ abbrev μ-loop : tie.MeasureT-loop
 pub write-chunks-unchecked-spec : {M : Type 1} → statement M
 write-chunks-unchecked-spec {M} =
     let answers = tie.spec {M = M}
-    Inv-loop
-    μ-loop
-    (λ c. search chunks)
-    (λ c κs. search chunks)
-    (λ c. search chunks)
-    (λ c. search chunks)
-    (λ c. search chunks)
-    (λ c κs. search chunks)
-    (λ c. search chunks)
-    (λ c. search chunks)
-    (λ c. search chunks)
-    (λ c. search chunks)
-    (λ c. search chunks)
+    Inv-loop μ-loop (λ c. search chunks) (λ c κs. search chunks) (λ c. search chunks) (λ c. search chunks) (λ c. search chunks)
+    (λ c κs. search chunks) (λ c. search chunks) (λ c. search chunks) (λ c. search chunks) (λ c. search chunks) (λ c. search chunks)
     (λ c. search chunks) in
     tie.close answers

@@ -12,19 +12,7 @@ abbrev μ-loop : tie.MeasureT-loop
 pub write-items-spec : {M : Type 1} → statement M
 write-items-spec {M} =
     let answers = tie.spec {M = M}
-    Inv-loop
-    μ-loop
-    (λ c. search chunks)
-    (λ c κs. search chunks)
-    (λ c κs. search chunks)
-    (λ c. search chunks)
-    (λ c κs. search chunks)
-    (λ c. search chunks)
-    (λ c. search chunks)
-    (λ c. search chunks)
-    (λ c. search chunks)
-    (λ c. search chunks)
-    (λ c. search chunks)
-    (λ c. search chunks)
+    Inv-loop μ-loop (λ c. search chunks) (λ c κs. search chunks) (λ c κs. search chunks) (λ c. search chunks) (λ c κs. search chunks)
+    (λ c. search chunks) (λ c. search chunks) (λ c. search chunks) (λ c. search chunks) (λ c. search chunks) (λ c. search chunks) (λ c. search chunks)
     (λ c. search chunks) in
     tie.close answers

@@ -5,6 +5,5 @@ use Rattle.chunk_write.proofs.item.size_of.Tie as tie
 pub size-of-spec : {M : Type 1} → statement M
 size-of-spec {M} =
     let answers = tie.spec {M = M}
-    (λ c κs. search items)
-    (λ c. search items) in
+    (λ c κs. search items) (λ c. search items) in
     tie.close answers

@@ -5,11 +5,5 @@ use Rattle.chunk_write.proofs.item.why_lengths.Tie as tie
 pub why-lengths-spec : {M : Type 1} → statement M
 why-lengths-spec {M} =
     let answers = tie.spec {M = M}
-    (λ c. search items)
-    (λ c. search items)
-    (λ c. search items)
-    (λ c. search items)
-    (λ c. search items)
-    (λ c. search items)
-    (λ c. search items) in
+    (λ c. search items) (λ c. search items) (λ c. search items) (λ c. search items) (λ c. search items) (λ c. search items) (λ c. search items) in
     tie.close answers

@@ -22,13 +22,6 @@ returns-2 c = plain-done (c .before .before .before .before .before .before .bef
 pub write-into-unchecked-spec : {M : Type 1} → statement M
 write-into-unchecked-spec {M} =
     let answers = tie.spec {M = M}
-    write-priv-requires
-    (λ c. search needs)
-    add-result-2
-    (λ c. search needs)
-    returns
-    write-other-requires
-    (λ c. search needs)
-    (λ c. search needs)
+    write-priv-requires (λ c. search needs) add-result-2 (λ c. search needs) returns write-other-requires (λ c. search needs) (λ c. search needs)
     returns-2 in
     tie.close answers

@@ -15,10 +15,5 @@ same-length c = c .before .before .write-bytes-unchecked .kept .0 ∙ simp lengt
 pub write-other-spec : {M : Type 1} → statement M
 write-other-spec {M} =
     let answers = tie.spec {M = M}
-    (λ c. search needs)
-    (λ c. search needs)
-    slice-write-buf-2
-    (λ c κs. search needs)
-    same-length
-    (λ c. search items) in
+    (λ c. search needs) (λ c. search needs) slice-write-buf-2 (λ c κs. search needs) same-length (λ c. search items) in
     tie.close answers

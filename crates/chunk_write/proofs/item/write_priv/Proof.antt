@@ -24,16 +24,6 @@ same-length c = c .before .before .write-bytes-unchecked2 .kept .0 ∙ c .before
 pub write-priv-spec : {M : Type 1} → statement M
 write-priv-spec {M} =
     let answers = tie.spec {M = M}
-    (λ c. search needs)
-    (λ c. search needs)
-    (λ c. search needs)
-    (λ c. search needs)
-    slice-write-buf-2
-    (λ c. search needs)
-    slice-write-buf-3
-    write-bytes-unchecked-requires
-    (λ c. search needs)
-    write-bytes-unchecked-requires-2
-    same-length
-    (λ c. search items) in
+    (λ c. search needs) (λ c. search needs) (λ c. search needs) (λ c. search needs) slice-write-buf-2 (λ c. search needs) slice-write-buf-3
+    write-bytes-unchecked-requires (λ c. search needs) write-bytes-unchecked-requires-2 same-length (λ c. search items) in
     tie.close answers

@@ -5,15 +5,6 @@ use Rattle.compound.proofs.compound.frame_len.Tie as tie
 pub frame-len-spec : {M : Type 1} → statement M
 frame-len-spec {M} =
     let answers = tie.spec {M = M}
-    (λ c. search frames)
-    (λ c κs. search frames)
-    (λ c. search frames)
-    (λ c κs. search frames)
-    (λ c. search frames)
-    (λ c κs. search frames)
-    (λ c. search frames)
-    (λ c κs. search frames)
-    (λ c κs. search frames)
-    (λ c. search frames)
-    (λ c. search frames) in
+    (λ c. search frames) (λ c κs. search frames) (λ c. search frames) (λ c κs. search frames) (λ c. search frames) (λ c κs. search frames)
+    (λ c. search frames) (λ c κs. search frames) (λ c κs. search frames) (λ c. search frames) (λ c. search frames) in
     tie.close answers

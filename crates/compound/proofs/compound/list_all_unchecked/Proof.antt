@@ -19,15 +19,6 @@ loop-holds c =
 pub list-all-unchecked-spec : {M : Type 1} → statement M
 list-all-unchecked-spec {M} =
     let answers = tie.spec {M = M}
-    Inv-loop
-    μ-loop
-    loop-holds
-    (λ c. search listings)
-    (λ c κs. search listings)
-    (λ c. search listings)
-    (λ c. search listings)
-    (λ c. search listings)
-    (λ c. search listings)
-    (λ c. search listings)
-    (λ c. search listings) in
+    Inv-loop μ-loop loop-holds (λ c. search listings) (λ c κs. search listings) (λ c. search listings) (λ c. search listings) (λ c. search listings)
+    (λ c. search listings) (λ c. search listings) (λ c. search listings) in
     tie.close answers

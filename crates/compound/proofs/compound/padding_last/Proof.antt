@@ -5,7 +5,5 @@ use Rattle.compound.proofs.compound.padding_last.Tie as tie
 pub padding-last-spec : {M : Type 1} → statement M
 padding-last-spec {M} =
     let answers = tie.spec {M = M}
-    (λ c κs. search frames)
-    (λ c. search frames)
-    (λ c. search frames) in
+    (λ c κs. search frames) (λ c. search frames) (λ c. search frames) in
     tie.close answers

@@ -5,17 +5,7 @@ use Rattle.compound.proofs.compound.read_packet.Tie as tie
 pub read-packet-spec : {M : Type 1} → statement M
 read-packet-spec {M} =
     let answers = tie.spec {M = M}
-    (λ c κs. search frames)
-    (λ c. search frames)
-    (λ c. search frames)
-    (λ c. search frames)
-    (λ c κs. search frames)
-    (λ c. search frames)
-    (λ c. search frames)
-    (λ c κs. search frames)
-    (λ c. search frames)
-    (λ c. search frames)
-    (λ c κs. search frames)
-    (λ c. search frames)
+    (λ c κs. search frames) (λ c. search frames) (λ c. search frames) (λ c. search frames) (λ c κs. search frames) (λ c. search frames)
+    (λ c. search frames) (λ c κs. search frames) (λ c. search frames) (λ c. search frames) (λ c κs. search frames) (λ c. search frames)
     (λ c. search frames) in
     tie.close answers

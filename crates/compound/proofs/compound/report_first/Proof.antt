@@ -5,7 +5,5 @@ use Rattle.compound.proofs.compound.report_first.Tie as tie
 pub report-first-spec : {M : Type 1} → statement M
 report-first-spec {M} =
     let answers = tie.spec {M = M}
-    (λ c. search frames)
-    (λ c. search frames)
-    (λ c. search frames) in
+    (λ c. search frames) (λ c. search frames) (λ c. search frames) in
     tie.close answers

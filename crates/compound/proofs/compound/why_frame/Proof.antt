@@ -5,15 +5,6 @@ use Rattle.compound.proofs.compound.why_frame.Tie as tie
 pub why-frame-spec : {M : Type 1} → statement M
 why-frame-spec {M} =
     let answers = tie.spec {M = M}
-    (λ c. search frames)
-    (λ c κs. search frames)
-    (λ c. search frames)
-    (λ c κs. search frames)
-    (λ c. search frames)
-    (λ c κs. search frames)
-    (λ c. search frames)
-    (λ c κs. search frames)
-    (λ c κs. search frames)
-    (λ c. search frames)
-    (λ c. search frames) in
+    (λ c. search frames) (λ c κs. search frames) (λ c. search frames) (λ c κs. search frames) (λ c. search frames) (λ c κs. search frames)
+    (λ c. search frames) (λ c κs. search frames) (λ c κs. search frames) (λ c. search frames) (λ c. search frames) in
     tie.close answers

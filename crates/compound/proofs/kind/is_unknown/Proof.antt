@@ -5,17 +5,7 @@ use Rattle.compound.proofs.kind.is_unknown.Tie as tie
 pub is-unknown-spec : {M : Type 1} → statement M
 is-unknown-spec {M} =
     let answers = tie.spec {M = M}
-    (λ c κs. search unknown-kinds)
-    (λ c. search unknown-kinds)
-    (λ c. search unknown-kinds)
-    (λ c. search unknown-kinds)
-    (λ c. search unknown-kinds)
-    (λ c. search unknown-kinds)
-    (λ c. search unknown-kinds)
-    (λ c. search unknown-kinds)
-    (λ c. search unknown-kinds)
-    (λ c. search unknown-kinds)
-    (λ c. search unknown-kinds)
-    (λ c. search unknown-kinds)
-    (λ c. search unknown-kinds) in
+    (λ c κs. search unknown-kinds) (λ c. search unknown-kinds) (λ c. search unknown-kinds) (λ c. search unknown-kinds) (λ c. search unknown-kinds)
+    (λ c. search unknown-kinds) (λ c. search unknown-kinds) (λ c. search unknown-kinds) (λ c. search unknown-kinds) (λ c. search unknown-kinds)
+    (λ c. search unknown-kinds) (λ c. search unknown-kinds) (λ c. search unknown-kinds) in
     tie.close answers

@@ -5,11 +5,6 @@ use Rattle.compound.proofs.kind.kind_of.Tie as tie
 pub kind-of-spec : {M : Type 1} → statement M
 kind-of-spec {M} =
     let answers = tie.spec {M = M}
-    (λ c κs. search kinds-by-type)
-    (λ c. search kinds-by-type)
-    (λ c. search kinds-by-type)
-    (λ c. search kinds-by-type)
-    (λ c. search kinds-by-type)
-    (λ c. search kinds-by-type)
-    (λ c. search kinds-by-type) in
+    (λ c κs. search kinds-by-type) (λ c. search kinds-by-type) (λ c. search kinds-by-type) (λ c. search kinds-by-type) (λ c. search kinds-by-type)
+    (λ c. search kinds-by-type) (λ c. search kinds-by-type) in
     tie.close answers

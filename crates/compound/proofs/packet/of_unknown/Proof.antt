@@ -16,8 +16,5 @@ returns-2 c = search (packets, shown parsedUnknownOf unknownPacket)
 pub of-unknown-spec : {M : Type 1} → statement M
 of-unknown-spec {M} =
     let answers = tie.spec {M = M}
-    (λ c. search packets)
-    (λ c. search packets)
-    returns
-    returns-2 in
+    (λ c. search packets) (λ c. search packets) returns returns-2 in
     tie.close answers

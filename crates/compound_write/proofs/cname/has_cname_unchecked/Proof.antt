@@ -13,16 +13,6 @@ abbrev μ-loop : tie.MeasureT-loop
 pub has-cname-unchecked-spec : {M : Type 1} → statement M
 has-cname-unchecked-spec {M} =
     let answers = tie.spec {M = M}
-    Inv-loop
-    μ-loop
-    (λ c. search namings)
-    (λ c. search namings)
-    (λ c. search namings)
-    (λ c. search namings)
-    (λ c κs. search namings)
-    (λ c. search namings)
-    (λ c. search namings)
-    (λ c. search namings)
-    (λ c. search namings)
-    (λ c. search namings) in
+    Inv-loop μ-loop (λ c. search namings) (λ c. search namings) (λ c. search namings) (λ c. search namings) (λ c κs. search namings)
+    (λ c. search namings) (λ c. search namings) (λ c. search namings) (λ c. search namings) (λ c. search namings) in
     tie.close answers

@@ -12,18 +12,6 @@ abbrev μ-loop : tie.MeasureT-loop
 pub list-all-unchecked-spec : {M : Type 1} → statement M
 list-all-unchecked-spec {M} =
     let answers = tie.spec {M = M}
-    Inv-loop
-    μ-loop
-    (λ c. search blocks)
-    (λ c. search blocks)
-    (λ c. search blocks)
-    (λ c. search blocks)
-    (λ c κs. search blocks)
-    (λ c. search blocks)
-    (λ c. search blocks)
-    (λ c. search blocks)
-    (λ c. search blocks)
-    (λ c. search blocks)
-    (λ c. search blocks)
-    (λ c. search blocks) in
+    Inv-loop μ-loop (λ c. search blocks) (λ c. search blocks) (λ c. search blocks) (λ c. search blocks) (λ c κs. search blocks) (λ c. search blocks)
+    (λ c. search blocks) (λ c. search blocks) (λ c. search blocks) (λ c. search blocks) (λ c. search blocks) (λ c. search blocks) in
     tie.close answers

@@ -28,26 +28,8 @@ same-length-3 c = simp length-set (omega arith)
 pub list-block-unchecked-spec : {M : Type 1} → statement M
 list-block-unchecked-spec {M} =
     let answers = tie.spec {M = M}
-    (λ c κs. search blocks)
-    (λ c. search blocks)
-    (λ c. search blocks)
-    (λ c. search blocks)
-    (λ c. search blocks)
-    (λ c. search blocks)
-    (λ c. search blocks)
-    (λ c. search blocks)
-    slice-write-words-2
-    (λ c. search blocks)
-    (λ c. search blocks)
-    slice-write-words-3
-    (λ c. search blocks)
-    (λ c. search blocks)
-    slice-write-words-4
-    (λ c. search blocks)
-    (λ c. search blocks)
-    slice-write-words-5
-    same-length
-    same-length-2
-    same-length-3
+    (λ c κs. search blocks) (λ c. search blocks) (λ c. search blocks) (λ c. search blocks) (λ c. search blocks) (λ c. search blocks)
+    (λ c. search blocks) (λ c. search blocks) slice-write-words-2 (λ c. search blocks) (λ c. search blocks) slice-write-words-3 (λ c. search blocks)
+    (λ c. search blocks) slice-write-words-4 (λ c. search blocks) (λ c. search blocks) slice-write-words-5 same-length same-length-2 same-length-3
     (λ c. search blocks) in
     tie.close answers

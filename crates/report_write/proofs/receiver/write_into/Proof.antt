@@ -5,20 +5,7 @@ use Rattle.report_write.proofs.receiver.write_into.Tie as tie
 pub write-into-spec : {M : Type 1} → statement M
 write-into-spec {M} =
     let answers = tie.spec {M = M}
-    (λ c κs. search reports)
-    (λ c. search reports)
-    (λ c. search reports)
-    (λ c. search reports)
-    (λ c. search reports)
-    (λ c. search reports)
-    (λ c. search reports)
-    (λ c. search reports)
-    (λ c. search reports)
-    (λ c. search reports)
-    (λ c κs. search reports)
-    (λ c. search reports)
-    (λ c. search reports)
-    (λ c κs. search reports)
-    (λ c. search reports)
-    (λ c. search reports) in
+    (λ c κs. search reports) (λ c. search reports) (λ c. search reports) (λ c. search reports) (λ c. search reports) (λ c. search reports)
+    (λ c. search reports) (λ c. search reports) (λ c. search reports) (λ c. search reports) (λ c κs. search reports) (λ c. search reports)
+    (λ c. search reports) (λ c κs. search reports) (λ c. search reports) (λ c. search reports) in
     tie.close answers

@@ -5,10 +5,5 @@ use Rattle.report_write.proofs.receiver.write_into_unchecked.Tie as tie
 pub write-into-unchecked-spec : {M : Type 1} → statement M
 write-into-unchecked-spec {M} =
     let answers = tie.spec {M = M}
-    (λ c. search reports)
-    (λ c κs. search reports)
-    (λ c κs. search reports)
-    (λ c κs. search reports)
-    (λ c. search reports)
-    (λ c. search reports) in
+    (λ c. search reports) (λ c κs. search reports) (λ c κs. search reports) (λ c κs. search reports) (λ c. search reports) (λ c. search reports) in
     tie.close answers

@@ -15,14 +15,6 @@ abbrev μ-loop : tie.MeasureT-loop
 pub decisive-loss-spec : {M : Type 1} → statement M
 decisive-loss-spec {M} =
     let answers = tie.spec {M = M}
-    Inv-loop
-    μ-loop
-    (λ c. search blocks)
-    (λ c. search blocks)
-    (λ c. search blocks)
-    (λ c κs. search blocks)
-    (λ c. search blocks)
-    (λ c. search blocks)
-    (λ c. search blocks)
-    (λ c. search blocks) in
+    Inv-loop μ-loop (λ c. search blocks) (λ c. search blocks) (λ c. search blocks) (λ c κs. search blocks) (λ c. search blocks) (λ c. search blocks)
+    (λ c. search blocks) (λ c. search blocks) in
     tie.close answers

@@ -16,13 +16,6 @@ abbrev μ-loop : tie.MeasureT-loop
 pub merged-losses-spec : {M : Type 1} → statement M
 merged-losses-spec {M} =
     let answers = tie.spec {M = M}
-    Inv-loop
-    μ-loop
-    (λ c. search blocks)
-    (λ c. search blocks)
-    (λ c. search blocks)
-    (λ c. search blocks)
-    (λ c. search blocks)
-    (λ c. search blocks)
+    Inv-loop μ-loop (λ c. search blocks) (λ c. search blocks) (λ c. search blocks) (λ c. search blocks) (λ c. search blocks) (λ c. search blocks)
     (λ c. search blocks) in
     tie.close answers

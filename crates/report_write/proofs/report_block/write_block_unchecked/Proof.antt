@@ -5,19 +5,7 @@ use Rattle.report_write.proofs.report_block.write_block_unchecked.Tie a
 pub write-block-unchecked-spec : {M : Type 1} → statement M
 write-block-unchecked-spec {M} =
     let answers = tie.spec {M = M}
-    (λ c κs. search blocks)
-    (λ c. search blocks)
-    (λ c. search blocks)
-    (λ c. search blocks)
-    (λ c κs. search blocks)
-    (λ c. search blocks)
-    (λ c κs. search blocks)
-    (λ c. search blocks)
-    (λ c κs. search blocks)
-    (λ c. search blocks)
-    (λ c κs. search blocks)
-    (λ c. search blocks)
-    (λ c κs. search blocks)
-    (λ c. search blocks)
-    (λ c. search blocks) in
+    (λ c κs. search blocks) (λ c. search blocks) (λ c. search blocks) (λ c. search blocks) (λ c κs. search blocks) (λ c. search blocks)
+    (λ c κs. search blocks) (λ c. search blocks) (λ c κs. search blocks) (λ c. search blocks) (λ c κs. search blocks) (λ c. search blocks)
+    (λ c κs. search blocks) (λ c. search blocks) (λ c. search blocks) in
     tie.close answers

@@ -46,33 +46,10 @@ loop-again c = (search blocks, search blocks, search blocks, search blocks, sear
 pub write-blocks-unchecked-spec : {M : Type 1} → statement M
 write-blocks-unchecked-spec {M} =
     let answers = tie.spec {M = M}
-    Inv-loop
-    μ-loop
-    (λ c. search blocks)
-    (λ c. search blocks)
-    (λ c. search blocks)
-    (λ c. search blocks)
-    (λ c. search blocks)
-    shared-slice-read-write-block-unchecked
-    shared-slice-read-write-block-unchecked-2
-    (λ c. search blocks)
-    shared-slice-read-write-block-unchecked-3
-    (λ c. search blocks)
-    (λ c. search blocks)
-    shared-slice-read-write-block-unchecked-4
-    (λ c. search blocks)
-    (λ c. search blocks)
-    shared-slice-read-write-block-unchecked-5
-    (λ c. search blocks)
-    (λ c. search blocks)
-    shared-slice-read-write-block-unchecked-6
-    (λ c. search blocks)
-    (λ c. search blocks)
-    shared-slice-read-write-block-unchecked-7
-    (λ c κs. search blocks)
-    (λ c. search blocks)
-    (λ c. search blocks)
-    loop-again
-    (λ c. search blocks)
-    (λ c. search blocks) in
+    Inv-loop μ-loop (λ c. search blocks) (λ c. search blocks) (λ c. search blocks) (λ c. search blocks) (λ c. search blocks)
+    shared-slice-read-write-block-unchecked shared-slice-read-write-block-unchecked-2 (λ c. search blocks) shared-slice-read-write-block-unchecked-3
+    (λ c. search blocks) (λ c. search blocks) shared-slice-read-write-block-unchecked-4 (λ c. search blocks) (λ c. search blocks)
+    shared-slice-read-write-block-unchecked-5 (λ c. search blocks) (λ c. search blocks) shared-slice-read-write-block-unchecked-6 (λ c. search blocks)
+    (λ c. search blocks) shared-slice-read-write-block-unchecked-7 (λ c κs. search blocks) (λ c. search blocks) (λ c. search blocks) loop-again
+    (λ c. search blocks) (λ c. search blocks) in
     tie.close answers

@@ -5,11 +5,6 @@ use Rattle.report_write.proofs.sender.write_info.Tie as tie
 pub write-info-spec : {M : Type 1} → statement M
 write-info-spec {M} =
     let answers = tie.spec {M = M}
-    (λ c κs. search reports)
-    (λ c κs. search reports)
-    (λ c κs. search reports)
-    (λ c κs. search reports)
-    (λ c κs. search reports)
-    (λ c. search reports)
+    (λ c κs. search reports) (λ c κs. search reports) (λ c κs. search reports) (λ c κs. search reports) (λ c κs. search reports) (λ c. search reports)
     (λ c. search reports) in
     tie.close answers

@@ -9,6 +9,5 @@ returns c = search (needs, counts)
 pub limited-spec : {M : Type 1} → statement M
 limited-spec {M} =
     let answers = tie.spec {M = M}
-    (λ c κs. search needs)
-    returns in
+    (λ c κs. search needs) returns in
     tie.close answers

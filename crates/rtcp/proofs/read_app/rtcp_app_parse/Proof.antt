@@ -17,13 +17,6 @@ returns-2 c = search (needs, turned appResult parsedOf parsed.Refused (λ e. ref
 pub rtcp-app-parse-spec : {M : Type 1} → statement M
 rtcp-app-parse-spec {M} =
     let answers = tie.spec {M = M}
-    (λ c κs. search needs)
-    (λ c. search needs)
-    (λ c. search needs)
-    (λ c. search needs)
-    (λ c. search apps)
-    (λ c. search needs)
-    (λ c κs. search needs)
-    returns
-    returns-2 in
+    (λ c κs. search needs) (λ c. search needs) (λ c. search needs) (λ c. search needs) (λ c. search apps) (λ c. search needs) (λ c κs. search needs)
+    returns returns-2 in
     tie.close answers

@@ -14,14 +14,6 @@ returns-2 c = search (needs, turned byeResult parsedOf parsed.Refused (λ e. ref
 pub rtcp-bye-parse-spec : {M : Type 1} → statement M
 rtcp-bye-parse-spec {M} =
     let answers = tie.spec {M = M}
-    (λ c κs. search needs)
-    (λ c. search needs)
-    (λ c κs. search needs)
-    (λ c. search byes)
-    (λ c. search byes)
-    (λ c. search byes)
-    (λ c. search needs)
-    (λ c κs. search needs)
-    (λ c. search byes)
-    returns-2 in
+    (λ c κs. search needs) (λ c. search needs) (λ c κs. search needs) (λ c. search byes) (λ c. search byes) (λ c. search byes) (λ c. search needs)
+    (λ c κs. search needs) (λ c. search byes) returns-2 in
     tie.close answers

@@ -16,11 +16,5 @@ returns-2 c = search (needs, turned sourceResult sourceOf parsed.Refused (λ e. 
 pub rtcp-bye-source-spec : {M : Type 1} → statement M
 rtcp-bye-source-spec {M} =
     let answers = tie.spec {M = M}
-    (λ c κs. search needs)
-    (λ c. search needs)
-    (λ c. search needs)
-    (λ c. search needs)
-    (λ c κs. search needs)
-    returns
-    returns-2 in
+    (λ c κs. search needs) (λ c. search needs) (λ c. search needs) (λ c. search needs) (λ c κs. search needs) returns returns-2 in
     tie.close answers

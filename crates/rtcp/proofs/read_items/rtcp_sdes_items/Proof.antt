@@ -6,8 +6,5 @@ use Rattle.rtcp.proofs.read_items.rtcp_sdes_items.Tie as tie
 pub rtcp-sdes-items-spec : {M : Type 1} → statement M
 rtcp-sdes-items-spec {M} =
     let answers = tie.spec {M = M}
-    (λ c κs. search needs)
-    (λ c κs. search needs)
-    (λ c. search needs)
-    (λ c. search outs) in
+    (λ c κs. search needs) (λ c κs. search needs) (λ c. search needs) (λ c. search outs) in
     tie.close answers

@@ -11,7 +11,5 @@ returns c = search (needs, passed blockResult parsedBlockOf)
 pub rtcp-rr-report-block-spec : {M : Type 1} → statement M
 rtcp-rr-report-block-spec {M} =
     let answers = tie.spec {M = M}
-    (λ c κs. search needs)
-    (λ c κs. search needs)
-    returns in
+    (λ c κs. search needs) (λ c κs. search needs) returns in
     tie.close answers

@@ -5,10 +5,5 @@ use Rattle.rtcp.proofs.read_report.rtcp_sr_report_blocks.Tie as tie
 pub rtcp-sr-report-blocks-spec : {M : Type 1} → statement M
 rtcp-sr-report-blocks-spec {M} =
     let answers = tie.spec {M = M}
-    (λ c κs. search reports)
-    (λ c κs. search reports)
-    (λ c. search reports)
-    (λ c. search reports)
-    (λ c. search reports)
-    (λ c. search reports) in
+    (λ c κs. search reports) (λ c κs. search reports) (λ c. search reports) (λ c. search reports) (λ c. search reports) (λ c. search reports) in
     tie.close answers

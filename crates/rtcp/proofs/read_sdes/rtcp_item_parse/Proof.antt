@@ -14,12 +14,6 @@ returns-2 c = search (needs, turned itemResult parsedItemOf parsed.Refused (λ e
 pub rtcp-item-parse-spec : {M : Type 1} → statement M
 rtcp-item-parse-spec {M} =
     let answers = tie.spec {M = M}
-    (λ c κs. search needs)
-    (λ c. search needs)
-    (λ c κs. search descriptions)
-    (λ c. search needs)
-    (λ c. search needs)
-    (λ c κs. search needs)
-    (λ c. search descriptions)
-    returns-2 in
+    (λ c κs. search needs) (λ c. search needs) (λ c κs. search descriptions) (λ c. search needs) (λ c. search needs) (λ c κs. search needs)
+    (λ c. search descriptions) returns-2 in
     tie.close answers

@@ -8,10 +8,6 @@ returns c = prefix-none _ _ _ (c .before .priv-prefix .ensures) (c .if1 .taken)
 pub rtcp-item-priv-prefix-spec : {M : Type 1} → statement M
 rtcp-item-priv-prefix-spec {M} =
     let answers = tie.spec {M = M}
-    (λ c κs. search descriptions)
-    (λ c. search descriptions)
-    (λ c. search descriptions)
-    (λ c. search descriptions)
-    returns
+    (λ c κs. search descriptions) (λ c. search descriptions) (λ c. search descriptions) (λ c. search descriptions) returns
     (λ c. search descriptions) in
     tie.close answers

@@ -16,10 +16,5 @@ returns-2 c = search (needs, turned itemWalkResult openedItemsOf parsed.Refused 
 pub rtcp-item-walk-open-spec : {M : Type 1} → statement M
 rtcp-item-walk-open-spec {M} =
     let answers = tie.spec {M = M}
-    (λ c κs. search needs)
-    (λ c. search needs)
-    (λ c. search needs)
-    (λ c κs. search needs)
-    returns
-    returns-2 in
+    (λ c κs. search needs) (λ c. search needs) (λ c. search needs) (λ c κs. search needs) returns returns-2 in
     tie.close answers

@@ -14,11 +14,6 @@ returns-2 c = search (needs, turned sdesResult parsedSdesOf parsed.Refused (λ e
 pub rtcp-sdes-parse-spec : {M : Type 1} → statement M
 rtcp-sdes-parse-spec {M} =
     let answers = tie.spec {M = M}
-    (λ c κs. search needs)
-    (λ c. search needs)
-    (λ c κs. search needs)
-    (λ c. search needs)
-    (λ c κs. search needs)
-    (λ c. search descriptions)
+    (λ c κs. search needs) (λ c. search needs) (λ c κs. search needs) (λ c. search needs) (λ c κs. search needs) (λ c. search descriptions)
     returns-2 in
     tie.close answers

@@ -6,8 +6,5 @@ use Rattle.rtcp.proofs.write_app.rtcp_app_write.Tie as tie
 pub rtcp-app-write-spec : {M : Type 1} → statement M
 rtcp-app-write-spec {M} =
     let answers = tie.spec {M = M}
-    (λ c κs. search needs)
-    (λ c κs. search needs)
-    (λ c. search needs)
-    (λ c. search outs) in
+    (λ c κs. search needs) (λ c κs. search needs) (λ c. search needs) (λ c. search outs) in
     tie.close answers

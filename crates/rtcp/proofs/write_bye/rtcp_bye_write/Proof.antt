@@ -6,8 +6,5 @@ use Rattle.rtcp.proofs.write_bye.rtcp_bye_write.Tie as tie
 pub rtcp-bye-write-spec : {M : Type 1} → statement M
 rtcp-bye-write-spec {M} =
     let answers = tie.spec {M = M}
-    (λ c κs. search needs)
-    (λ c κs. search needs)
-    (λ c. search needs)
-    (λ c. search outs) in
+    (λ c κs. search needs) (λ c κs. search needs) (λ c. search needs) (λ c. search outs) in
     tie.close answers

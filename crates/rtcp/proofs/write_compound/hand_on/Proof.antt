@@ -5,10 +5,5 @@ use Rattle.rtcp.proofs.write_compound.hand_on.Tie as tie
 pub hand-on-spec : {M : Type 1} → statement M
 hand-on-spec {M} =
     let answers = tie.spec {M = M}
-    (λ c. search calls)
-    (λ c κs. search calls)
-    (λ c. search calls)
-    (λ c κs. search calls)
-    (λ c. search calls)
-    (λ c. search calls) in
+    (λ c. search calls) (λ c κs. search calls) (λ c. search calls) (λ c κs. search calls) (λ c. search calls) (λ c. search calls) in
     tie.close answers

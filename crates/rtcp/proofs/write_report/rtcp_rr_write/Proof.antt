@@ -5,8 +5,5 @@ use Rattle.rtcp.proofs.write_report.rtcp_rr_write.Tie as tie
 pub rtcp-rr-write-spec : {M : Type 1} → statement M
 rtcp-rr-write-spec {M} =
     let answers = tie.spec {M = M}
-    (λ c κs. search sizes)
-    (λ c κs. search sizes)
-    (λ c. search sizes)
-    (λ c. search sizes) in
+    (λ c κs. search sizes) (λ c κs. search sizes) (λ c. search sizes) (λ c. search sizes) in
     tie.close answers

@@ -6,8 +6,5 @@ use Rattle.rtcp.proofs.write_sdes.rtcp_chunk_write.Tie as tie
 pub rtcp-chunk-write-spec : {M : Type 1} → statement M
 rtcp-chunk-write-spec {M} =
     let answers = tie.spec {M = M}
-    (λ c κs. search needs)
-    (λ c κs. search needs)
-    (λ c. search needs)
-    (λ c. search outs) in
+    (λ c κs. search needs) (λ c κs. search needs) (λ c. search needs) (λ c. search outs) in
     tie.close answers

@@ -6,7 +6,5 @@ use Rattle.rtcp.proofs.write_sdes.rtcp_item_size.Tie as tie
 pub rtcp-item-size-spec : {M : Type 1} → statement M
 rtcp-item-size-spec {M} =
     let answers = tie.spec {M = M}
-    (λ c κs. search needs)
-    (λ c κs. search needs)
-    (λ c. search outs) in
+    (λ c κs. search needs) (λ c κs. search needs) (λ c. search outs) in
     tie.close answers

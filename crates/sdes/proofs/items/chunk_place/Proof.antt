@@ -5,8 +5,5 @@ use Rattle.sdes.proofs.items.chunk_place.Tie as tie
 pub chunk-place-spec : {M : Type 1} → statement M
 chunk-place-spec {M} =
     let answers = tie.spec {M = M}
-    (λ c. search rows)
-    (λ c. search rows)
-    (λ c κs. search rows)
-    (λ c. search rows) in
+    (λ c. search rows) (λ c. search rows) (λ c κs. search rows) (λ c. search rows) in
     tie.close answers

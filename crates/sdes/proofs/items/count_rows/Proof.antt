@@ -16,13 +16,5 @@ returns c = count-done _ _ _ (c .before .before .loop .inv) (c .before .before .
 pub count-rows-spec : {M : Type 1} → statement M
 count-rows-spec {M} =
     let answers = tie.spec {M = M}
-    Inv-loop
-    μ-loop
-    (λ c κs. search rows)
-    (λ c. search rows)
-    (λ c κs. search rows)
-    (λ c. search rows)
-    (λ c. search rows)
-    (λ c. search rows)
-    returns in
+    Inv-loop μ-loop (λ c κs. search rows) (λ c. search rows) (λ c κs. search rows) (λ c. search rows) (λ c. search rows) (λ c. search rows) returns in
     tie.close answers

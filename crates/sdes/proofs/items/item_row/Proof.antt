@@ -31,23 +31,7 @@ add-t13 c =
 pub item-row-spec : {M : Type 1} → statement M
 item-row-spec {M} =
     let answers = tie.spec {M = M}
-    (λ c. search rows)
-    (λ c. search rows)
-    (λ c. search rows)
-    (λ c. search rows)
-    (λ c κs. search rows)
-    (λ c. search rows)
-    add-t16
-    cast-t17
-    (λ c. search rows)
-    (λ c. search rows)
-    (λ c. search rows)
-    add-t10
-    add-t13
-    (λ c. search rows)
-    (λ c. search rows)
-    (λ c. search rows)
-    (λ c. search rows)
-    (λ c. search rows)
-    (λ c. search rows) in
+    (λ c. search rows) (λ c. search rows) (λ c. search rows) (λ c. search rows) (λ c κs. search rows) (λ c. search rows) add-t16 cast-t17
+    (λ c. search rows) (λ c. search rows) (λ c. search rows) add-t10 add-t13 (λ c. search rows) (λ c. search rows) (λ c. search rows)
+    (λ c. search rows) (λ c. search rows) (λ c. search rows) in
     tie.close answers

@@ -22,16 +22,6 @@ lay-rows-requires c κs =
 pub items-spec : {M : Type 1} → statement M
 items-spec {M} =
     let answers = tie.spec {M = M}
-    (λ c κs. search rows)
-    (λ c. search rows)
-    (λ c. search rows)
-    (λ c. search rows)
-    (λ c κs. search rows)
-    (λ c. search rows)
-    (λ c. search rows)
-    needed-requires
-    (λ c. search rows)
-    lay-rows-requires
-    (λ c. search rows)
-    (λ c. search rows) in
+    (λ c κs. search rows) (λ c. search rows) (λ c. search rows) (λ c. search rows) (λ c κs. search rows) (λ c. search rows) (λ c. search rows)
+    needed-requires (λ c. search rows) lay-rows-requires (λ c. search rows) (λ c. search rows) in
     tie.close answers

@@ -13,9 +13,5 @@ returns c = chunk-laid _ _ _ _ _ _ _ (c .before .before .before .before .before 
 pub lay-chunk-spec : {M : Type 1} → statement M
 lay-chunk-spec {M} =
     let answers = tie.spec {M = M}
-    (λ c κs. search rows)
-    lay-end-requires
-    (λ c. search rows)
-    (λ c. search rows)
-    returns in
+    (λ c κs. search rows) lay-end-requires (λ c. search rows) (λ c. search rows) returns in
     tie.close answers

@@ -27,15 +27,6 @@ loop-again c =
 pub lay-items-spec : {M : Type 1} → statement M
 lay-items-spec {M} =
     let answers = tie.spec {M = M}
-    Inv-loop
-    μ-loop
-    (λ c. search rows)
-    (λ c κs. search rows)
-    (λ c. search rows)
-    (λ c. search rows)
-    (λ c κs. search rows)
-    (λ c κs. search rows)
-    (λ c. search rows)
-    loop-less
-    loop-again in
+    Inv-loop μ-loop (λ c. search rows) (λ c κs. search rows) (λ c. search rows) (λ c. search rows) (λ c κs. search rows) (λ c κs. search rows)
+    (λ c. search rows) loop-less loop-again in
     tie.close answers

@@ -14,13 +14,6 @@ abbrev μ-loop : tie.MeasureT-loop
 pub lay-rows-spec : {M : Type 1} → statement M
 lay-rows-spec {M} =
     let answers = tie.spec {M = M}
-    Inv-loop
-    μ-loop
-    (λ c κs. search rows)
-    (λ c. search rows)
-    (λ c κs. search rows)
-    (λ c. search rows)
-    (λ c. search rows)
-    (λ c. search rows)
+    Inv-loop μ-loop (λ c κs. search rows) (λ c. search rows) (λ c κs. search rows) (λ c. search rows) (λ c. search rows) (λ c. search rows)
     (λ c. search rows) in
     tie.close answers

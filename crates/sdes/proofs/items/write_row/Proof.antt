@@ -22,20 +22,7 @@ same-length c = simp length-set (omega arith)
 pub write-row-spec : {M : Type 1} → statement M
 write-row-spec {M} =
     let answers = tie.spec {M = M}
-    (λ c. search rows)
-    (λ c. search rows)
-    (λ c. search rows)
-    (λ c. search rows)
-    slice-write-rows-2
-    (λ c. search rows)
-    (λ c. search rows)
-    slice-write-rows-3
-    (λ c. search rows)
-    (λ c. search rows)
-    slice-write-rows-4
-    (λ c. search rows)
-    (λ c. search rows)
-    slice-write-rows-5
-    same-length
+    (λ c. search rows) (λ c. search rows) (λ c. search rows) (λ c. search rows) slice-write-rows-2 (λ c. search rows) (λ c. search rows)
+    slice-write-rows-3 (λ c. search rows) (λ c. search rows) slice-write-rows-4 (λ c. search rows) (λ c. search rows) slice-write-rows-5 same-length
     (λ c. search rows) in
     tie.close answers

@@ -11,16 +11,6 @@ returns-5 c =
 pub chunk-end-spec : {M : Type 1} → statement M
 chunk-end-spec {M} =
     let answers = tie.spec {M = M}
-    (λ c κs. search chunks)
-    (λ c. search chunks)
-    (λ c κs. search chunks)
-    (λ c κs. search chunks)
-    (λ c. search chunks)
-    (λ c κs. search chunks)
-    (λ c κs. search chunks)
-    (λ c. search chunks)
-    (λ c κs. search chunks)
-    (λ c κs. search chunks)
-    (λ c. search chunks)
-    returns-5 in
+    (λ c κs. search chunks) (λ c. search chunks) (λ c κs. search chunks) (λ c κs. search chunks) (λ c. search chunks) (λ c κs. search chunks)
+    (λ c κs. search chunks) (λ c. search chunks) (λ c κs. search chunks) (λ c κs. search chunks) (λ c. search chunks) returns-5 in
     tie.close answers

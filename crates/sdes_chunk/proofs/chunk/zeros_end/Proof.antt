@@ -12,15 +12,6 @@ abbrev μ-loop : tie.MeasureT-loop
 pub zeros-end-spec : {M : Type 1} → statement M
 zeros-end-spec {M} =
     let answers = tie.spec {M = M}
-    Inv-loop
-    μ-loop
-    (λ c. search chunks)
-    (λ c. search chunks)
-    (λ c. search chunks)
-    (λ c. search chunks)
-    (λ c. search chunks)
-    (λ c. search chunks)
-    (λ c. search chunks)
-    (λ c. search chunks)
-    (λ c. search chunks) in
+    Inv-loop μ-loop (λ c. search chunks) (λ c. search chunks) (λ c. search chunks) (λ c. search chunks) (λ c. search chunks) (λ c. search chunks)
+    (λ c. search chunks) (λ c. search chunks) (λ c. search chunks) in
     tie.close answers

@@ -5,15 +5,6 @@ use Rattle.utils.proofs.parser.padded_body.Tie as tie
 pub padded-body-spec : {M : Type 1} → statement M
 padded-body-spec {M} =
     let answers = tie.spec {M = M}
-    (λ c κs. search bodies)
-    (λ c. search bodies)
-    (λ c. search bodies)
-    (λ c. search bodies)
-    (λ c κs. search bodies)
-    (λ c. search bodies)
-    (λ c. search bodies)
-    (λ c. search bodies)
-    (λ c. search bodies)
-    (λ c. search bodies)
-    (λ c. search bodies) in
+    (λ c κs. search bodies) (λ c. search bodies) (λ c. search bodies) (λ c. search bodies) (λ c κs. search bodies) (λ c. search bodies)
+    (λ c. search bodies) (λ c. search bodies) (λ c. search bodies) (λ c. search bodies) (λ c. search bodies) in
     tie.close answers

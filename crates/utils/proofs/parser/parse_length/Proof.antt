@@ -10,9 +10,5 @@ returns c = search needs
 pub parse-length-spec : {M : Type 1} → statement M
 parse-length-spec {M} =
     let answers = tie.spec {M = M}
-    (λ c κs. search needs)
-    (λ c. search needs)
-    (λ c. search needs)
-    (λ c. search needs)
-    returns in
+    (λ c κs. search needs) (λ c. search needs) (λ c. search needs) (λ c. search needs) returns in
     tie.close answers

@@ -14,7 +14,5 @@ returns-2 c = search needs
 pub parse-packet-type-spec : {M : Type 1} → statement M
 parse-packet-type-spec {M} =
     let answers = tie.spec {M = M}
-    returns
-    (λ c. search needs)
-    returns-2 in
+    returns (λ c. search needs) returns-2 in
     tie.close answers

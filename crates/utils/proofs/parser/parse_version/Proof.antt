@@ -10,6 +10,5 @@ returns c = search needs
 pub parse-version-spec : {M : Type 1} → statement M
 parse-version-spec {M} =
     let answers = tie.spec {M = M}
-    (λ c. search needs)
-    returns in
+    (λ c. search needs) returns in
     tie.close answers

@@ -9,13 +9,6 @@ returns c = search (needs, val-join 1 2, val-byte)
 pub u24-from-be-bytes-spec : {M : Type 1} → statement M
 u24-from-be-bytes-spec {M} =
     let answers = tie.spec {M = M}
-    (λ c. search needs)
-    (λ c κs. search needs)
-    (λ c. search needs)
-    (λ c. search needs)
-    (λ c κs. search needs)
-    (λ c. search needs)
-    (λ c. search needs)
-    (λ c. search needs)
-    returns in
+    (λ c. search needs) (λ c κs. search needs) (λ c. search needs) (λ c. search needs) (λ c κs. search needs) (λ c. search needs) (λ c. search needs)
+    (λ c. search needs) returns in
     tie.close answers

@@ -9,12 +9,6 @@ returns c = search (needs, val-join 2 2)
 pub u32-from-be-bytes-spec : {M : Type 1} → statement M
 u32-from-be-bytes-spec {M} =
     let answers = tie.spec {M = M}
-    (λ c κs. search needs)
-    (λ c. search needs)
-    (λ c. search needs)
-    (λ c κs. search needs)
-    (λ c. search needs)
-    (λ c. search needs)
-    (λ c. search needs)
+    (λ c κs. search needs) (λ c. search needs) (λ c. search needs) (λ c κs. search needs) (λ c. search needs) (λ c. search needs) (λ c. search needs)
     returns in
     tie.close answers

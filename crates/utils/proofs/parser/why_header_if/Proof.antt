@@ -5,14 +5,6 @@ use Rattle.utils.proofs.parser.why_header_if.Tie as tie
 pub why-header-if-spec : {M : Type 1} → statement M
 why-header-if-spec {M} =
     let answers = tie.spec {M = M}
-    (λ c. search headers)
-    (λ c κs. search headers)
-    (λ c. search headers)
-    (λ c. search headers)
-    (λ c κs. search headers)
-    (λ c. search headers)
-    (λ c. search headers)
-    (λ c κs. search headers)
-    (λ c. search headers)
-    (λ c. search headers) in
+    (λ c. search headers) (λ c κs. search headers) (λ c. search headers) (λ c. search headers) (λ c κs. search headers) (λ c. search headers)
+    (λ c. search headers) (λ c κs. search headers) (λ c. search headers) (λ c. search headers) in
     tie.close answers

@@ -5,6 +5,5 @@ use Rattle.utils.proofs.writer.check_padding.Tie as tie
 pub check-padding-spec : {M : Type 1} → statement M
 check-padding-spec {M} =
     let answers = tie.spec {M = M}
-    (λ c. search writer)
-    (λ c. search writer) in
+    (λ c. search writer) (λ c. search writer) in
     tie.close answers

@@ -11,9 +11,5 @@ returns c =
 pub copy-two-spec : {M : Type 1} → statement M
 copy-two-spec {M} =
     let answers = tie.spec {M = M}
-    (λ c κs. search writer)
-    (λ c. search writer)
-    (λ c κs. search writer)
-    (λ c. search writer)
-    returns in
+    (λ c κs. search writer) (λ c. search writer) (λ c κs. search writer) (λ c. search writer) returns in
     tie.close answers

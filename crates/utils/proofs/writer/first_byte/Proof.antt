@@ -5,8 +5,5 @@ use Rattle.utils.proofs.writer.first_byte.Tie as tie
 pub first-byte-spec : {M : Type 1} → statement M
 first-byte-spec {M} =
     let answers = tie.spec {M = M}
-    (λ c. search writer)
-    (λ c. search writer)
-    (λ c. search writer)
-    (λ c. search writer) in
+    (λ c. search writer) (λ c. search writer) (λ c. search writer) (λ c. search writer) in
     tie.close answers

@@ -12,17 +12,6 @@ returns-2 c = group-twice _ _ 2 _ _ _ (c .before .before .copy-two2 .ensures) (c
 pub write-few-spec : {M : Type 1} → statement M
 write-few-spec {M} =
     let answers = tie.spec {M = M}
-    (λ c κs. search writer)
-    (λ c κs. search writer)
-    (λ c. search writer)
-    returns
-    (λ c κs. search writer)
-    (λ c κs. search writer)
-    (λ c. search writer)
-    returns-2
-    (λ c. search writer)
-    (λ c. search writer)
-    (λ c. search writer)
-    (λ c. search writer)
-    (λ c. search writer) in
+    (λ c κs. search writer) (λ c κs. search writer) (λ c. search writer) returns (λ c κs. search writer) (λ c κs. search writer) (λ c. search writer)
+    returns-2 (λ c. search writer) (λ c. search writer) (λ c. search writer) (λ c. search writer) (λ c. search writer) in
     tie.close answers

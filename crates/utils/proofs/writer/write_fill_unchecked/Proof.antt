@@ -28,19 +28,6 @@ returns-4 c = fill-laid _ _ 3 (c .before .before .before .args .n) (omega arith)
 pub write-fill-unchecked-spec : {M : Type 1} → statement M
 write-fill-unchecked-spec {M} =
     let answers = tie.spec {M = M}
-    (λ c. search writer)
-    (λ c. search writer)
-    returns
-    (λ c. search writer)
-    slice-write-buf-2
-    (λ c. search writer)
-    returns-2
-    (λ c. search writer)
-    slice-write-buf-3
-    (λ c. search writer)
-    returns-3
-    (λ c. search writer)
-    slice-write-buf-4
-    (λ c. search writer)
-    returns-4 in
+    (λ c. search writer) (λ c. search writer) returns (λ c. search writer) slice-write-buf-2 (λ c. search writer) returns-2 (λ c. search writer)
+    slice-write-buf-3 (λ c. search writer) returns-3 (λ c. search writer) slice-write-buf-4 (λ c. search writer) returns-4 in
     tie.close answers

@@ -12,10 +12,5 @@ returns-2 c = (omega arith, group-two (c .before .before .before .before .before
 pub write-first-spec : {M : Type 1} → statement M
 write-first-spec {M} =
     let answers = tie.spec {M = M}
-    (λ c κs. search writer)
-    (λ c. search writer)
-    returns
-    (λ c κs. search writer)
-    (λ c. search writer)
-    returns-2 in
+    (λ c κs. search writer) (λ c. search writer) returns (λ c κs. search writer) (λ c. search writer) returns-2 in
     tie.close answers

@@ -14,12 +14,6 @@ same-length c = c .before .before .write-u16-unchecked .kept .0 ∙ simp length-
 pub write-header-unchecked-spec : {M : Type 1} → statement M
 write-header-unchecked-spec {M} =
     let answers = tie.spec {M = M}
-    (λ c. search writer)
-    (λ c κs. search writer)
-    (λ c. search writer)
-    slice-write-buf-2
-    (λ c. search writer)
-    (λ c κs. search writer)
-    same-length
+    (λ c. search writer) (λ c κs. search writer) (λ c. search writer) slice-write-buf-2 (λ c. search writer) (λ c κs. search writer) same-length
     (λ c. search writer) in
     tie.close answers

@@ -23,17 +23,6 @@ returns c = copied-all (c .before .before .before .before .before .before .befor
 pub write-many-spec : {M : Type 1} → statement M
 write-many-spec {M} =
     let answers = tie.spec {M = M}
-    Inv-loop
-    μ-loop
-    (λ c κs. search writer)
-    loop-holds
-    (λ c. search writer)
-    (λ c κs. search writer)
-    (λ c. search writer)
-    (λ c. search writer)
-    loop-again
-    (λ c. search writer)
-    (λ c κs. search writer)
-    (λ c. search writer)
-    returns in
+    Inv-loop μ-loop (λ c κs. search writer) loop-holds (λ c. search writer) (λ c κs. search writer) (λ c. search writer) (λ c. search writer)
+    loop-again (λ c. search writer) (λ c κs. search writer) (λ c. search writer) returns in
     tie.close answers

@@ -13,11 +13,5 @@ same-length c = simp length-set (omega arith)
 pub write-u16-unchecked-spec : {M : Type 1} → statement M
 write-u16-unchecked-spec {M} =
     let answers = tie.spec {M = M}
-    (λ c. search writer)
-    (λ c. search writer)
-    (λ c. search writer)
-    (λ c. search writer)
-    slice-write-buf-2
-    same-length
-    (λ c. search writer) in
+    (λ c. search writer) (λ c. search writer) (λ c. search writer) (λ c. search writer) slice-write-buf-2 same-length (λ c. search writer) in
     tie.close answers

@@ -31,29 +31,8 @@ same-length c = simp length-set (omega arith)
 pub write-u64-unchecked-spec : {M : Type 1} → statement M
 write-u64-unchecked-spec {M} =
     let answers = tie.spec {M = M}
-    (λ c. search writer)
-    (λ c. search writer)
-    (λ c. search writer)
-    (λ c. search writer)
-    slice-write-buf-2
-    (λ c. search writer)
-    (λ c. search writer)
-    slice-write-buf-3
-    (λ c. search writer)
-    (λ c. search writer)
-    slice-write-buf-4
-    (λ c. search writer)
-    (λ c. search writer)
-    slice-write-buf-5
-    (λ c. search writer)
-    (λ c. search writer)
-    slice-write-buf-6
-    (λ c. search writer)
-    (λ c. search writer)
-    slice-write-buf-7
-    (λ c. search writer)
-    (λ c. search writer)
-    slice-write-buf-8
-    same-length
-    (λ c. search writer) in
+    (λ c. search writer) (λ c. search writer) (λ c. search writer) (λ c. search writer) slice-write-buf-2 (λ c. search writer) (λ c. search writer)
+    slice-write-buf-3 (λ c. search writer) (λ c. search writer) slice-write-buf-4 (λ c. search writer) (λ c. search writer) slice-write-buf-5
+    (λ c. search writer) (λ c. search writer) slice-write-buf-6 (λ c. search writer) (λ c. search writer) slice-write-buf-7 (λ c. search writer)
+    (λ c. search writer) slice-write-buf-8 same-length (λ c. search writer) in
     tie.close answers

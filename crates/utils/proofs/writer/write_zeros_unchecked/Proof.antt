@@ -13,14 +13,6 @@ abbrev μ-loop : tie.MeasureT-loop
 pub write-zeros-unchecked-spec : {M : Type 1} → statement M
 write-zeros-unchecked-spec {M} =
     let answers = tie.spec {M = M}
-    Inv-loop
-    μ-loop
-    (λ c. search writer)
-    (λ c. search writer)
-    (λ c. search writer)
-    (λ c. search writer)
-    (λ c. search writer)
-    (λ c. search writer)
-    (λ c. search writer)
-    (λ c. search writer) in
+    Inv-loop μ-loop (λ c. search writer) (λ c. search writer) (λ c. search writer) (λ c. search writer) (λ c. search writer) (λ c. search writer)
+    (λ c. search writer) (λ c. search writer) in
     tie.close answers

@@ -13,14 +13,6 @@ mul-len c =
 pub packets-spec : {M : Type 1} → statement M
 packets-spec {M} =
     let answers = tie.spec {M = M}
-    (λ c κs. search listings)
-    (λ c. search listings)
-    (λ c. search listings)
-    (λ c κs. search listings)
-    (λ c. search listings)
-    mul-len
-    (λ c. search listings)
-    (λ c κs. search listings)
-    (λ c. search listings)
-    (λ c. search listings) in
+    (λ c κs. search listings) (λ c. search listings) (λ c. search listings) (λ c κs. search listings) (λ c. search listings) mul-len
+    (λ c. search listings) (λ c κs. search listings) (λ c. search listings) (λ c. search listings) in
     tie.close answers

@@ -13,23 +13,8 @@ abbrev μ-loop : tie.MeasureT-loop
 pub parse-spec : {M : Type 1} → statement M
 parse-spec {M} =
     let answers = tie.spec {M = M}
-    Inv-loop
-    μ-loop
-    (λ c. search compounds)
-    (λ c. search compounds)
-    (λ c. search compounds)
-    (λ c. search compounds)
-    (λ c. search compounds)
-    (λ c κs. search compounds)
-    (λ c. search compounds)
-    (λ c. search compounds)
-    (λ c κs. search compounds)
-    (λ c. search compounds)
-    (λ c κs. search compounds)
-    (λ c. search compounds)
-    (λ c. search compounds)
-    (λ c. search compounds)
-    (λ c. search compounds)
-    (λ c. search compounds)
+    Inv-loop μ-loop (λ c. search compounds) (λ c. search compounds) (λ c. search compounds) (λ c. search compounds) (λ c. search compounds)
+    (λ c κs. search compounds) (λ c. search compounds) (λ c. search compounds) (λ c κs. search compounds) (λ c. search compounds)
+    (λ c κs. search compounds) (λ c. search compounds) (λ c. search compounds) (λ c. search compounds) (λ c. search compounds) (λ c. search compounds)
     (λ c. search compounds) in
     tie.close answers

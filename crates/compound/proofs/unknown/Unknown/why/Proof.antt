@@ -5,8 +5,5 @@ use Rattle.compound.proofs.unknown.Unknown.why.Tie as tie
 pub why-spec : {M : Type 1} → statement M
 why-spec {M} =
     let answers = tie.spec {M = M}
-    (λ c κs. search unknowns)
-    (λ c κs. search unknowns)
-    (λ c κs. search unknowns)
-    (λ c. search unknowns) in
+    (λ c κs. search unknowns) (λ c κs. search unknowns) (λ c κs. search unknowns) (λ c. search unknowns) in
     tie.close answers

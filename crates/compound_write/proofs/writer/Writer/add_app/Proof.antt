@@ -14,23 +14,7 @@ returns c =
 pub add-app-spec : {M : Type 1} → statement M
 add-app-spec {M} =
     let answers = tie.spec {M = M}
-    (λ c κs. search adds)
-    (λ c κs. search adds)
-    (λ c. search adds)
-    (λ c. search adds)
-    (λ c. search adds)
-    (λ c. search adds)
-    (λ c. search adds)
-    (λ c. search adds)
-    (λ c κs. search adds)
-    (λ c κs. search adds)
-    (λ c κs. search adds)
-    returns
-    (λ c. search adds)
-    (λ c. search adds)
-    (λ c. search adds)
-    (λ c κs. search adds)
-    (λ c κs. search adds)
-    (λ c. search adds)
-    (λ c. search adds) in
+    (λ c κs. search adds) (λ c κs. search adds) (λ c. search adds) (λ c. search adds) (λ c. search adds) (λ c. search adds) (λ c. search adds)
+    (λ c. search adds) (λ c κs. search adds) (λ c κs. search adds) (λ c κs. search adds) returns (λ c. search adds) (λ c. search adds)
+    (λ c. search adds) (λ c κs. search adds) (λ c κs. search adds) (λ c. search adds) (λ c. search adds) in
     tie.close answers

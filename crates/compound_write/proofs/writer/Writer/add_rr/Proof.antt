@@ -16,26 +16,8 @@ returns c =
 pub add-rr-spec : {M : Type 1} → statement M
 add-rr-spec {M} =
     let answers = tie.spec {M = M}
-    (λ c κs. search adds)
-    (λ c κs. search adds)
-    (λ c. search adds)
-    (λ c. search adds)
-    (λ c. search adds)
-    (λ c. search adds)
-    (λ c. search adds)
-    (λ c. search adds)
-    (λ c. search adds)
-    (λ c. search adds)
-    (λ c. search adds)
-    (λ c κs. search adds)
-    (λ c κs. search adds)
-    (λ c κs. search adds)
-    returns
-    (λ c. search adds)
-    (λ c. search adds)
-    (λ c. search adds)
-    (λ c κs. search adds)
-    (λ c κs. search adds)
-    (λ c. search adds)
+    (λ c κs. search adds) (λ c κs. search adds) (λ c. search adds) (λ c. search adds) (λ c. search adds) (λ c. search adds) (λ c. search adds)
+    (λ c. search adds) (λ c. search adds) (λ c. search adds) (λ c. search adds) (λ c κs. search adds) (λ c κs. search adds) (λ c κs. search adds)
+    returns (λ c. search adds) (λ c. search adds) (λ c. search adds) (λ c κs. search adds) (λ c κs. search adds) (λ c. search adds)
     (λ c. search adds) in
     tie.close answers

@@ -22,36 +22,9 @@ has-cname-unchecked-requires c κs =
 pub add-sdes-spec : {M : Type 1} → statement M
 add-sdes-spec {M} =
     let answers = tie.spec {M = M}
-    (λ c κs. search adds)
-    (λ c κs. search adds)
-    (λ c. search adds)
-    (λ c. search adds)
-    (λ c. search adds)
-    (λ c. search adds)
-    (λ c. search adds)
-    (λ c. search adds)
-    (λ c. search adds)
-    (λ c. search adds)
-    (λ c. search adds)
-    (λ c. search adds)
-    (λ c. search adds)
-    (λ c. search adds)
-    (λ c. search adds)
-    (λ c. search adds)
-    (λ c. search adds)
-    (λ c. search adds)
-    (λ c. search adds)
-    (λ c. search adds)
-    (λ c κs. search adds)
-    (λ c κs. search adds)
-    (λ c κs. search adds)
-    returns
-    (λ c. search adds)
-    (λ c. search adds)
-    (λ c. search adds)
-    (λ c κs. search adds)
-    has-cname-unchecked-requires
-    (λ c κs. search adds)
-    (λ c. search adds)
-    (λ c. search adds) in
+    (λ c κs. search adds) (λ c κs. search adds) (λ c. search adds) (λ c. search adds) (λ c. search adds) (λ c. search adds) (λ c. search adds)
+    (λ c. search adds) (λ c. search adds) (λ c. search adds) (λ c. search adds) (λ c. search adds) (λ c. search adds) (λ c. search adds)
+    (λ c. search adds) (λ c. search adds) (λ c. search adds) (λ c. search adds) (λ c. search adds) (λ c. search adds) (λ c κs. search adds)
+    (λ c κs. search adds) (λ c κs. search adds) returns (λ c. search adds) (λ c. search adds) (λ c. search adds) (λ c κs. search adds)
+    has-cname-unchecked-requires (λ c κs. search adds) (λ c. search adds) (λ c. search adds) in
     tie.close answers

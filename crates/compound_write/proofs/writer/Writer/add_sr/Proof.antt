@@ -15,26 +15,8 @@ returns c =
 pub add-sr-spec : {M : Type 1} → statement M
 add-sr-spec {M} =
     let answers = tie.spec {M = M}
-    (λ c κs. search adds)
-    (λ c κs. search adds)
-    (λ c. search adds)
-    (λ c. search adds)
-    (λ c. search adds)
-    (λ c. search adds)
-    (λ c. search adds)
-    (λ c. search adds)
-    (λ c. search adds)
-    (λ c. search adds)
-    (λ c. search adds)
-    (λ c κs. search adds)
-    (λ c κs. search adds)
-    (λ c κs. search adds)
-    returns
-    (λ c. search adds)
-    (λ c. search adds)
-    (λ c. search adds)
-    (λ c κs. search adds)
-    (λ c κs. search adds)
-    (λ c. search adds)
+    (λ c κs. search adds) (λ c κs. search adds) (λ c. search adds) (λ c. search adds) (λ c. search adds) (λ c. search adds) (λ c. search adds)
+    (λ c. search adds) (λ c. search adds) (λ c. search adds) (λ c. search adds) (λ c κs. search adds) (λ c κs. search adds) (λ c κs. search adds)
+    returns (λ c. search adds) (λ c. search adds) (λ c. search adds) (λ c κs. search adds) (λ c κs. search adds) (λ c. search adds)
     (λ c. search adds) in
     tie.close answers

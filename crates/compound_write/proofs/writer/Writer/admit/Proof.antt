@@ -5,11 +5,5 @@ use Rattle.compound_write.proofs.writer.Writer.admit.Tie as tie
 pub admit-spec : {M : Type 1} → statement M
 admit-spec {M} =
     let answers = tie.spec {M = M}
-    (λ c. search adds)
-    (λ c. search adds)
-    (λ c κs. search adds)
-    (λ c. search adds)
-    (λ c. search adds)
-    (λ c. search adds)
-    (λ c. search adds) in
+    (λ c. search adds) (λ c. search adds) (λ c κs. search adds) (λ c. search adds) (λ c. search adds) (λ c. search adds) (λ c. search adds) in
     tie.close answers

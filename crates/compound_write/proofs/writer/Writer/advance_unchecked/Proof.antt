@@ -8,7 +8,5 @@ returns c = rw (c .either .ensures)
 pub advance-unchecked-spec : {M : Type 1} → statement M
 advance-unchecked-spec {M} =
     let answers = tie.spec {M = M}
-    (λ c. search adds)
-    (λ c κs. search adds)
-    returns in
+    (λ c. search adds) (λ c κs. search adds) returns in
     tie.close answers

@@ -5,9 +5,5 @@ use Rattle.compound_write.proofs.writer.Writer.close.Tie as tie
 pub close-spec : {M : Type 1} → statement M
 close-spec {M} =
     let answers = tie.spec {M = M}
-    (λ c κs. search adds)
-    (λ c. search adds)
-    (λ c. search adds)
-    (λ c κs. search adds)
-    (λ c. search adds) in
+    (λ c κs. search adds) (λ c. search adds) (λ c. search adds) (λ c κs. search adds) (λ c. search adds) in
     tie.close answers

@@ -5,12 +5,6 @@ use Rattle.compound_write.proofs.writer.Writer.why.Tie as tie
 pub why-spec : {M : Type 1} → statement M
 why-spec {M} =
     let answers = tie.spec {M = M}
-    (λ c. search adds)
-    (λ c. search adds)
-    (λ c κs. search adds)
-    (λ c. search adds)
-    (λ c. search adds)
-    (λ c. search adds)
-    (λ c κs. search adds)
+    (λ c. search adds) (λ c. search adds) (λ c κs. search adds) (λ c. search adds) (λ c. search adds) (λ c. search adds) (λ c κs. search adds)
     (λ c. search adds) in
     tie.close answers

@@ -5,17 +5,7 @@ use Rattle.report.proofs.receiver.ReceiverReport.report_block.Tie as ti
 pub report-block-spec : {M : Type 1} → statement M
 report-block-spec {M} =
     let answers = tie.spec {M = M}
-    (λ c κs. search reports)
-    (λ c. search reports)
-    (λ c. search reports)
-    (λ c. search reports)
-    (λ c κs. search reports)
-    (λ c. search reports)
-    (λ c κs. search reports)
-    (λ c. search reports)
-    (λ c. search reports)
-    (λ c. search reports)
-    (λ c. search reports)
-    (λ c κs. search reports)
+    (λ c κs. search reports) (λ c. search reports) (λ c. search reports) (λ c. search reports) (λ c κs. search reports) (λ c. search reports)
+    (λ c κs. search reports) (λ c. search reports) (λ c. search reports) (λ c. search reports) (λ c. search reports) (λ c κs. search reports)
     (λ c. search reports) in
     tie.close answers

@@ -5,12 +5,6 @@ use Rattle.report.proofs.sender.SenderReport.body_of.Tie as tie
 pub body-of-spec : {M : Type 1} → statement M
 body-of-spec {M} =
     let answers = tie.spec {M = M}
-    (λ c κs. search reports)
-    (λ c. search reports)
-    (λ c κs. search reports)
-    (λ c. search reports)
-    (λ c. search reports)
-    (λ c. search reports)
-    (λ c. search reports)
-    (λ c. search reports) in
+    (λ c κs. search reports) (λ c. search reports) (λ c κs. search reports) (λ c. search reports) (λ c. search reports) (λ c. search reports)
+    (λ c. search reports) (λ c. search reports) in
     tie.close answers

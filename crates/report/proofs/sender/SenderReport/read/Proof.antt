@@ -5,17 +5,7 @@ use Rattle.report.proofs.sender.SenderReport.read.Tie as tie
 pub read-spec : {M : Type 1} → statement M
 read-spec {M} =
     let answers = tie.spec {M = M}
-    (λ c κs. search fields)
-    (λ c. search fields)
-    (λ c κs. search fields)
-    (λ c. search fields)
-    (λ c. search fields)
-    (λ c. search fields)
-    (λ c κs. search fields)
-    (λ c κs. search fields)
-    (λ c κs. search fields)
-    (λ c κs. search fields)
-    (λ c κs. search fields)
-    (λ c. search fields)
+    (λ c κs. search fields) (λ c. search fields) (λ c κs. search fields) (λ c. search fields) (λ c. search fields) (λ c. search fields)
+    (λ c κs. search fields) (λ c κs. search fields) (λ c κs. search fields) (λ c κs. search fields) (λ c κs. search fields) (λ c. search fields)
     (λ c. search fields) in
     tie.close answers

@@ -6,22 +6,7 @@ use Rattle.rtcp.proofs.read_compound.PacketNumbers.of.Tie as tie
 pub of-spec : {M : Type 1} → statement M
 of-spec {M} =
     let answers = tie.spec {M = M}
-    (λ c. search needs)
-    (λ c κs. search needs)
-    (λ c. search needs)
-    (λ c κs. search needs)
-    (λ c. search needs)
-    (λ c κs. search needs)
-    (λ c. search needs)
-    (λ c κs. search needs)
-    (λ c. search needs)
-    (λ c κs. search needs)
-    (λ c. search needs)
-    (λ c κs. search needs)
-    (λ c. search datagrams)
-    (λ c. search datagrams)
-    (λ c. search datagrams)
-    (λ c. search datagrams)
-    (λ c. search datagrams)
-    (λ c. search datagrams) in
+    (λ c. search needs) (λ c κs. search needs) (λ c. search needs) (λ c κs. search needs) (λ c. search needs) (λ c κs. search needs)
+    (λ c. search needs) (λ c κs. search needs) (λ c. search needs) (λ c κs. search needs) (λ c. search needs) (λ c κs. search needs)
+    (λ c. search datagrams) (λ c. search datagrams) (λ c. search datagrams) (λ c. search datagrams) (λ c. search datagrams) (λ c. search datagrams) in
     tie.close answers

@@ -8,8 +8,5 @@ returns c = rw (c .before .bare .ensures)
 pub of-app-spec : {M : Type 1} → statement M
 of-app-spec {M} =
     let answers = tie.spec {M = M}
-    (λ c. search needs)
-    (λ c κs. search needs)
-    (λ c. search needs)
-    returns in
+    (λ c. search needs) (λ c κs. search needs) (λ c. search needs) returns in
     tie.close answers

@@ -8,7 +8,5 @@ returns c = rw (c .before .bare .ensures)
 pub of-rr-spec : {M : Type 1} → statement M
 of-rr-spec {M} =
     let answers = tie.spec {M = M}
-    (λ c κs. search needs)
-    (λ c. search needs)
-    returns in
+    (λ c κs. search needs) (λ c. search needs) returns in
     tie.close answers

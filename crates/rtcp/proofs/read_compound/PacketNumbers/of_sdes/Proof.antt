@@ -8,7 +8,5 @@ returns c = rw (c .before .bare .ensures, c .bit .ensures)
 pub of-sdes-spec : {M : Type 1} → statement M
 of-sdes-spec {M} =
     let answers = tie.spec {M = M}
-    (λ c κs. search needs)
-    (λ c κs. search needs)
-    returns in
+    (λ c κs. search needs) (λ c κs. search needs) returns in
     tie.close answers

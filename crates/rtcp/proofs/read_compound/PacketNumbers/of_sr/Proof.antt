@@ -8,10 +8,5 @@ returns c = rw (c .before .before .before .before .bare .ensures)
 pub of-sr-spec : {M : Type 1} → statement M
 of-sr-spec {M} =
     let answers = tie.spec {M = M}
-    (λ c κs. search needs)
-    (λ c. search needs)
-    (λ c. search needs)
-    (λ c. search needs)
-    (λ c. search needs)
-    returns in
+    (λ c κs. search needs) (λ c. search needs) (λ c. search needs) (λ c. search needs) (λ c. search needs) returns in
     tie.close answers

@@ -16,16 +16,6 @@ returns-2 c = search (needs, refl, turned blockResult parsedBlockOf parsed.Refus
 pub from-parsed-spec : {M : Type 1} → statement M
 from-parsed-spec {M} =
     let answers = tie.spec {M = M}
-    (λ c. search needs)
-    (λ c. search needs)
-    (λ c. search needs)
-    (λ c. search needs)
-    (λ c. search needs)
-    (λ c. search needs)
-    (λ c. search needs)
-    (λ c. search needs)
-    (λ c. search needs)
-    (λ c κs. search needs)
-    returns
-    returns-2 in
+    (λ c. search needs) (λ c. search needs) (λ c. search needs) (λ c. search needs) (λ c. search needs) (λ c. search needs) (λ c. search needs)
+    (λ c. search needs) (λ c. search needs) (λ c κs. search needs) returns returns-2 in
     tie.close answers

@@ -10,7 +10,5 @@ returns c = search (needs, recoded rrResult)
 pub refused-spec : {M : Type 1} → statement M
 refused-spec {M} =
     let answers = tie.spec {M = M}
-    (λ c κs. search needs)
-    (λ c κs. search needs)
-    returns in
+    (λ c κs. search needs) (λ c κs. search needs) returns in
     tie.close answers

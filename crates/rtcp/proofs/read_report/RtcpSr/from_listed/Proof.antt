@@ -16,13 +16,6 @@ returns-3 c = search (needs, out-known srResult)
 pub from-listed-spec : {M : Type 1} → statement M
 from-listed-spec {M} =
     let answers = tie.spec {M = M}
-    (λ c. search reports)
-    (λ c κs. search reports)
-    (λ c. search reports)
-    (λ c κs. search reports)
-    (λ c. search reports)
-    (λ c κs. search reports)
-    returns
-    returns-2
-    returns-3 in
+    (λ c. search reports) (λ c κs. search reports) (λ c. search reports) (λ c κs. search reports) (λ c. search reports) (λ c κs. search reports)
+    returns returns-2 returns-3 in
     tie.close answers

@@ -6,11 +6,6 @@ use Rattle.rtcp.proofs.read_sdes.ItemParts.of.Tie as tie
 pub of-spec : {M : Type 1} → statement M
 of-spec {M} =
     let answers = tie.spec {M = M}
-    (λ c κs. search needs)
-    (λ c. search needs)
-    (λ c. search needs)
-    (λ c. search needs)
-    (λ c. search needs)
-    (λ c. search needs)
+    (λ c κs. search needs) (λ c. search needs) (λ c. search needs) (λ c. search needs) (λ c. search needs) (λ c. search needs)
     (λ c. search descriptions) in
     tie.close answers

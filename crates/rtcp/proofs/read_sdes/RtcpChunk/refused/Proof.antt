@@ -10,6 +10,5 @@ returns c = coded chunkResult (c .code .result) (c .before .args .e) (c .code .e
 pub refused-spec : {M : Type 1} → statement M
 refused-spec {M} =
     let answers = tie.spec {M = M}
-    (λ c κs. search needs)
-    returns in
+    (λ c κs. search needs) returns in
     tie.close answers

@@ -10,6 +10,5 @@ returns c = coded (itemStepResult (c .before .args .at)) (c .code .result) (c .b
 pub refused-spec : {M : Type 1} → statement M
 refused-spec {M} =
     let answers = tie.spec {M = M}
-    (λ c κs. search needs)
-    returns in
+    (λ c κs. search needs) returns in
     tie.close answers

@@ -6,11 +6,5 @@ use Rattle.rtcp.proofs.write_result.RtcpWritten.from_listed.Tie as tie
 pub from-listed-spec : {M : Type 1} → statement M
 from-listed-spec {M} =
     let answers = tie.spec {M = M}
-    (λ c. search needs)
-    (λ c. search needs)
-    (λ c. search needs)
-    (λ c κs. search needs)
-    (λ c. search outs)
-    (λ c. search outs)
-    (λ c. search outs) in
+    (λ c. search needs) (λ c. search needs) (λ c. search needs) (λ c κs. search needs) (λ c. search outs) (λ c. search outs) (λ c. search outs) in
     tie.close answers

@@ -5,11 +5,6 @@ use Rattle.sdes.proofs.sdes.ChunkWalk.open.Tie as tie
 pub open-spec : {M : Type 1} → statement M
 open-spec {M} =
     let answers = tie.spec {M = M}
-    (λ c κs. search walks)
-    (λ c. search walks)
-    (λ c. search walks)
-    (λ c. search walks)
-    (λ c κs. search walks)
-    (λ c. search walks)
+    (λ c κs. search walks) (λ c. search walks) (λ c. search walks) (λ c. search walks) (λ c κs. search walks) (λ c. search walks)
     (λ c. search walks) in
     tie.close answers

@@ -5,22 +5,7 @@ use Rattle.sdes.proofs.sdes.Sdes.why.Tie as tie
 pub why-spec : {M : Type 1} → statement M
 why-spec {M} =
     let answers = tie.spec {M = M}
-    (λ c κs. search packets)
-    (λ c κs. search packets)
-    (λ c. search packets)
-    (λ c κs. search packets)
-    (λ c. search packets)
-    (λ c. search packets)
-    (λ c. search packets)
-    (λ c. search packets)
-    (λ c κs. search packets)
-    (λ c. search packets)
-    (λ c. search packets)
-    (λ c. search packets)
-    (λ c κs. search packets)
-    (λ c. search packets)
-    (λ c. search packets)
-    (λ c. search packets)
-    (λ c. search packets)
-    (λ c. search packets) in
+    (λ c κs. search packets) (λ c κs. search packets) (λ c. search packets) (λ c κs. search packets) (λ c. search packets) (λ c. search packets)
+    (λ c. search packets) (λ c. search packets) (λ c κs. search packets) (λ c. search packets) (λ c. search packets) (λ c. search packets)
+    (λ c κs. search packets) (λ c. search packets) (λ c. search packets) (λ c. search packets) (λ c. search packets) (λ c. search packets) in
     tie.close answers

@@ -5,14 +5,6 @@ use Rattle.sdes_chunk.proofs.item.SdesItem.value.Tie as tie
 pub value-spec : {M : Type 1} → statement M
 value-spec {M} =
     let answers = tie.spec {M = M}
-    (λ c κs. search items)
-    (λ c. search items)
-    (λ c κs. search items)
-    (λ c. search items)
-    (λ c. search items)
-    (λ c. search items)
-    (λ c κs. search items)
-    (λ c. search items)
-    (λ c κs. search items)
-    (λ c. search items) in
+    (λ c κs. search items) (λ c. search items) (λ c κs. search items) (λ c. search items) (λ c. search items) (λ c. search items)
+    (λ c κs. search items) (λ c. search items) (λ c κs. search items) (λ c. search items) in
     tie.close answers
