@@ -1,5 +1,5 @@
-/* The same C functions by hand, with the same checks of packets without padding, PRIV and other types (those: number 99). It is the limit that
-   the machine code of the proved functions is held against: same arguments, same lists, same answers in memory. */
+/* The same C functions by hand, with the same checks, but for the reason of a refusal and packets of other kinds (those: number 99). It is the limit
+   that the machine code of the proved functions is held against: same arguments, same lists, same answers in memory. */
 #include <string.h>
 
 #include "rtcp.h"
@@ -31,12 +31,22 @@ static inline void store64(void *p, uint64_t v) {
 /* Two words in the other order. */
 static inline uint64_t turned(uint64_t v) { return v << 32 | v >> 32; }
 
-static inline uint32_t head(uint32_t type, size_t count, size_t size) {
-    return 0x80000000u | (uint32_t)count << 24 | type << 16 | (uint32_t)(size / 4 - 1);
+#define PADDED 0x20000000u
+
+static inline uint32_t head(uint32_t type, size_t count, size_t size, uint64_t padding) {
+    return 0x80000000u | (padding != 0) << 29 | (uint32_t)count << 24 | type << 16 | (uint32_t)(size / 4 - 1);
 }
 
-static inline int headed(uint32_t w, uint32_t type, size_t len) {
-    return (w & 0xe0ff0000u) == (0x80000000u | type << 16) && ((w & 0xffff) + 1) * 4 == len;
+/* The length of the body of a packet of so many bytes; 0 where its padding is refused. */
+static inline size_t body_of(const uint8_t *s, uint32_t w, size_t len, size_t least) {
+    if (LIKELY((w & PADDED) == 0)) return len;
+    size_t padding = s[len - 1];
+    return padding == 0 || padding % 4 != 0 || len - least < padding ? 0 : len - padding;
+}
+
+static inline size_t headed(const uint8_t *s, uint32_t w, uint32_t type, size_t len, size_t least) {
+    if ((w & 0xc0ff0000u) != (0x80000000u | type << 16) || ((w & 0xffff) + 1) * 4 != len) return 0;
+    return body_of(s, w, len, least);
 }
 
 /* ---- reading ---- */
@@ -56,10 +66,10 @@ struct RtcpSr rtcp_sr_read(const uint8_t *s, size_t len, uint8_t *fractions, siz
                            uint32_t *words, size_t n_words) {
     if (LIKELY(len >= 28)) {
         uint32_t w = load32(s);
-        size_t n = w >> 24 & 31, end = 28 + 24 * n;
-        if (LIKELY(headed(w, 200, len) && end <= len && n <= n_fractions && n <= n_losses && 5 * n <= n_words)) {
+        size_t n = w >> 24 & 31, end = 28 + 24 * n, body = headed(s, w, 200, len, 28);
+        if (LIKELY(end <= body && n <= n_fractions && n <= n_losses && 5 * n <= n_words)) {
             list(s + 28, fractions, losses, words, n);
-            return (struct RtcpSr){0, 0, 0, load32(s + 4), load64(s + 8), load32(s + 16), load32(s + 20), load32(s + 24), n, end, len - end, len, 0};
+            return (struct RtcpSr){0, 0, 0, load32(s + 4), load64(s + 8), load32(s + 16), load32(s + 20), load32(s + 24), n, end, body - end, body, len - body};
         }
     }
     return (struct RtcpSr){.number = 99};
@@ -69,10 +79,10 @@ struct RtcpRr rtcp_rr_read(const uint8_t *s, size_t len, uint8_t *fractions, siz
                            uint32_t *words, size_t n_words) {
     if (LIKELY(len >= 8)) {
         uint32_t w = load32(s);
-        size_t n = w >> 24 & 31, end = 8 + 24 * n;
-        if (LIKELY(headed(w, 201, len) && end <= len && n <= n_fractions && n <= n_losses && 5 * n <= n_words)) {
+        size_t n = w >> 24 & 31, end = 8 + 24 * n, body = headed(s, w, 201, len, 8);
+        if (LIKELY(end <= body && n <= n_fractions && n <= n_losses && 5 * n <= n_words)) {
             list(s + 8, fractions, losses, words, n);
-            return (struct RtcpRr){0, 0, 0, load32(s + 4), n, end, len - end, len, 0};
+            return (struct RtcpRr){0, 0, 0, load32(s + 4), n, end, body - end, body, len - body};
         }
     }
     return (struct RtcpRr){.number = 99};
@@ -84,9 +94,10 @@ static inline int scan(const uint8_t *s, size_t end, size_t n, int *cname) {
         if (end - at < 8) return 0;
         at += 4;
         while (s[at] != 0) { /* at < end - 1 here */
-            if (s[at] == 8) return 0;
+            size_t l = s[at + 1];
+            if (s[at] == 8 && (l == 0 || at + 2 == end || s[at + 2] >= l)) return 0;
             *cname |= s[at] == 1;
-            at += 2 + (size_t)s[at + 1];
+            at += 2 + l;
             if (at > end - 1) return 0;
             if (at == end - 1) {
                 if (s[at] != 0) return 0;
@@ -101,14 +112,14 @@ static inline int scan(const uint8_t *s, size_t end, size_t n, int *cname) {
 
 struct RtcpWritten rtcp_sdes_items(const uint8_t *s, size_t len, uint32_t *rows, size_t room) {
     uint32_t *r = rows, w = len < 4 ? 0 : load32(s);
-    size_t n = w >> 24 & 31, at = 4;
+    size_t n = w >> 24 & 31, at = 4, body = headed(s, w, 202, len, 4);
     int cname = 0;
-    if (!LIKELY(headed(w, 202, len) && len / 2 * 5 <= room && scan(s, len, n, &cname))) return (struct RtcpWritten){.number = 99};
+    if (!LIKELY(body != 0 && body / 2 * 5 <= room && scan(s, body, n, &cname))) return (struct RtcpWritten){.number = 99};
     for (; n != 0; n--) {
         uint32_t ssrc = load32(s + at);
         for (at += 4; s[at] != 0; r += 5) {
-            uint32_t l = s[at + 1];
-            r[0] = ssrc, r[1] = s[at], r[2] = (uint32_t)at + 2, r[3] = 0, r[4] = l;
+            uint32_t l = s[at + 1], p = s[at] == 8 ? s[at + 2] : 0, skip = s[at] == 8 ? 1 + p : 0;
+            r[0] = ssrc, r[1] = s[at], r[2] = (uint32_t)at + 2 + skip, r[3] = p, r[4] = l - skip;
             at += 2 + l;
         }
         r[0] = ssrc, r[1] = 0, r[2] = (uint32_t)at, r[3] = 0, r[4] = 0;
@@ -121,9 +132,10 @@ struct RtcpWritten rtcp_sdes_items(const uint8_t *s, size_t len, uint32_t *rows,
 static inline int packet_is_right(const uint8_t *s, uint32_t w, size_t len, int *cname) {
     size_t n = w >> 24 & 31;
     uint32_t type = w >> 16 & 255;
-    if (type == 201) return 8 + 24 * n <= len;
-    if (type == 200) return 28 + 24 * n <= len;
-    return type == 202 && scan(s, len, n, cname);
+    if (type == 201) return 8 + 24 * n <= (len < 8 ? 0 : body_of(s, w, len, 8));
+    if (type == 200) return 28 + 24 * n <= (len < 28 ? 0 : body_of(s, w, len, 28));
+    size_t body = body_of(s, w, len, 4);
+    return type == 202 && body != 0 && scan(s, body, n, cname);
 }
 
 struct RtcpWritten rtcp_compound_packets(const uint8_t *s, size_t len, uint64_t *p, size_t room) {
@@ -133,7 +145,8 @@ struct RtcpWritten rtcp_compound_packets(const uint8_t *s, size_t len, uint64_t 
         if (len - at < 4) return (struct RtcpWritten){.number = 99};
         uint32_t w = load32(s + at);
         size_t l = ((w & 0xffff) + 1) * 4;
-        if ((w & 0xe0000000u) != 0x80000000u || len - at < l || (at == 0 && (w >> 16 & 0xfe) != 200) || !packet_is_right(s + at, w, l, &cname))
+        if (w >> 30 != 2 || len - at < l || ((w & PADDED) != 0 && len - at != l) || (at == 0 && (w >> 16 & 0xfe) != 200) ||
+            !packet_is_right(s + at, w, l, &cname))
             return (struct RtcpWritten){.number = 99};
         at += l;
     }
@@ -165,22 +178,32 @@ static inline void lay(uint8_t *restrict p, const uint8_t *restrict fractions, c
     }
 }
 
+static inline int padding_is_right(uint64_t padding) { return padding <= 252 && padding % 4 == 0; }
+
+static inline void pad(uint8_t *end, uint64_t padding) {
+    if (LIKELY(padding == 0)) return;
+    memset(end - padding, 0, padding - 1);
+    end[-1] = (uint8_t)padding;
+}
+
 #define BLOCKS const uint8_t *fractions, size_t n, const uint32_t *losses, size_t n_losses, const uint32_t *words, size_t n_words
 #define BLOCKS_FIT (n == n_losses && 5 * n == n_words && n <= 31 && fit(losses, n))
 
 struct RtcpWritten rtcp_rr_write(uint8_t *buf, size_t room, uint32_t ssrc, BLOCKS, uint64_t padding) {
-    size_t size = 8 + 24 * n;
-    if (!LIKELY(padding == 0 && BLOCKS_FIT && size <= room)) return (struct RtcpWritten){.number = 99};
-    store64(buf, (uint64_t)head(201, n, size) << 32 | ssrc);
+    size_t size = 8 + 24 * n + padding;
+    if (!LIKELY(padding_is_right(padding) && BLOCKS_FIT && size <= room)) return (struct RtcpWritten){.number = 99};
+    store64(buf, (uint64_t)head(201, n, size, padding) << 32 | ssrc);
+    pad(buf + size, padding);
     lay(buf + 8, fractions, losses, words, n);
     return (struct RtcpWritten){0, 0, 0, size};
 }
 
 struct RtcpWritten rtcp_sr_write(uint8_t *buf, size_t room, uint32_t ssrc, uint64_t ntp, uint32_t rtp, uint32_t packets, uint32_t octets, BLOCKS,
                                  uint64_t padding) {
-    size_t size = 28 + 24 * n;
-    if (!LIKELY(padding == 0 && BLOCKS_FIT && size <= room)) return (struct RtcpWritten){.number = 99};
-    store64(buf, (uint64_t)head(200, n, size) << 32 | ssrc);
+    size_t size = 28 + 24 * n + padding;
+    if (!LIKELY(padding_is_right(padding) && BLOCKS_FIT && size <= room)) return (struct RtcpWritten){.number = 99};
+    store64(buf, (uint64_t)head(200, n, size, padding) << 32 | ssrc);
+    pad(buf + size, padding);
     store64(buf + 8, ntp);
     store32(buf + 16, rtp);
     store32(buf + 20, packets);
@@ -214,7 +237,7 @@ static inline void text(uint8_t *d, const uint8_t *s, size_t n) {
         size_t np, const uint64_t *values, size_t nv, const uint8_t *bytes, size_t nb
 
 static inline int lists_fit(CHUNKS) {
-    uint64_t left = nt, high = 0, prefix = 0, sum = 0;
+    uint64_t left = nt, high = 0, sum = 0;
     (void)ssrcs, (void)bytes;
     if (((nc ^ n_counts) | (nt ^ np) | (nt ^ nv)) != 0 || nc > 31 || nt > 65536 || nb > 65536) return 0;
     for (size_t k = 0; k < nc; k++) {
@@ -222,35 +245,43 @@ static inline int lists_fit(CHUNKS) {
         left -= counts[k];
     }
     for (size_t i = 0; i < nt; i++) {
-        prefix |= prefixes[i];
-        high |= values[i];
-        sum += values[i];
-        if ((types[i] & 0xf7) == 0) return 0;
+        high |= values[i] | prefixes[i];
+        sum += values[i] + prefixes[i];
+        if ((types[i] & 0xf7) == 0 && (types[i] == 0 || prefixes[i] > 254 || values[i] > 254 - prefixes[i])) return 0;
     }
-    return left == 0 && prefix == 0 && high >> 8 == 0 && sum == nb;
+    return left == 0 && high >> 8 == 0 && sum == nb;
 }
 
 struct RtcpWritten rtcp_sdes_write(uint8_t *buf, size_t room, CHUNKS, uint64_t padding) {
     uint8_t *p = buf + 4;
     size_t size;
-    if (!LIKELY(padding == 0 && 252 + 3 * nt + nb <= room && lists_fit(ssrcs, nc, counts, n_counts, types, nt, prefixes, np, values, nv, bytes, nb)))
+    if (!LIKELY(padding_is_right(padding) && 504 + 3 * nt + nb <= room && lists_fit(ssrcs, nc, counts, n_counts, types, nt, prefixes, np, values, nv, bytes, nb)))
         return (struct RtcpWritten){.number = 99};
     for (size_t k = 0; k < nc; k++) {
         store32(p, ssrcs[k]);
         p += 4;
         for (uint64_t c = counts[k]; c != 0; c--) {
-            size_t v = *values++;
+            size_t v = *values++, f = *prefixes++;
             p[0] = *types++;
-            p[1] = (uint8_t)v;
-            text(p + 2, bytes, v);
-            p += 2 + v;
-            bytes += v;
+            if (p[0] == 8) {
+                p[1] = (uint8_t)(1 + f + v);
+                p[2] = (uint8_t)f;
+                text(p + 3, bytes, f + v);
+                p += 3 + f;
+            } else {
+                p[1] = (uint8_t)v;
+                text(p + 2, bytes + f, v);
+                p += 2;
+            }
+            p += v;
+            bytes += f + v;
         }
         do *p++ = 0;
         while (((p - buf) & 3) != 0);
     }
-    size = (size_t)(p - buf);
-    store32(buf, head(202, nc, size));
+    size = (size_t)(p - buf) + padding;
+    store32(buf, head(202, nc, size, padding));
+    pad(buf + size, padding);
     return (struct RtcpWritten){0, 0, 0, size};
 }
 
@@ -259,6 +290,7 @@ void rtcp_writer_new(struct RtcpWriter *w) { *w = (struct RtcpWriter){0, 0, 0, 0
 struct RtcpCall rtcp_writer_add_rr(struct RtcpWriter *w, uint8_t *buf, size_t room, uint32_t ssrc, BLOCKS, uint64_t padding) {
     if (!LIKELY((w->closed | w->padded) == 0 && w->length <= room)) return (struct RtcpCall){.number = 99};
     struct RtcpWritten r = rtcp_rr_write(buf + w->length, room - w->length, ssrc, fractions, n, losses, n_losses, words, n_words, padding);
+    if (r.number == 0) w->padded = padding != 0;
     w->length += r.size;
     return (struct RtcpCall){.number = r.number};
 }
@@ -268,6 +300,7 @@ struct RtcpCall rtcp_writer_add_sdes(struct RtcpWriter *w, uint8_t *buf, size_t 
     struct RtcpWritten r =
         rtcp_sdes_write(buf + w->length, room - w->length, ssrcs, nc, counts, n_counts, types, nt, prefixes, np, values, nv, bytes, nb, padding);
     for (size_t i = 0; i < nt && w->cname == 0 && r.number == 0; i++) w->cname = types[i] == 1;
+    if (r.number == 0) w->padded = padding != 0;
     w->length += r.size;
     return (struct RtcpCall){.number = r.number};
 }

@@ -154,7 +154,7 @@ END {
     print "## Instructions"
     print ""
     print "By callgrind, (Ir(3N) - Ir(N)) / 2N with N = 1000. 'By hand' are the same C functions written by hand (bench/floor.c), with the same arguments, lists"
-    print "and checks but for padding and PRIV, which they leave out: what the machine code of the proved functions is held against."
+    print "and checks; of a refusal they do not say why: what the machine code of the proved functions is held against."
     print ""
     print_share()
     print ""
