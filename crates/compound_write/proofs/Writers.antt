@@ -10,7 +10,7 @@ use lib.ListN.{length, take, drop, length-take, length-drop}
 use lib.Dec.{leb, ltb, eqb}
 use Rattle.rfc3550.specs.Answer.{Refusal, refusal, Answer, ok, refused, need, _>>_, capped, pick}
 use Rattle.rfc3550.specs.Bytes.{store}
-use Rattle.rfc3550.specs.Packet.{Reporter, receiver, type, layout, isReport}
+use Rattle.rfc3550.specs.Packet.{Reporter, type, layout, isReport}
 use Rattle.rfc3550.specs.Write.{BlockLists, Given, giveReport, giveSdes, giveBye, giveApp, packetGiven, contentGiven, paddingGiven, sizeGiven, listsAgree, tests, ownTests, calculateSize}
 use Rattle.rfc3550.specs.Writer.{Writer, add, close, names, addTests, closeTests, shut, call}
 use Rattle.rfc3550.proofs.Answer.{true≢false, and-inv, need-inv, refused-injective, refused≢ok}
@@ -19,9 +19,8 @@ use Rattle.utils.specs.Writer.{sizeRefusal}
 use Rattle.utils.proofs.WriterStores.{store-part}
 use Rattle.bye.proofs.Writes.{bye-fits}
 use Rattle.app.proofs.Writes.{app-fits}
-use Rattle.report_write.specs.Report.{senderOf, blockLists, SizeOf, WhyNone}
-use Rattle.report_write.specs.declared.sender.SenderInfo.{SenderInfo}
-use Rattle.report_write.proofs.Reports.{receiver-fits, sender-fits}
+use Rattle.report_write.specs.Report.{blockLists}
+use Rattle.report_write.proofs.Reports.{why-same, report-number, report-fits}
 use Rattle.sdes_write.specs.Packets.{lists}
 use Rattle.sdes_write.proofs.Packets.{size-fits}
 use Rattle.utils.proofs.Parts.{lent-again}
@@ -262,17 +261,11 @@ sdes-again ss cs ts ps vs bs k = rw (lent-again ss, lent-again cs, lent-again ts
 
 -- ---- a report's size and why, of the one who reports
 
-pub receiver-number : (ssrc : ℕ) (l : BlockLists) (k n : ℕ) → SizeOf 8 l k n → n ≡ orZero (calculateSize (giveReport (receiver ssrc) l k))
-receiver-number ssrc l k n h = h .of (receiver ssrc) refl
-
-pub sender-number : (i : SenderInfo) (l : BlockLists) (k n : ℕ) → SizeOf 28 l k n → n ≡ orZero (calculateSize (giveReport (senderOf i) l k))
-sender-number i l k n h = h .of (senderOf i) refl
-
-pub report-reason : (r : Reporter) (l : BlockLists) (k : ℕ) (x : Refusal) → WhyNone l k x → x ≡ sizeRefusal (calculateSize (giveReport r l k))
-report-reason r l k x h = h .of r
+pub report-reason : (q r : Reporter) (l : BlockLists) (k : ℕ) (x : Refusal) → x ≡ sizeRefusal (calculateSize (giveReport q l k)) → x ≡ sizeRefusal (calculateSize (giveReport r l k))
+report-reason q r l k x h = h ∙ why-same l k q r
 
 pub report-again : (r : Reporter) (fs ls ws : List ℕ) (k : ℕ)
     → giveReport r (blockLists (take (length fs - 0) (drop 0 fs)) (take (length ls - 0) (drop 0 ls)) (take (length ws - 0) (drop 0 ws))) k ≡ giveReport r (blockLists fs ls ws) k
 report-again r fs ls ws k = rw (lent-again fs, lent-again ls, lent-again ws)
 
-pub ruleset adds = (needs, not-true, not-false, starts-behind, starts-sender, starts-receiver, admit-closed, admit-padded, admit-first, admit-none, admit-short, admit-fits, why-closed, why-padded, why-first, why-own, why-short, why-over, admitted-some, admitted-starts, admitted-sum, admitted-part, add-refused, add-done, close-closed, close-done, close-unnamed, bye-again, app-again, sdes-again, report-again, receiver-number, sender-number, report-reason, bye-fits, app-fits, receiver-fits, sender-fits, size-fits, sdes-values, sdes-names)
+pub ruleset adds = (needs, not-true, not-false, starts-behind, starts-sender, starts-receiver, admit-closed, admit-padded, admit-first, admit-none, admit-short, admit-fits, why-closed, why-padded, why-first, why-own, why-short, why-over, admitted-some, admitted-starts, admitted-sum, admitted-part, add-refused, add-done, close-closed, close-done, close-unnamed, bye-again, app-again, sdes-again, report-again, report-number, report-reason, bye-fits, app-fits, report-fits, size-fits, sdes-values, sdes-names)

@@ -29,7 +29,8 @@ use Rattle.records.specs.declared.Reporter.{Reporter}
 use Rattle.records.specs.Records.{reporterOf, leastOf, recordsOf, decisiveOf, frameLaid, laidCount}
 use Rattle.records.proofs.Laid.{store-behind}
 use Rattle.records.proofs.Reports.{lent-size, least-some, counted-fits, frame-fits, blocks-fit, report-whole}
-use Rattle.report_write.specs.Report.{countedSize, WhyCount}
+use Rattle.report_write.specs.Report.{countedSize}
+use Rattle.report_write.proofs.Reports.{reason-same}
 use Rattle.compound_write.specs.Writer.{admits, whyNot, moved}
 use Rattle.compound_write.proofs.Writers.{adds, admitted-some, admitted-room, admitted-open}
 use Rattle.records.specs.Adds.{fitted, admitted, addFramed, blocksAt, addedEnd, concluded}
@@ -147,8 +148,8 @@ counted-some p count loss k e =
 pub counted-number : (p : Reporter) (m count loss k n : ℕ) → m ≡ leastOf p → n ≡ orZero (countedSize m count loss k) → n ≡ orZero (countedSize (leastOf p) count loss k)
 counted-number p m count loss k n e f = f ∙ ap (λ (x : ℕ). orZero (countedSize x count loss k)) e
 
-pub counted-own : (p : Reporter) (count loss k : ℕ) (x : Refusal) → WhyCount count loss k x → x ≡ sizeRefusal (countedSize (leastOf p) count loss k)
-counted-own p count loss k x h = h .of (leastOf p)
+pub counted-own : (p : Reporter) (count loss k : ℕ) (x : Refusal) → x ≡ sizeRefusal (countedSize 0 count loss k) → x ≡ sizeRefusal (countedSize (leastOf p) count loss k)
+counted-own p count loss k x h = h ∙ reason-same (leastOf p) count loss k
 
 -- ---- where its blocks start, and where it ends
 

@@ -24,8 +24,8 @@ use Rattle.utils.proofs.WriterPackets.{writes, refused-written, short-written, 
 use Rattle.utils.proofs.Values.{number-came}
 use Rattle.report.specs.declared.«report_block».ReportBlock.{ReportBlock}
 use Rattle.report_write.specs.declared.sender.SenderInfo.{SenderInfo}
-use Rattle.report_write.specs.Report.{senderOf, decisiveLoss, countedSize, listsSize, WhyCount, headLaid}
-use Rattle.report_write.proofs.Reports.{lists-report, sized-fits, report-laid}
+use Rattle.report_write.specs.Report.{senderOf, decisiveLoss, countedSize, listsSize, headLaid}
+use Rattle.report_write.proofs.Reports.{reason-same, lists-report, sized-fits, report-laid}
 use Rattle.report_write.proofs.Blocks.{length-blocks}
 use Rattle.records.proofs.Laid.{store-before}
 use Rattle.records.specs.declared.Reporter.{Reporter}
@@ -96,11 +96,11 @@ module _ (p : Reporter) where
       record { count-fits = i; padding = j; size = omega arith; most = omega arith; room = h }
 
   module _ (m n count loss k : ℕ) (s : m ≡ leastOf p) (e : n ≡ orZero (countedSize m count loss k)) where
-    pub counted-refused : n ≡ 0 → (v : Refusal) → WhyCount count loss k v → refused v ≡ countedSize (leastOf p) count loss k
+    pub counted-refused : n ≡ 0 → (v : Refusal) → v ≡ sizeRefusal (countedSize 0 count loss k) → refused v ≡ countedSize (leastOf p) count loss k
     counted-refused z v w = go (countedSize (leastOf p) count loss k) refl
       where
         go : (a : Answer ℕ) → countedSize (leastOf p) count loss k ≡ a → refused v ≡ countedSize (leastOf p) count loss k
-        go (refused x) q = ap refused (w .of (leastOf p) ∙ ap sizeRefusal q) ∙ sym q
+        go (refused x) q = ap refused (w ∙ reason-same (leastOf p) count loss k ∙ ap sizeRefusal q) ∙ sym q
         go (ok x) q =
             let f = counted-fits count loss k x x q (omega arith) .size in
             let o = least-some p in

@@ -23,7 +23,7 @@ use Rattle.utils.proofs.Sizes.{size-why, write-why, size-came, size-is, write-r
 use Rattle.utils.proofs.WriterStores.{stores}
 use Rattle.utils.proofs.WriterPackets.{writes, padding-most, sized, size-ok, size-refused, parts-laid, header-long, packet-laid}
 use Rattle.report_write.specs.declared.sender.SenderInfo.{SenderInfo}
-use Rattle.report_write.specs.Report.{senderOf, leastOf, blockLists, decisiveLoss, countedSize, listsSize, SizeOf, AnswerOf, WhyNone, WhyCount, ReportFits, headLaid}
+use Rattle.report_write.specs.Report.{senderOf, leastOf, blockLists, decisiveLoss, countedSize, listsSize, ReportFits, headLaid}
 use Rattle.report_write.proofs.Blocks.{length-blocks, losses-decided}
 
 -- ---- the size by what decides
@@ -56,33 +56,35 @@ module _ (n x k : ℕ) where
   pub count-none : (least : ℕ) → 31 < n → 0 ≡ orZero (countedSize least n x k)
   count-none least h = ap orZero (over-count least n x k h)
 
-  pub count-why : 31 < n → WhyCount n x k (refusal 18 n 31)
-  count-why h = record { of = λ least. ap sizeRefusal (over-count least n x k h) }
+  pub count-why : 31 < n → refusal 18 n 31 ≡ sizeRefusal (countedSize 0 n x k)
+  count-why h = ap sizeRefusal (over-count 0 n x k h)
 
   module _ (h : n ≤ 31) (t : Bool) (e : t ≡ paddingOk k) where
     pub padding-none : (least : ℕ) → t ≡ false → 0 ≡ orZero (countedSize least n x k)
     padding-none least q = ap orZero (bad-padding least n x k h t e q)
 
-    pub padding-why : t ≡ false → WhyCount n x k (refusal 11 k 0)
-    padding-why q = record { of = λ least. ap sizeRefusal (bad-padding least n x k h t e q) }
+    pub padding-why : t ≡ false → refusal 11 k 0 ≡ sizeRefusal (countedSize 0 n x k)
+    padding-why q = ap sizeRefusal (bad-padding 0 n x k h t e q)
 
     module _ (q : t ≡ true) (u : Bool) (f : u ≡ lossIn x) where
       pub loss-none : (least : ℕ) → u ≡ false → 0 ≡ orZero (countedSize least n x k)
       loss-none least z = ap orZero (over-loss least n x k h t e q u f z)
 
-      pub loss-why : u ≡ false → WhyCount n x k (refusal 17 x 16777215)
-      loss-why z = record { of = λ least. ap sizeRefusal (over-loss least n x k h t e q u f z) }
+      pub loss-why : u ≡ false → refusal 17 x 16777215 ≡ sizeRefusal (countedSize 0 n x k)
+      loss-why z = ap sizeRefusal (over-loss 0 n x k h t e q u f z)
 
       pub counted-size : (least : ℕ) → u ≡ true → least + n * 24 + k ≡ orZero (countedSize least n x k)
       counted-size least z = ap orZero (counted least n x k h t e q u f z)
 
-      pub counted-why : u ≡ true → WhyCount n x k (refusal 22 0 0)
-      counted-why z = record { of = λ least. ap sizeRefusal (counted least n x k h t e q u f z) }
+      pub counted-why : u ≡ true → refusal 22 0 0 ≡ sizeRefusal (countedSize 0 n x k)
+      counted-why z = ap sizeRefusal (counted 0 n x k h t e q u f z)
 
   pub counted-in : (least : ℕ) (t : Bool) → least < 256 → n ≤ 31 → t ≡ paddingOk k → t ≡ true → least + n * 24 + k < 2 ^ 64
   counted-in least t h f e q = let m = padding-most t k e q in omega arith
 
-pub ruleset counts = (needs, not-true, not-false, loss-told, count-none, count-why, padding-none, padding-why, loss-none, loss-why, counted-size, counted-why, counted-in)
+pub ruleset counts = (needs, not-true, not-false, loss-told, count-none, padding-none, loss-none, counted-size, counted-in)
+
+pub ruleset whys = (not-true, not-false, count-why, padding-why, loss-why, counted-why)
 
 -- ---- of lent lists
 
@@ -92,6 +94,17 @@ unfolding countedSize need _>>_
 number-same least n x y k e = rw e (go (leb n 31) (paddingOk k) (lossIn y))
   where
     go : (a b c : Bool) → orZero (need a 18 n 31 >> need b 11 k 0 >> need c 17 (lossShown x) lossMost >> ok (least + n * 24 + k)) ≡ orZero (need a 18 n 31 >> need b 11 k 0 >> need c 17 (lossShown y) lossMost >> ok (least + n * 24 + k))
+    go false b c = refl
+    go true false c = refl
+    go true true false = refl
+    go true true true = refl
+
+-- a reason goes by no length
+pub reason-same : (least n x k : ℕ) → sizeRefusal (countedSize 0 n x k) ≡ sizeRefusal (countedSize least n x k)
+unfolding countedSize need _>>_
+reason-same least n x k = go (leb n 31) (paddingOk k) (lossIn x)
+  where
+    go : (a b c : Bool) → sizeRefusal (need a 18 n 31 >> need b 11 k 0 >> need c 17 (lossShown x) lossMost >> ok (0 + n * 24 + k)) ≡ sizeRefusal (need a 18 n 31 >> need b 11 k 0 >> need c 17 (lossShown x) lossMost >> ok (least + n * 24 + k))
     go false b c = refl
     go true false c = refl
     go true true false = refl
@@ -140,21 +153,37 @@ module _ (r : Reporter) (l : BlockLists) where
             let m : k ≤ 252 = padding-most _ k refl g in
             simp (e, f, g, h) (size-ok (giveReport r l k) (leastOf r + length (l .fractions) * 24 + k) (simp (e, f, g, losses-decided (l .losses), h)) (omega (arith, content-length)) (omega (arith, least-most r)))
 
-module _ (l : BlockLists) (k : ℕ) (t : Bool) (a : t ≡ blocksAgree l) where
-  pub agree-why : t ≡ false → WhyNone l k (refusal 24 0 0)
+-- a size goes by the least length alone, a reason by nothing of who reports
+module _ (l : BlockLists) (k : ℕ) (q r : Reporter) where
+  pub size-same : leastOf q ≡ leastOf r → calculateSize (giveReport q l k) ≡ calculateSize (giveReport r l k)
+  size-same e = sym (lists-report q l k) ∙ ap (λ (m : ℕ). listsSize m l k) e ∙ lists-report r l k
+
+  pub why-same : sizeRefusal (calculateSize (giveReport q l k)) ≡ sizeRefusal (calculateSize (giveReport r l k))
   unfolding listsSize need _>>_
-  agree-why q = record { of = λ r. rw (← lists-report r l k, ← a, q) }
+  why-same = rw (← lists-report q l k, ← lists-report r l k) (go (blocksAgree l))
+    where
+      n : ℕ
+      n = length (l .fractions)
 
-  pub lists-why : (x : ℕ) (v : Refusal) → t ≡ true → x ≡ decisiveLoss 0 (l .losses) → WhyCount (length (l .fractions)) x k v → WhyNone l k v
-  lists-why x v q f h =
-      record {
-        of =
-            λ r. h .of (leastOf r) ∙ ap (λ (y : ℕ). sizeRefusal (countedSize (leastOf r) (length (l .fractions)) y k)) f
-            ∙ ap sizeRefusal (lists-counted l k t a q (leastOf r) ∙ lists-report r l k);
-      }
+      x : ℕ
+      x = decisiveLoss 0 (l .losses)
 
-pub report-size : (least n : ℕ) (l : BlockLists) (k : ℕ) → n ≡ orZero (listsSize least l k) → SizeOf least l k n
-report-size least n l k h = record { of = λ r e. h ∙ ap (λ (m : ℕ). orZero (listsSize m l k)) (sym e) ∙ ap orZero (lists-report r l k) }
+      go : (a : Bool) → sizeRefusal (need a 24 0 0 >> countedSize (leastOf q) n x k) ≡ sizeRefusal (need a 24 0 0 >> countedSize (leastOf r) n x k)
+      go false = refl
+      go true = sym (reason-same (leastOf q) n x k) ∙ reason-same (leastOf r) n x k
+
+module _ (l : BlockLists) (k : ℕ) (t : Bool) (a : t ≡ blocksAgree l) where
+  pub agree-why : t ≡ false → (r : Reporter) → refusal 24 0 0 ≡ sizeRefusal (calculateSize (giveReport r l k))
+  unfolding listsSize need _>>_
+  agree-why q r = rw (← lists-report r l k, ← a, q)
+
+  pub lists-why : (x : ℕ) (v : Refusal) → t ≡ true → x ≡ decisiveLoss 0 (l .losses) → v ≡ sizeRefusal (countedSize 0 (length (l .fractions)) x k) → (r : Reporter) → v ≡ sizeRefusal (calculateSize (giveReport r l k))
+  lists-why x v q f h r =
+      h ∙ reason-same (leastOf r) (length (l .fractions)) x k ∙ ap (λ (y : ℕ). sizeRefusal (countedSize (leastOf r) (length (l .fractions)) y k)) f
+      ∙ ap sizeRefusal (lists-counted l k t a q (leastOf r) ∙ lists-report r l k)
+
+pub report-size : (r : Reporter) (least n : ℕ) (l : BlockLists) (k : ℕ) → leastOf r ≡ least → n ≡ orZero (listsSize least l k) → n ≡ orZero (calculateSize (giveReport r l k))
+report-size r least n l k e h = h ∙ ap (λ (m : ℕ). orZero (listsSize m l k)) (sym e) ∙ ap orZero (lists-report r l k)
 
 -- what an accepted size leaves known
 pub sized-fits : (r : Reporter) (l : BlockLists) (k n space : ℕ) → calculateSize (giveReport r l k) ≡ ok n → n ≤ space → ReportFits (leastOf r) l k n space
@@ -173,39 +202,34 @@ sized-fits r l k n space f h =
       room = h;
     }
 
--- what a size, or 0 and why, say of the report
-module _ (least n : ℕ) (l : BlockLists) (k : ℕ) (h : SizeOf least l k n) where
-  module _ (z : n ≡ 0) (v : Refusal) (w : WhyNone l k v) where
-    pub report-refused : AnswerOf least l k (refused v)
-    report-refused = record { of = λ r e. size-why (giveReport r l k) n (h .of r e) v z (w .of r) }
+-- what the size of one reporter, or 0 and why, say of the report of another of that least length
+module _ (q r : Reporter) (n : ℕ) (l : BlockLists) (k : ℕ) (h : n ≡ orZero (calculateSize (giveReport q l k))) (e : leastOf q ≡ leastOf r) where
+  pub report-number : n ≡ orZero (calculateSize (giveReport r l k))
+  report-number = h ∙ ap orZero (size-same l k q r e)
 
-    pub report-why : (r : Reporter) (s : List ℕ) → leastOf r ≡ least → (refused v, s) ≡ write (giveReport r l k) s
-    report-why r s e = write-why (giveReport r l k) n (h .of r e) v s z (w .of r)
+  pub report-refused : n ≡ 0 → (p : Reporter) (v : Refusal) → v ≡ sizeRefusal (calculateSize (giveReport p l k)) → refused v ≡ calculateSize (giveReport r l k)
+  report-refused z p v w = size-why (giveReport r l k) n report-number v z (w ∙ why-same l k p r)
+
+  pub report-why : n ≡ 0 → (p : Reporter) (v : Refusal) → v ≡ sizeRefusal (calculateSize (giveReport p l k)) → (s : List ℕ) → (refused v, s) ≡ write (giveReport r l k) s
+  report-why z p v w s = write-why (giveReport r l k) n report-number v s z (w ∙ why-same l k p r)
 
   module _ (z : n ≡ 0 → ⊥) where
-    pub report-sized : AnswerOf least l k (ok n)
-    report-sized = record { of = λ r e. size-is (giveReport r l k) n (h .of r e) z }
+    pub report-sized : ok n ≡ calculateSize (giveReport r l k)
+    report-sized = size-is (giveReport r l k) n report-number z
 
-    report-fits : (space : ℕ) (r : Reporter) → leastOf r ≡ least → n ≤ space → ReportFits least l k n space
-    report-fits space r e f = rw e at (sized-fits r l k n space (size-came (giveReport r l k) n (h .of r e) z) f)
+    pub report-room : (s : List ℕ) → length s < n → (refused (refusal 10 n 0), s) ≡ write (giveReport r l k) s
+    report-room s f = write-room (giveReport r l k) n report-number z s f
 
-    module _ (r : Reporter) (s : List ℕ) (e : leastOf r ≡ least) where
-      pub report-room : length s < n → (refused (refusal 10 n 0), s) ≡ write (giveReport r l k) s
-      report-room f = write-room (giveReport r l k) n (h .of r e) z s f
+    pub report-done : (s s₁ : List ℕ) → n ≤ length s → s₁ ≡ store 0 (layout (packetGiven (giveReport r l k))) s → (ok n, s₁) ≡ write (giveReport r l k) s
+    report-done s s₁ f q = write-laid (giveReport r l k) n report-number z s s₁ f q
 
-      pub report-done : (s₁ : List ℕ) → n ≤ length s → s₁ ≡ store 0 (layout (packetGiven (giveReport r l k))) s → (ok n, s₁) ≡ write (giveReport r l k) s
-      report-done s₁ f q = write-laid (giveReport r l k) n (h .of r e) z s s₁ f q
-
-module _ (n : ℕ) (l : BlockLists) (k space : ℕ) where
-  pub receiver-fits : SizeOf 8 l k n → (n ≡ 0 → ⊥) → n ≤ space → ReportFits 8 l k n space
-  receiver-fits h z f = report-fits 8 n l k h z space (receiver 0) refl f
-
-  pub sender-fits : SizeOf 28 l k n → (n ≡ 0 → ⊥) → n ≤ space → ReportFits 28 l k n space
-  sender-fits h z f = report-fits 28 n l k h z space (sender 0 0 0 0 0) refl f
+pub report-fits : (r : Reporter) (least n : ℕ) (l : BlockLists) (k space : ℕ) → n ≡ orZero (calculateSize (giveReport r l k)) → (n ≡ 0 → ⊥) → n ≤ space → leastOf r ≡ least → ReportFits least l k n space
+report-fits r least n l k space h z f e = rw e at (sized-fits r l k n space (size-came (giveReport r l k) n h z) f)
 
 -- lists lent again are the same
-pub why-again : (fs ls ws : List ℕ) (k : ℕ) (v : Refusal) → WhyNone (blockLists (take (length fs - 0) (drop 0 fs)) (take (length ls - 0) (drop 0 ls)) (take (length ws - 0) (drop 0 ws))) k v → WhyNone (blockLists fs ls ws) k v
-why-again fs ls ws k v w = rw (lent-again fs, lent-again ls, lent-again ws) at w
+pub why-again : (r : Reporter) (fs ls ws : List ℕ) (k : ℕ) (v : Refusal) → v ≡ sizeRefusal (calculateSize (giveReport r (blockLists (take (length fs - 0) (drop 0 fs)) (take (length ls - 0) (drop 0 ls)) (take (length ws - 0) (drop 0 ws))) k))
+    → v ≡ sizeRefusal (calculateSize (giveReport r (blockLists fs ls ws) k))
+why-again r fs ls ws k v w = rw (lent-again fs, lent-again ls, lent-again ws) at w
 
 -- ---- the bytes
 
@@ -247,7 +271,7 @@ report-laid r least b k size l l₂ l₃ l₄ w q e₂ e₃ e₄ =
     let p = parts-laid 4 least (put (reporterWidths r) (reporterFields r)) (blocksBytes (blocksLent b)) h l₂ l₃ e₂ e₃ (omega arith) (omega arith) in
     packet-laid (report r (blocksLent b) []) k size (size - k) l h l₃ l₄ (omega arith) m (omega arith) (rw (n, ← same-type r (blocksLent b))) (rw append-nil p) e₄
 
-pub ruleset reports = (writes, not-true, not-false, lists-none, lists-size, agree-why, lists-why, report-size, report-refused, report-why, why-again, report-sized, report-room, receiver-fits, sender-fits, report-done, padding-fits, receiver-head, info-laid, sender-head, report-laid)
+pub ruleset reports = (writes, not-true, not-false, lists-none, lists-size, agree-why, lists-why, report-size, report-refused, report-why, why-again, report-sized, report-room, report-fits, report-done, padding-fits, receiver-head, info-laid, sender-head, report-laid)
 
 -- ---- the views lose nothing
 

@@ -5,13 +5,12 @@ use mathlib.Core.Bool.{true}
 use mathlib.Core.List.{List, [], _∷_}
 use lib.ListN.{length}
 use lib.Dec.{leb}
-use Rattle.rfc3550.specs.Answer.{Refusal, Answer, ok, need, pick, _>>_}
+use Rattle.rfc3550.specs.Answer.{Answer, ok, need, pick, _>>_}
 use Rattle.rfc3550.specs.Bytes.{put, store}
 use Rattle.rfc3550.specs.Loss.{Loss, lossIn, lossShown, lossMost}
 use Rattle.rfc3550.specs.Packet.{Block, Reporter, receiver, sender, report, type, reporterWidths, reporterFields}
-use Rattle.rfc3550.specs.Write.{BlockLists, giveReport, blocksAgree, paddingOk, calculateSize}
-use Rattle.utils.specs.Error.{orZero}
-use Rattle.utils.specs.Writer.{header, sizeRefusal}
+use Rattle.rfc3550.specs.Write.{BlockLists, blocksAgree, paddingOk}
+use Rattle.utils.specs.Writer.{header}
 use Rattle.report_write.specs.declared.sender.SenderInfo.{SenderInfo}
 
 abbrev pub senderOf : SenderInfo → Reporter
@@ -53,19 +52,6 @@ unfoldable pub listsSize : ℕ → BlockLists → ℕ → Answer ℕ
 listsSize least l k = do
   need (blocksAgree l) 24 0 0
   countedSize least (length (l .fractions)) (decisiveLoss 0 (l .losses)) k
-
--- a number, an answer and a reason for every reporter of that least length
-pub record SizeOf (least : ℕ) (l : BlockLists) (k n : ℕ) : Type 0 where
-  pub of : (r : Reporter) → leastOf r ≡ least → n ≡ orZero (calculateSize (giveReport r l k))
-
-pub record AnswerOf (least : ℕ) (l : BlockLists) (k : ℕ) (a : Answer ℕ) : Type 0 where
-  pub of : (r : Reporter) → leastOf r ≡ least → a ≡ calculateSize (giveReport r l k)
-
-pub record WhyNone (l : BlockLists) (k : ℕ) (x : Refusal) : Type 0 where
-  pub of : (r : Reporter) → x ≡ sizeRefusal (calculateSize (giveReport r l k))
-
-pub record WhyCount (count : ℕ) (loss : Loss) (k : ℕ) (x : Refusal) : Type 0 where
-  pub of : (least : ℕ) → x ≡ sizeRefusal (countedSize least count loss k)
 
 -- ---- what is laid
 

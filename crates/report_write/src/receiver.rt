@@ -9,13 +9,14 @@ ghost use Prim.Native.Nat.{_≤_};
 ghost use lib.ListN.{length};
 ghost use Rattle.rfc3550.specs.Bytes.{store};
 ghost use Rattle.rfc3550.specs.Packet.{receiver, layout};
-ghost use Rattle.rfc3550.specs.Write.{giveReport, packetGiven, write};
+ghost use Rattle.rfc3550.specs.Write.{giveReport, packetGiven, calculateSize, write};
+ghost use Rattle.utils.specs.Error.{orZero};
 ghost use Rattle.utils.specs.Writer.{writtenOf};
-ghost use Rattle.report_write.specs.Report.{blockLists, SizeOf, AnswerOf, ReportFits, headLaid};
+ghost use Rattle.report_write.specs.Report.{blockLists, ReportFits, headLaid};
 
 // The size of a receiver report, whatever its SSRC; 0 where it is refused.
 pub fn size_of(fractions: &[u8], losses: &[u32], words: &[u32], padding: u64) -> usize
-    ensures { λ r. ⌜ SizeOf 8 (blockLists (now (fractions .entry)) (now (losses .entry)) (now (words .entry))) padding r ⌝ }
+    ensures { λ r. ⌜ r ≡ orZero (calculateSize (giveReport (receiver 0) (blockLists (now (fractions .entry)) (now (losses .entry)) (now (words .entry))) padding)) ⌝ }
 {
     report_block::size_of(
         fractions,
@@ -28,7 +29,7 @@ pub fn size_of(fractions: &[u8], losses: &[u32], words: &[u32], padding: u64) ->
 
 // The size of a receiver report, whatever its SSRC, or why it is refused.
 pub fn calculate_size(fractions: &[u8], losses: &[u32], words: &[u32], padding: u64) -> Written
-    ensures { λ r. ⌜ AnswerOf 8 (blockLists (now (fractions .entry)) (now (losses .entry)) (now (words .entry))) padding (writtenOf r) ⌝ }
+    ensures { λ r. ⌜ writtenOf r ≡ calculateSize (giveReport (receiver 0) (blockLists (now (fractions .entry)) (now (losses .entry)) (now (words .entry))) padding) ⌝ }
 {
     let size = size_of(fractions, losses, words, padding);
     if size == 0 {

@@ -8,10 +8,11 @@ ghost use Prim.Native.Nat.{_+_, _*_, _≤_};
 ghost use lib.ListN.{length};
 ghost use Rattle.rfc3550.specs.Bytes.{put, store};
 ghost use Rattle.rfc3550.specs.Loss.{lossIn};
-ghost use Rattle.rfc3550.specs.Packet.{blockWidths, blockFields, blocksBytes};
-ghost use Rattle.rfc3550.specs.Write.{blocksLent, blocksAgree};
+ghost use Rattle.rfc3550.specs.Packet.{receiver, blockWidths, blockFields, blocksBytes};
+ghost use Rattle.rfc3550.specs.Write.{giveReport, blocksLent, blocksAgree, calculateSize};
 ghost use Rattle.utils.specs.Error.{orZero, writeRefusal};
-ghost use Rattle.report_write.specs.Report.{blockLists, blockGiven, laterLoss, decisiveLoss, countedSize, listsSize, WhyNone, WhyCount};
+ghost use Rattle.utils.specs.Writer.{sizeRefusal};
+ghost use Rattle.report_write.specs.Report.{blockLists, blockGiven, laterLoss, decisiveLoss, countedSize, listsSize};
 
 const MAX_BLOCKS: u8 = 31;
 
@@ -78,9 +79,9 @@ pub fn size_of_count(count: usize, loss: u32, padding: u64, least: u8) -> usize
     least as usize + count * ReportBlock::EXPECTED_SIZE + padding as usize
 }
 
-// Why such a report has no size; PacketTooLarge where it has one.
+// Why such a report has no size, however many bytes stand before its blocks; PacketTooLarge where it has one.
 pub fn why_count(count: usize, loss: u32, padding: u64) -> RtcpWriteError
-    ensures { λ r. ⌜ WhyCount count loss padding (writeRefusal r) ⌝ }
+    ensures { λ r. ⌜ writeRefusal r ≡ sizeRefusal (countedSize 0 count loss padding) ⌝ }
 {
     if 31 < count {
         return RtcpWriteError::TooManyReportBlocks {
@@ -126,7 +127,7 @@ pub fn size_of(fractions: &[u8], losses: &[u32], words: &[u32], padding: u64, le
 
 // Why a report of lent blocks has no size, whoever reports; PacketTooLarge where it has one.
 pub fn why_size(fractions: &[u8], losses: &[u32], words: &[u32], padding: u64) -> RtcpWriteError
-    ensures { λ r. ⌜ WhyNone (blockLists (now (fractions .entry)) (now (losses .entry)) (now (words .entry))) padding (writeRefusal r) ⌝ }
+    ensures { λ r. ⌜ writeRefusal r ≡ sizeRefusal (calculateSize (giveReport (receiver 0) (blockLists (now (fractions .entry)) (now (losses .entry)) (now (words .entry))) padding)) ⌝ }
 {
     if !check_lists(fractions, losses, words) {
         return RtcpWriteError::ListsDisagree;

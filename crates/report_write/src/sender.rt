@@ -8,10 +8,11 @@ ghost use mathlib.Core.Path.{_≡_};
 ghost use Prim.Native.Nat.{_≤_};
 ghost use lib.ListN.{length};
 ghost use Rattle.rfc3550.specs.Bytes.{put, store};
-ghost use Rattle.rfc3550.specs.Packet.{senderWidths, reporterFields, layout};
-ghost use Rattle.rfc3550.specs.Write.{giveReport, packetGiven, write};
+ghost use Rattle.rfc3550.specs.Packet.{sender, senderWidths, reporterFields, layout};
+ghost use Rattle.rfc3550.specs.Write.{giveReport, packetGiven, calculateSize, write};
+ghost use Rattle.utils.specs.Error.{orZero};
 ghost use Rattle.utils.specs.Writer.{writtenOf};
-ghost use Rattle.report_write.specs.Report.{senderOf, blockLists, SizeOf, AnswerOf, ReportFits, headLaid};
+ghost use Rattle.report_write.specs.Report.{senderOf, blockLists, ReportFits, headLaid};
 
 // Who sends, and what was sent.
 pub struct SenderInfo {
@@ -24,7 +25,7 @@ pub struct SenderInfo {
 
 // The size of a sender report, whatever it says of the sender; 0 where it is refused.
 pub fn size_of(fractions: &[u8], losses: &[u32], words: &[u32], padding: u64) -> usize
-    ensures { λ r. ⌜ SizeOf 28 (blockLists (now (fractions .entry)) (now (losses .entry)) (now (words .entry))) padding r ⌝ }
+    ensures { λ r. ⌜ r ≡ orZero (calculateSize (giveReport (sender 0 0 0 0 0) (blockLists (now (fractions .entry)) (now (losses .entry)) (now (words .entry))) padding)) ⌝ }
 {
     report_block::size_of(
         fractions,
@@ -37,7 +38,7 @@ pub fn size_of(fractions: &[u8], losses: &[u32], words: &[u32], padding: u64) ->
 
 // The size of a sender report, whatever it says of the sender, or why it is refused.
 pub fn calculate_size(fractions: &[u8], losses: &[u32], words: &[u32], padding: u64) -> Written
-    ensures { λ r. ⌜ AnswerOf 28 (blockLists (now (fractions .entry)) (now (losses .entry)) (now (words .entry))) padding (writtenOf r) ⌝ }
+    ensures { λ r. ⌜ writtenOf r ≡ calculateSize (giveReport (sender 0 0 0 0 0) (blockLists (now (fractions .entry)) (now (losses .entry)) (now (words .entry))) padding) ⌝ }
 {
     let size = size_of(fractions, losses, words, padding);
     if size == 0 {

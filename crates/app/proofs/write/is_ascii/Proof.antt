@@ -3,7 +3,6 @@ use lib.ListN.{length, drop}
 use mathlib.Core.Path.{_≡_}
 use Prim.Native.Nat.{_≤_, _-_}
 use Rattle.app.proofs.Writes.{writes}
-use Rattle.app.proofs.write.is_ascii.Statement.{statement}
 use Rattle.app.proofs.write.is_ascii.Tie as tie
 
 abbrev Inv-loop : tie.InvT-loop
@@ -12,9 +11,7 @@ Inv-loop name n i₀ i = (i ≤ length name) × (ascii (drop i name) ≡ ascii n
 abbrev μ-loop : tie.MeasureT-loop
 μ-loop name n i₀ i = length name - i
 
-pub is-ascii-spec : {M : Type 1} → statement M
+pub is-ascii-spec : {M : Type 1} → Rattle.app.proofs.write.is_ascii.Statement.statement M
 is-ascii-spec {M} =
-    let answers = tie.spec {M = M}
-    Inv-loop μ-loop (λ c. search writes) (λ c. search writes) (λ c. search writes) (λ c. search writes) (λ c. search writes) (λ c. search writes)
-    (λ c. search writes) in
-    tie.close answers
+    let answers = tie.spec {M = M} Inv-loop μ-loop (λ c. search writes) (λ c. search writes) (λ c. search writes) (λ c. search writes)
+    (λ c. search writes) (λ c. search writes) (λ c. search writes) in tie.close answers

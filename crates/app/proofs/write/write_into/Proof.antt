@@ -1,11 +1,8 @@
 use Rattle.app.proofs.Writes.{writes}
-use Rattle.app.proofs.write.write_into.Statement.{statement}
 use Rattle.app.proofs.write.write_into.Tie as tie
 
-pub write-into-spec : {M : Type 1} → statement M
+pub write-into-spec : {M : Type 1} → Rattle.app.proofs.write.write_into.Statement.statement M
 write-into-spec {M} =
-    let answers = tie.spec {M = M}
-    (λ c κs. search writes) (λ c. search writes) (λ c. search writes) (λ c. search writes) (λ c. search writes) (λ c. search writes)
-    (λ c. search writes) (λ c κs. search writes) (λ c. search writes) (λ c. search writes) (λ c κs. search writes) (λ c. search writes)
-    (λ c. search writes) in
-    tie.close answers
+    let answers = tie.spec {M = M} (λ c κs. search writes) (λ c. search writes) (λ c. search writes) (λ c. search writes) (λ c. search writes)
+    (λ c. search writes) (λ c. search writes) (λ c κs. search writes) (λ c. search writes) (λ c. search writes) (λ c κs. search writes)
+    (λ c. search writes) (λ c. search writes) in tie.close answers

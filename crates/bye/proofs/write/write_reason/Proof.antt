@@ -2,7 +2,6 @@ use lib.ListN.{length-set, length-replicate}
 use mathlib.Core.Path.{_∙_}
 use native.Mathlib.Omega.{arith}
 use Rattle.bye.proofs.Writes.{writes, reason-some}
-use Rattle.bye.proofs.write.write_reason.Statement.{statement}
 use Rattle.bye.proofs.write.write_reason.Tie as tie
 
 slice-write-buf : tie.Need-slice-write-buf
@@ -20,9 +19,8 @@ write-zeros-unchecked-requires c κs =
 same-length : tie.Need-same-length
 same-length c = c .before .before .write-zeros-unchecked .kept .0 ∙ c .before .before .before .before .before .before .write-bytes-unchecked .kept .0 ∙ simp length-set
 
-pub write-reason-spec : {M : Type 1} → statement M
+pub write-reason-spec : {M : Type 1} → Rattle.bye.proofs.write.write_reason.Statement.statement M
 write-reason-spec {M} =
-    let answers = tie.spec {M = M}
-    (λ c. search writes) (λ c. search writes) slice-write-buf (λ c. search writes) write-bytes-unchecked-requires (λ c. search writes)
-    (λ c. search writes) (λ c. search writes) (λ c. search writes) write-zeros-unchecked-requires same-length (λ c. search writes) in
-    tie.close answers
+    let answers = tie.spec {M = M} (λ c. search writes) (λ c. search writes) slice-write-buf (λ c. search writes) write-bytes-unchecked-requires
+    (λ c. search writes) (λ c. search writes) (λ c. search writes) (λ c. search writes) write-zeros-unchecked-requires same-length
+    (λ c. search writes) in tie.close answers

@@ -1,7 +1,6 @@
 use Prim.Native.Nat.{_-_}
 use lib.ListN.{length}
 use Rattle.bye.proofs.Writes.{writes, Sources}
-use Rattle.bye.proofs.write.write_sources.Statement.{statement}
 use Rattle.bye.proofs.write.write_sources.Tie as tie
 
 abbrev Inv-loop : tie.InvT-loop
@@ -14,9 +13,8 @@ shared-slice-read-write-u32-unchecked :
     tie.Need-shared-slice-read-write-u32-unchecked Inv-loop μ-loop
 shared-slice-read-write-u32-unchecked c = search writes
 
-pub write-sources-spec : {M : Type 1} → statement M
+pub write-sources-spec : {M : Type 1} → Rattle.bye.proofs.write.write_sources.Statement.statement M
 write-sources-spec {M} =
-    let answers = tie.spec {M = M}
-    Inv-loop μ-loop (λ c. search writes) (λ c. search writes) (λ c. search writes) (λ c. search writes) shared-slice-read-write-u32-unchecked
-    (λ c κs. search writes) (λ c. search writes) (λ c. search writes) (λ c. search writes) (λ c. search writes) (λ c. search writes) in
-    tie.close answers
+    let answers = tie.spec {M = M} Inv-loop μ-loop (λ c. search writes) (λ c. search writes) (λ c. search writes) (λ c. search writes)
+    shared-slice-read-write-u32-unchecked (λ c κs. search writes) (λ c. search writes) (λ c. search writes) (λ c. search writes) (λ c. search writes)
+    (λ c. search writes) in tie.close answers

@@ -1,11 +1,8 @@
 use Rattle.report_write.proofs.Reports.{reports}
-use Rattle.report_write.proofs.receiver.write_into.Statement.{statement}
 use Rattle.report_write.proofs.receiver.write_into.Tie as tie
 
-pub write-into-spec : {M : Type 1} → statement M
+pub write-into-spec : {M : Type 1} → Rattle.report_write.proofs.receiver.write_into.Statement.statement M
 write-into-spec {M} =
-    let answers = tie.spec {M = M}
-    (λ c κs. search reports) (λ c. search reports) (λ c. search reports) (λ c. search reports) (λ c. search reports) (λ c. search reports)
-    (λ c. search reports) (λ c. search reports) (λ c. search reports) (λ c. search reports) (λ c κs. search reports) (λ c. search reports)
-    (λ c. search reports) (λ c κs. search reports) (λ c. search reports) (λ c. search reports) in
-    tie.close answers
+    let answers = tie.spec {M = M} (λ c κs. search reports) (λ c. search reports) (λ c. search reports) (λ c. search reports) (λ c. search reports)
+    (λ c. search reports) (λ c. search reports) (λ c. search reports) (λ c. search reports) (λ c. search reports) (λ c κs. search reports)
+    (λ c. search reports) (λ c. search reports) (λ c κs. search reports) (λ c. search reports) (λ c. search reports) in tie.close answers

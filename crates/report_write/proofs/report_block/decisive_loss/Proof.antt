@@ -3,7 +3,6 @@ use mathlib.Core.Path.{_≡_}
 use lib.ListN.{length, drop}
 use Rattle.report_write.specs.Report.{decisiveLoss}
 use Rattle.report_write.proofs.Blocks.{blocks}
-use Rattle.report_write.proofs.report_block.decisive_loss.Statement.{statement}
 use Rattle.report_write.proofs.report_block.decisive_loss.Tie as tie
 
 abbrev Inv-loop : tie.InvT-loop
@@ -12,9 +11,7 @@ Inv-loop losses n i₀ loss₀ i loss = (n ≡ length losses) × (i ≤ n) × (d
 abbrev μ-loop : tie.MeasureT-loop
 μ-loop losses n i₀ loss₀ i loss = n - i
 
-pub decisive-loss-spec : {M : Type 1} → statement M
+pub decisive-loss-spec : {M : Type 1} → Rattle.report_write.proofs.report_block.decisive_loss.Statement.statement M
 decisive-loss-spec {M} =
-    let answers = tie.spec {M = M}
-    Inv-loop μ-loop (λ c. search blocks) (λ c. search blocks) (λ c. search blocks) (λ c κs. search blocks) (λ c. search blocks) (λ c. search blocks)
-    (λ c. search blocks) (λ c. search blocks) in
-    tie.close answers
+    let answers = tie.spec {M = M} Inv-loop μ-loop (λ c. search blocks) (λ c. search blocks) (λ c. search blocks) (λ c κs. search blocks)
+    (λ c. search blocks) (λ c. search blocks) (λ c. search blocks) (λ c. search blocks) in tie.close answers

@@ -4,7 +4,6 @@ use lib.ListN.{length, drop}
 use Rattle.rfc3550.specs.Loss.{lossIn}
 use Rattle.report_write.specs.Report.{decisiveLoss}
 use Rattle.report_write.proofs.Blocks.{blocks}
-use Rattle.report_write.proofs.report_block.merged_losses.Statement.{statement}
 use Rattle.report_write.proofs.report_block.merged_losses.Tie as tie
 
 abbrev Inv-loop : tie.InvT-loop
@@ -13,9 +12,7 @@ Inv-loop losses n i₀ bits₀ i bits = (n ≡ length losses) × (i ≤ n) × (l
 abbrev μ-loop : tie.MeasureT-loop
 μ-loop losses n i₀ bits₀ i bits = n - i
 
-pub merged-losses-spec : {M : Type 1} → statement M
+pub merged-losses-spec : {M : Type 1} → Rattle.report_write.proofs.report_block.merged_losses.Statement.statement M
 merged-losses-spec {M} =
-    let answers = tie.spec {M = M}
-    Inv-loop μ-loop (λ c. search blocks) (λ c. search blocks) (λ c. search blocks) (λ c. search blocks) (λ c. search blocks) (λ c. search blocks)
-    (λ c. search blocks) in
-    tie.close answers
+    let answers = tie.spec {M = M} Inv-loop μ-loop (λ c. search blocks) (λ c. search blocks) (λ c. search blocks) (λ c. search blocks)
+    (λ c. search blocks) (λ c. search blocks) (λ c. search blocks) in tie.close answers

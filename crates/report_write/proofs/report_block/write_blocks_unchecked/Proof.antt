@@ -3,7 +3,6 @@ use mathlib.Core.Path.{_≡_}
 use lib.ListN.{length}
 use Rattle.rfc3550.specs.Write.{lentBlocks}
 use Rattle.report_write.proofs.Blocks.{Blocks, blocks}
-use Rattle.report_write.proofs.report_block.write_blocks_unchecked.Statement.{statement}
 use Rattle.report_write.proofs.report_block.write_blocks_unchecked.Tie as tie
 
 abbrev Inv-loop : tie.InvT-loop
@@ -43,13 +42,11 @@ shared-slice-read-write-block-unchecked-7 c = search blocks
 loop-again : tie.Need-loop-again Inv-loop μ-loop
 loop-again c = (search blocks, search blocks, search blocks, search blocks, search blocks)
 
-pub write-blocks-unchecked-spec : {M : Type 1} → statement M
+pub write-blocks-unchecked-spec : {M : Type 1} → Rattle.report_write.proofs.report_block.write_blocks_unchecked.Statement.statement M
 write-blocks-unchecked-spec {M} =
-    let answers = tie.spec {M = M}
-    Inv-loop μ-loop (λ c. search blocks) (λ c. search blocks) (λ c. search blocks) (λ c. search blocks) (λ c. search blocks)
-    shared-slice-read-write-block-unchecked shared-slice-read-write-block-unchecked-2 (λ c. search blocks) shared-slice-read-write-block-unchecked-3
-    (λ c. search blocks) (λ c. search blocks) shared-slice-read-write-block-unchecked-4 (λ c. search blocks) (λ c. search blocks)
-    shared-slice-read-write-block-unchecked-5 (λ c. search blocks) (λ c. search blocks) shared-slice-read-write-block-unchecked-6 (λ c. search blocks)
-    (λ c. search blocks) shared-slice-read-write-block-unchecked-7 (λ c κs. search blocks) (λ c. search blocks) (λ c. search blocks) loop-again
-    (λ c. search blocks) (λ c. search blocks) in
-    tie.close answers
+    let answers = tie.spec {M = M} Inv-loop μ-loop (λ c. search blocks) (λ c. search blocks) (λ c. search blocks) (λ c. search blocks)
+    (λ c. search blocks) shared-slice-read-write-block-unchecked shared-slice-read-write-block-unchecked-2 (λ c. search blocks)
+    shared-slice-read-write-block-unchecked-3 (λ c. search blocks) (λ c. search blocks) shared-slice-read-write-block-unchecked-4 (λ c. search blocks)
+    (λ c. search blocks) shared-slice-read-write-block-unchecked-5 (λ c. search blocks) (λ c. search blocks) shared-slice-read-write-block-unchecked-6
+    (λ c. search blocks) (λ c. search blocks) shared-slice-read-write-block-unchecked-7 (λ c κs. search blocks) (λ c. search blocks)
+    (λ c. search blocks) loop-again (λ c. search blocks) (λ c. search blocks) in tie.close answers

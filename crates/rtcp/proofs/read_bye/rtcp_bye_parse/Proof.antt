@@ -5,15 +5,12 @@ use Rattle.rtcp.specs.Bye.{byeResult}
 use Rattle.rtcp.proofs.Results.{turned}
 use Rattle.rtcp.proofs.Byes.{byes}
 use borrow.Author.Needs.{needs}
-use Rattle.rtcp.proofs.read_bye.rtcp_bye_parse.Statement.{statement}
 use Rattle.rtcp.proofs.read_bye.rtcp_bye_parse.Tie as tie
 
 returns-2 : tie.Need-returns-2
 returns-2 c = search (needs, turned byeResult parsedOf parsed.Refused (λ e. refl))
 
-pub rtcp-bye-parse-spec : {M : Type 1} → statement M
+pub rtcp-bye-parse-spec : {M : Type 1} → Rattle.rtcp.proofs.read_bye.rtcp_bye_parse.Statement.statement M
 rtcp-bye-parse-spec {M} =
-    let answers = tie.spec {M = M}
-    (λ c κs. search needs) (λ c. search needs) (λ c κs. search needs) (λ c. search byes) (λ c. search byes) (λ c. search byes) (λ c. search needs)
-    (λ c κs. search needs) (λ c. search byes) returns-2 in
-    tie.close answers
+    let answers = tie.spec {M = M} (λ c κs. search needs) (λ c. search needs) (λ c κs. search needs) (λ c. search byes) (λ c. search byes)
+    (λ c. search byes) (λ c. search needs) (λ c κs. search needs) (λ c. search byes) returns-2 in tie.close answers

@@ -4,7 +4,6 @@ use Rattle.bye.specs.declared.ParsedSource.the-variants as parsed
 use Rattle.rtcp.specs.Bye.{sourceResult}
 use Rattle.rtcp.proofs.Results.{handed, turned}
 use borrow.Author.Needs.{needs}
-use Rattle.rtcp.proofs.read_bye.rtcp_bye_source.Statement.{statement}
 use Rattle.rtcp.proofs.read_bye.rtcp_bye_source.Tie as tie
 
 returns : tie.Need-returns
@@ -13,8 +12,7 @@ returns c = search (needs, handed sourceResult sourceOf parsed.Source (λ x. ref
 returns-2 : tie.Need-returns-2
 returns-2 c = search (needs, turned sourceResult sourceOf parsed.Refused (λ e. refl))
 
-pub rtcp-bye-source-spec : {M : Type 1} → statement M
+pub rtcp-bye-source-spec : {M : Type 1} → Rattle.rtcp.proofs.read_bye.rtcp_bye_source.Statement.statement M
 rtcp-bye-source-spec {M} =
-    let answers = tie.spec {M = M}
-    (λ c κs. search needs) (λ c. search needs) (λ c. search needs) (λ c. search needs) (λ c κs. search needs) returns returns-2 in
-    tie.close answers
+    let answers = tie.spec {M = M} (λ c κs. search needs) (λ c. search needs) (λ c. search needs) (λ c. search needs) (λ c κs. search needs) returns
+    returns-2 in tie.close answers

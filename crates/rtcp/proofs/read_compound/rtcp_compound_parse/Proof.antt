@@ -4,7 +4,6 @@ use Rattle.compound.specs.declared.compound.ParsedCompound.the-variants as pars
 use Rattle.rtcp.specs.Compound.{compoundResult}
 use Rattle.rtcp.proofs.Results.{handed, turned}
 use borrow.Author.Needs.{needs}
-use Rattle.rtcp.proofs.read_compound.rtcp_compound_parse.Statement.{statement}
 use Rattle.rtcp.proofs.read_compound.rtcp_compound_parse.Tie as tie
 
 returns : tie.Need-returns
@@ -13,8 +12,7 @@ returns c = search (needs, handed compoundResult parsedCompoundOf parsed.Compoun
 returns-2 : tie.Need-returns-2
 returns-2 c = search (needs, turned compoundResult parsedCompoundOf parsed.Refused (λ e. refl))
 
-pub rtcp-compound-parse-spec : {M : Type 1} → statement M
+pub rtcp-compound-parse-spec : {M : Type 1} → Rattle.rtcp.proofs.read_compound.rtcp_compound_parse.Statement.statement M
 rtcp-compound-parse-spec {M} =
-    let answers = tie.spec {M = M}
-    (λ c κs. search needs) (λ c. search needs) (λ c. search needs) (λ c κs. search needs) returns returns-2 in
-    tie.close answers
+    let answers = tie.spec {M = M} (λ c κs. search needs) (λ c. search needs) (λ c. search needs) (λ c κs. search needs) returns returns-2
+    in tie.close answers

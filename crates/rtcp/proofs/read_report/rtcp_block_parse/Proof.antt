@@ -2,14 +2,10 @@ use Rattle.report.specs.Block.{parsedBlockOf}
 use Rattle.rtcp.specs.Report.{blockResult}
 use Rattle.rtcp.proofs.Results.{passed}
 use borrow.Author.Needs.{needs}
-use Rattle.rtcp.proofs.read_report.rtcp_block_parse.Statement.{statement}
 use Rattle.rtcp.proofs.read_report.rtcp_block_parse.Tie as tie
 
 returns : tie.Need-returns
 returns c = search (needs, passed blockResult parsedBlockOf)
 
-pub rtcp-block-parse-spec : {M : Type 1} → statement M
-rtcp-block-parse-spec {M} =
-    let answers = tie.spec {M = M}
-    (λ c κs. search needs) (λ c κs. search needs) returns in
-    tie.close answers
+pub rtcp-block-parse-spec : {M : Type 1} → Rattle.rtcp.proofs.read_report.rtcp_block_parse.Statement.statement M
+rtcp-block-parse-spec {M} = let answers = tie.spec {M = M} (λ c κs. search needs) (λ c κs. search needs) returns in tie.close answers

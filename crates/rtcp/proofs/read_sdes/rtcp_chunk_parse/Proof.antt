@@ -4,7 +4,6 @@ use Rattle.sdes_chunk.specs.declared.chunk.ParsedChunk.the-variants as parsed
 use Rattle.rtcp.specs.Sdes.{chunkResult}
 use Rattle.rtcp.proofs.Results.{handed, turned}
 use borrow.Author.Needs.{needs}
-use Rattle.rtcp.proofs.read_sdes.rtcp_chunk_parse.Statement.{statement}
 use Rattle.rtcp.proofs.read_sdes.rtcp_chunk_parse.Tie as tie
 
 returns : tie.Need-returns
@@ -13,8 +12,7 @@ returns c = search (needs, handed chunkResult parsedChunkOf parsed.Chunk (λ x. 
 returns-2 : tie.Need-returns-2
 returns-2 c = search (needs, turned chunkResult parsedChunkOf parsed.Refused (λ e. refl))
 
-pub rtcp-chunk-parse-spec : {M : Type 1} → statement M
+pub rtcp-chunk-parse-spec : {M : Type 1} → Rattle.rtcp.proofs.read_sdes.rtcp_chunk_parse.Statement.statement M
 rtcp-chunk-parse-spec {M} =
-    let answers = tie.spec {M = M}
-    (λ c κs. search needs) (λ c. search needs) (λ c. search needs) (λ c. search needs) (λ c κs. search needs) returns returns-2 in
-    tie.close answers
+    let answers = tie.spec {M = M} (λ c κs. search needs) (λ c. search needs) (λ c. search needs) (λ c. search needs) (λ c κs. search needs) returns
+    returns-2 in tie.close answers

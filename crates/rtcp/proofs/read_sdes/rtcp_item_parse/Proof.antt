@@ -5,15 +5,12 @@ use Rattle.rtcp.specs.Sdes.{itemResult}
 use Rattle.rtcp.proofs.Results.{turned}
 use Rattle.rtcp.proofs.Descriptions.{descriptions}
 use borrow.Author.Needs.{needs}
-use Rattle.rtcp.proofs.read_sdes.rtcp_item_parse.Statement.{statement}
 use Rattle.rtcp.proofs.read_sdes.rtcp_item_parse.Tie as tie
 
 returns-2 : tie.Need-returns-2
 returns-2 c = search (needs, turned itemResult parsedItemOf parsed.Refused (λ e. refl))
 
-pub rtcp-item-parse-spec : {M : Type 1} → statement M
+pub rtcp-item-parse-spec : {M : Type 1} → Rattle.rtcp.proofs.read_sdes.rtcp_item_parse.Statement.statement M
 rtcp-item-parse-spec {M} =
-    let answers = tie.spec {M = M}
-    (λ c κs. search needs) (λ c. search needs) (λ c κs. search descriptions) (λ c. search needs) (λ c. search needs) (λ c κs. search needs)
-    (λ c. search descriptions) returns-2 in
-    tie.close answers
+    let answers = tie.spec {M = M} (λ c κs. search needs) (λ c. search needs) (λ c κs. search descriptions) (λ c. search needs) (λ c. search needs)
+    (λ c κs. search needs) (λ c. search descriptions) returns-2 in tie.close answers

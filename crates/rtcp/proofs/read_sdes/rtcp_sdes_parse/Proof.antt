@@ -5,15 +5,12 @@ use Rattle.sdes.specs.declared.sdes.ParsedSdes.the-variants as parsed
 use Rattle.rtcp.specs.Sdes.{sdesResult}
 use Rattle.rtcp.proofs.Results.{turned}
 use borrow.Author.Needs.{needs}
-use Rattle.rtcp.proofs.read_sdes.rtcp_sdes_parse.Statement.{statement}
 use Rattle.rtcp.proofs.read_sdes.rtcp_sdes_parse.Tie as tie
 
 returns-2 : tie.Need-returns-2
 returns-2 c = search (needs, turned sdesResult parsedSdesOf parsed.Refused (λ e. refl))
 
-pub rtcp-sdes-parse-spec : {M : Type 1} → statement M
+pub rtcp-sdes-parse-spec : {M : Type 1} → Rattle.rtcp.proofs.read_sdes.rtcp_sdes_parse.Statement.statement M
 rtcp-sdes-parse-spec {M} =
-    let answers = tie.spec {M = M}
-    (λ c κs. search needs) (λ c. search needs) (λ c κs. search needs) (λ c. search needs) (λ c κs. search needs) (λ c. search descriptions)
-    returns-2 in
-    tie.close answers
+    let answers = tie.spec {M = M} (λ c κs. search needs) (λ c. search needs) (λ c κs. search needs) (λ c. search needs) (λ c κs. search needs)
+    (λ c. search descriptions) returns-2 in tie.close answers

@@ -1,7 +1,6 @@
 use Rattle.utils.proofs.Headers.{no-low}
 use Rattle.rfc3550.specs.Read.{lowIn}
 use borrow.Author.Needs.{needs}
-use Rattle.utils.proofs.parser.parse_count.Statement.{statement}
 use Rattle.utils.proofs.parser.parse_count.Tie as tie
 
 returns : tie.Need-returns
@@ -11,8 +10,5 @@ returns-2 : tie.Need-returns-2
 unfolding lowIn
 returns-2 c = search needs
 
-pub parse-count-spec : {M : Type 1} → statement M
-parse-count-spec {M} =
-    let answers = tie.spec {M = M}
-    returns (λ c. search needs) returns-2 in
-    tie.close answers
+pub parse-count-spec : {M : Type 1} → Rattle.utils.proofs.parser.parse_count.Statement.statement M
+parse-count-spec {M} = let answers = tie.spec {M = M} returns (λ c. search needs) returns-2 in tie.close answers

@@ -4,7 +4,6 @@ use Rattle.report.specs.declared.report_block.ParsedReportBlock.the-variants as
 use Rattle.rtcp.specs.Report.{blockResult}
 use Rattle.rtcp.proofs.Results.{handed, turned}
 use borrow.Author.Needs.{needs}
-use Rattle.rtcp.proofs.read_report.RtcpBlock.from_parsed.Statement.{statement}
 use Rattle.rtcp.proofs.read_report.RtcpBlock.from_parsed.Tie as tie
 
 returns : tie.Need-returns
@@ -13,9 +12,7 @@ returns c = search (needs, refl, handed blockResult parsedBlockOf parsed.Block (
 returns-2 : tie.Need-returns-2
 returns-2 c = search (needs, refl, turned blockResult parsedBlockOf parsed.Refused (λ e. refl))
 
-pub from-parsed-spec : {M : Type 1} → statement M
+pub from-parsed-spec : {M : Type 1} → Rattle.rtcp.proofs.read_report.RtcpBlock.from_parsed.Statement.statement M
 from-parsed-spec {M} =
-    let answers = tie.spec {M = M}
-    (λ c. search needs) (λ c. search needs) (λ c. search needs) (λ c. search needs) (λ c. search needs) (λ c. search needs) (λ c. search needs)
-    (λ c. search needs) (λ c. search needs) (λ c κs. search needs) returns returns-2 in
-    tie.close answers
+    let answers = tie.spec {M = M} (λ c. search needs) (λ c. search needs) (λ c. search needs) (λ c. search needs) (λ c. search needs)
+    (λ c. search needs) (λ c. search needs) (λ c. search needs) (λ c. search needs) (λ c κs. search needs) returns returns-2 in tie.close answers

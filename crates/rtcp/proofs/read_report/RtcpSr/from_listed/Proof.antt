@@ -1,7 +1,6 @@
 use borrow.Author.Needs.{needs}
 use Rattle.rtcp.specs.Report.{srResult}
 use Rattle.rtcp.proofs.Reports.{reports, out-known}
-use Rattle.rtcp.proofs.read_report.RtcpSr.from_listed.Statement.{statement}
 use Rattle.rtcp.proofs.read_report.RtcpSr.from_listed.Tie as tie
 
 returns : tie.Need-returns
@@ -13,9 +12,7 @@ returns-2 c = search (needs, out-known srResult)
 returns-3 : tie.Need-returns-3
 returns-3 c = search (needs, out-known srResult)
 
-pub from-listed-spec : {M : Type 1} → statement M
+pub from-listed-spec : {M : Type 1} → Rattle.rtcp.proofs.read_report.RtcpSr.from_listed.Statement.statement M
 from-listed-spec {M} =
-    let answers = tie.spec {M = M}
-    (λ c. search reports) (λ c κs. search reports) (λ c. search reports) (λ c κs. search reports) (λ c. search reports) (λ c κs. search reports)
-    returns returns-2 returns-3 in
-    tie.close answers
+    let answers = tie.spec {M = M} (λ c. search reports) (λ c κs. search reports) (λ c. search reports) (λ c κs. search reports) (λ c. search reports)
+    (λ c κs. search reports) returns returns-2 returns-3 in tie.close answers

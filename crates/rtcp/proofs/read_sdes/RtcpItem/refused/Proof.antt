@@ -1,14 +1,10 @@
 use Rattle.rtcp.specs.Sdes.{itemResult}
 use Rattle.rtcp.proofs.Results.{coded}
 use borrow.Author.Needs.{needs}
-use Rattle.rtcp.proofs.read_sdes.RtcpItem.refused.Statement.{statement}
 use Rattle.rtcp.proofs.read_sdes.RtcpItem.refused.Tie as tie
 
 returns : tie.Need-returns
 returns c = coded itemResult (c .code .result) (c .before .args .e) (c .code .ensures)
 
-pub refused-spec : {M : Type 1} → statement M
-refused-spec {M} =
-    let answers = tie.spec {M = M}
-    (λ c κs. search needs) returns in
-    tie.close answers
+pub refused-spec : {M : Type 1} → Rattle.rtcp.proofs.read_sdes.RtcpItem.refused.Statement.statement M
+refused-spec {M} = let answers = tie.spec {M = M} (λ c κs. search needs) returns in tie.close answers
