@@ -3,20 +3,20 @@ use borrow.Author.Needs.{needs}
 use mathlib.Core.Path.{_≡_, refl, sym, ap, _∙_}
 use mathlib.Core.Bool.{_&&_}
 use mathlib.Core.List.{List, [], _∷_, _++_, append-assoc, append-nil}
-use Prim.Native.Nat.{ℕ, zero, suc, _+_, _*_, _<_, _≤_}
+use Prim.Native.Nat.{ℕ, zero, suc, _+_, _*_, _/_, _%_, _^_, _<_, _≤_}
 use native.Mathlib.Nat.{mul-suc, mul-zero}
 use native.Mathlib.Numerals.{add-one}
 use native.Mathlib.Omega.{arith}
 use borrow.Author.Tests.{le-leb, lt-leb}
-use lib.ListN.{length, getD, take, drop, set, length-append}
-use lib.Seq.{drop-drop}
+use lib.ListN.{length, getD, take, drop, set, length-append, length-drop}
+use lib.Seq.{drop-drop, length-take-le}
 use Rattle.rfc3550.specs.Answer.{ok, refused, refusal, refuse, need, _>>_, mapOk}
 use Rattle.rfc3550.specs.Bytes.{val, get, store}
 use Rattle.rfc3550.specs.Loss.{lossOf}
 use Rattle.rfc3550.specs.Packet.{Block, blockWidths}
 use Rattle.rfc3550.specs.Read.{blockOf, readBlock, readBlocks}
-use Rattle.rfc3550.proofs.Bytes.{length-store}
-use Rattle.utils.proofs.Numbers.{val-byte}
+use Rattle.rfc3550.proofs.Bytes.{length-store, val-lt, bytes-take, bytes-drop, bytes-each}
+use Rattle.utils.proofs.Numbers.{val-join}
 use Rattle.utils.proofs.Parts.{length-readBlocks}
 use Rattle.utils.proofs.WriterStores.{store-nil, puts, store-puts}
 use Rattle.utils.proofs.WriterPackets.{parts-laid}
@@ -26,19 +26,31 @@ use Rattle.report.specs.declared.report_block.ReportBlock.{ReportBlock}
 abbrev blockAt : List ℕ → ℕ → ReportBlock
 blockAt s at = blockView (blockOf (get blockWidths (drop at s)))
 
-pub block-is : (s : List ℕ) (at a b c d e f g : ℕ) → a ≡ val (take 4 (drop at s)) → b ≡ getD s (at + 4) 0 → c ≡ val (take 3 (drop (at + 5) s)) → d ≡ val (take 4 (drop (at + 8) s))
-    → e ≡ val (take 4 (drop (at + 12) s)) → f ≡ val (take 4 (drop (at + 16) s)) → g ≡ val (take 4 (drop (at + 20) s))
+-- the word of the fraction and the loss
+lost-word : (s : List ℕ) (at : ℕ) → ((i : ℕ) → getD s i 0 < 256) → at + 24 ≤ length s
+    → (val (take 4 (drop (at + 4) s)) / 16777216 ≡ val (take 1 (drop (at + 4) s))) × (val (take 4 (drop (at + 4) s)) % 16777216 ≡ val (take 3 (drop (at + 5) s)))
+lost-word s at y h =
+    let p : at + 4 + 1 ≡ at + 5 = omega arith in
+    let j : val (take 1 (drop (at + 4) s)) * 256 ^ 3 + val (take 3 (drop (at + 4 + 1) s)) ≡ val (take 4 (drop (at + 4) s)) = val-join 1 3 s (at + 4) 4 _ _ (omega arith) (omega arith) refl refl in
+    let l : length (take 3 (drop (at + 5) s)) ≡ 3 = length-take-le 3 (drop (at + 5) s) (rw length-drop (omega arith)) in
+    let b : val (take 3 (drop (at + 5) s)) < 256 ^ 3 = rw l at (val-lt (take 3 (drop (at + 5) s)) (bytes-take 3 (drop (at + 5) s) (bytes-drop (at + 5) s (bytes-each s y)))) in
+    let w : val (take 1 (drop (at + 4) s)) * 16777216 + val (take 3 (drop (at + 5) s)) ≡ val (take 4 (drop (at + 4) s)) = rw p at j in
+    (omega arith, omega arith)
+
+pub block-is : (s : List ℕ) (at a lost d e f g : ℕ) → ((i : ℕ) → getD s i 0 < 256) → at + 24 ≤ length s → a ≡ val (take 4 (drop at s)) → lost ≡ val (take 4 (drop (at + 4) s))
+    → d ≡ val (take 4 (drop (at + 8) s)) → e ≡ val (take 4 (drop (at + 12) s)) → f ≡ val (take 4 (drop (at + 16) s)) → g ≡ val (take 4 (drop (at + 20) s))
     → record {
       ssrc = a;
-      «fraction_lost» = b;
-      «cumulative_lost» = c;
+      «fraction_lost» = lost / 16777216;
+      «cumulative_lost» = lost % 16777216;
       «extended_sequence_number» = d;
       «interarrival_jitter» = e;
       «last_sender_report_timestamp» = f;
       «delay_since_last_sender_report_timestamp» = g;
     } ≡ blockAt s at
 unfolding get lossOf
-block-is s at a b c d e f g p₁ p₂ p₃ p₄ p₅ p₆ p₇ =
+block-is s at a lost d e f g y h p₁ p₂ p₄ p₅ p₆ p₇ =
+    let w = lost-word s at y h in
     rw (
       drop-drop 1 4 (drop at s),
       drop-drop 3 5 (drop at s),
@@ -51,9 +63,10 @@ block-is s at a b c d e f g p₁ p₂ p₃ p₄ p₅ p₆ p₇ =
       drop-drop 12 at s,
       drop-drop 16 at s,
       drop-drop 20 at s,
-      val-byte s (at + 4) b p₂,
       p₁,
-      p₃,
+      p₂,
+      w .0,
+      w .1,
       p₄,
       p₅,
       p₆,

@@ -58,10 +58,11 @@ pub fn parse_block_unchecked(s: &[u8], at: usize) -> ReportBlock
     requires { ⌜ at + 24 ≤ length (now s) ⌝ }
     ensures { λ r. ⌜ r ≡ blockView (blockOf (get blockWidths (drop at (now (s .entry))))) ⌝ }
 {
+    let lost = u32_from_be_bytes(s, at + 4);
     ReportBlock {
         ssrc: u32_from_be_bytes(s, at),
-        fraction_lost: s[at + 4],
-        cumulative_lost: utils::parser::u24_from_be_bytes(s, at + 5),
+        fraction_lost: (lost / 16777216) as u8,
+        cumulative_lost: lost % 16777216,
         extended_sequence_number: u32_from_be_bytes(s, at + 8),
         interarrival_jitter: u32_from_be_bytes(s, at + 12),
         last_sender_report_timestamp: u32_from_be_bytes(s, at + 16),

@@ -9,7 +9,7 @@ use native.Mathlib.Numerals.{add-one}
 use native.Mathlib.Omega.{arith}
 use borrow.Author.Tests.{eq-eqb, ne-eqb}
 use lib.ListN.{length, take, drop, set, getD, replicate, length-append, length-drop, length-set, length-replicate, replicate-append-replicate}
-use lib.Seq.{take-suc, take-add, take-length, length-take-le}
+use lib.Seq.{drop-cons, take-suc, take-add, take-length, length-take-le}
 use lib.Dec.{leb}
 use Rattle.rfc3550.specs.Bytes.{be, val, store}
 use Rattle.rfc3550.specs.Packet.{paddingBit}
@@ -87,6 +87,42 @@ pub swapped : (v : ℕ) → v < 2 ^ 32 → reversed (v / 16777216 + v / 65536 % 
 swapped v f =
     let e : v / 16777216 % 256 ≡ v / 16777216 = omega arith in
     four (v / 16777216) (v / 65536 % 256) (v / 256 % 256) (v % 256) (omega arith) (omega arith) (omega arith) (omega arith) ∙ sym (rw (div-one, e) at (be-digits 4 v f))
+
+-- the number of four bytes, least significant first, and with its bytes swapped
+next : (s : List ℕ) (at : ℕ) → at < length s → drop at s ≡ getD s at 0 ∷ drop (at + 1) s
+next s at h = rw (add-one, drop-cons s at 0)
+
+pub four-read : (s : List ℕ) (at a b c d : ℕ) → at + 4 ≤ length s → a ≡ getD s at 0 → a < 256 → b ≡ getD s (at + 1) 0 → b < 256 → c ≡ getD s (at + 2) 0 → c < 256 → d ≡ getD s (at + 3) 0 → d < 256
+    → reversed (a + b * 256 + c * 65536 + d * 16777216) ≡ take 4 (drop at s)
+four-read s at a b c d l p₀ h₀ p₁ h₁ p₂ h₂ p₃ h₃ =
+    let e₁ : at + 1 + 1 ≡ at + 2 = omega arith in
+    let e₂ : at + 2 + 1 ≡ at + 3 = omega arith in
+    four a b c d h₀ h₁ h₂ h₃ ∙ rw (next s at (omega arith), next s (at + 1) (omega arith), e₁, next s (at + 2) (omega arith), e₂, next s (at + 3) (omega arith), p₀, p₁, p₂, p₃)
+
+second : (r : ℕ) → r / 256 ≡ r / 65536 * 256 + r / 256 % 256
+second r = omega arith
+
+third : (r : ℕ) → r / 65536 ≡ r / 16777216 * 256 + r / 65536 % 256
+third r = omega arith
+
+four-digits : (r : ℕ) → r < 2 ^ 32 → r ≡ r % 256 + r / 256 % 256 * 256 + r / 65536 % 256 * 65536 + r / 16777216 % 256 * 16777216
+four-digits r h =
+    let d₀ : r ≡ r / 256 * 256 + r % 256 = omega arith in
+    let d₁ : r / 256 ≡ r / 65536 * 256 + r / 256 % 256 = second r in
+    let d₂ : r / 65536 ≡ r / 16777216 * 256 + r / 65536 % 256 = third r in
+    let d₃ : r / 16777216 % 256 ≡ r / 16777216 = omega arith in
+    omega (arith)
+
+pub swapped-read : (bs : List ℕ) (v r : ℕ) → v < 2 ^ 32 → r < 2 ^ 32 → reversed v ≡ bs → reversed r ≡ be 4 v → r ≡ val bs
+unfolding val
+swapped-read bs v r f g p q =
+    let e : reversed r ≡ v / 16777216 % 256 ∷ v / 65536 % 256 ∷ v / 256 % 256 ∷ v % 256 ∷ [] = q ∙ (rw div-one at (be-digits 4 v f)) in
+    let e₀ : r % 256 ≡ v / 16777216 % 256 = ap (λ (l : List ℕ). getD l 0 0) e in
+    let e₁ : r / 256 % 256 ≡ v / 65536 % 256 = ap (λ (l : List ℕ). getD l 1 0) e in
+    let e₂ : r / 65536 % 256 ≡ v / 256 % 256 = ap (λ (l : List ℕ). getD l 2 0) e in
+    let e₃ : r / 16777216 % 256 ≡ v % 256 = ap (λ (l : List ℕ). getD l 3 0) e in
+    let w : val (reversed v) ≡ v % 256 * 16777216 + (v / 256 % 256 * 65536 + (v / 65536 % 256 * 256 + (v / 16777216 % 256 * 1 + 0))) = refl in
+    rw (← p, w) (four-digits r g ∙ rw (e₀, e₁, e₂, e₃) (omega arith))
 
 -- the w bytes from index k on, read as a number and laid down as that number
 pub number-copied : (w at k v : ℕ) (src l l₁ : List ℕ) → ((i : ℕ) → getD src i 0 < 256) → k + w ≤ length src → v ≡ val (take w (drop k src)) → l₁ ≡ store (at + k) (be w v) l → l₁ ≡ store (at + k) (take w (drop k src)) l
@@ -189,4 +225,4 @@ copying-again w at src l₀ k₀ l₁ k l₂ c h s e =
       so-far = λ l t v. group-more at l w k src l₁ l₂ h t e (c .so-far l t v);
     }
 
-pub ruleset writer = (needs, padding-odd, padding-even, first-plain, first-padded, padding-none, padding-laid, header-laid, u16-laid, reversed-laid, swapped-laid, swapped, u32-laid, u64-laid, laid-none, zeros-more, zeros-done, group-more, group-last, byte-alone, bytes-none)
+pub ruleset writer = (needs, padding-odd, padding-even, first-plain, first-padded, padding-none, padding-laid, header-laid, u16-laid, reversed-laid, swapped-laid, swapped, four-read, swapped-read, u32-laid, u64-laid, laid-none, zeros-more, zeros-done, group-more, group-last, byte-alone, bytes-none)

@@ -5,10 +5,11 @@ ghost use mathlib.Core.Bool.{_||_};
 ghost use Prim.Native.Nat.{_+_, _-_, _≤_, _<_};
 ghost use lib.ListN.{length, take, drop};
 ghost use lib.Dec.{eqb};
-ghost use Rattle.rfc3550.specs.Bytes.{val};
+ghost use Rattle.rfc3550.specs.Bytes.{val, be};
 ghost use Rattle.rfc3550.specs.Read.{versionIn, padded, lowIn, typeIn, stated, checkHeader};
 ghost use Rattle.utils.specs.Error.{parseRefusal, refusalIn, orZero};
 ghost use Rattle.utils.specs.Parser.{checkPadding};
+ghost use Rattle.utils.specs.Writer.{reversed};
 
 // A byte, and that it is below 256.
 pub fn wide(b: u8) -> usize
@@ -36,22 +37,31 @@ pub fn u16_from_be_bytes(s: &[u8], at: usize) -> u16
     (high * 256 + low) as u16
 }
 
-pub fn u24_from_be_bytes(s: &[u8], at: usize) -> u32
-    requires { ⌜ at + 3 ≤ length (now s) ⌝ }
-    ensures { λ r. ⌜ r ≡ val (take 3 (drop at (now (s .entry)))) ⌝ }
+// The number whose bytes, least significant first, stand at a place.
+fn u32_from_le_bytes(s: &[u8], at: usize) -> u32
+    requires { ⌜ at + 4 ≤ length (now s) ⌝ }
+    ensures { λ r. ⌜ reversed r ≡ take 4 (drop at (now (s .entry))) ⌝ }
 {
-    let high = wide(s[at]) as u32;
-    let low = u16_from_be_bytes(s, at + 1) as u32;
-    high * 65536 + low
+    let a = wide(s[at]) as u32;
+    let b = wide(s[at + 1]) as u32;
+    let c = wide(s[at + 2]) as u32;
+    let d = wide(s[at + 3]) as u32;
+    a + b * 256 + c * 65536 + d * 16777216
 }
 
+// The number of the same four bytes in the other order.
+pub fn swap_bytes(v: u32) -> u32
+    ensures { λ r. ⌜ reversed r ≡ be 4 v ⌝ }
+{
+    v / 16777216 + v / 65536 % 256 * 256 + v / 256 % 256 * 65536 + v % 256 * 16777216
+}
+
+// By a load of the bytes in the machine's order and a swap: so it is compiled to these two wherever it stands.
 pub fn u32_from_be_bytes(s: &[u8], at: usize) -> u32
     requires { ⌜ at + 4 ≤ length (now s) ⌝ }
     ensures { λ r. ⌜ r ≡ val (take 4 (drop at (now (s .entry)))) ⌝ }
 {
-    let high = u16_from_be_bytes(s, at) as u32;
-    let low = u16_from_be_bytes(s, at + 2) as u32;
-    high * 65536 + low
+    swap_bytes(u32_from_le_bytes(s, at))
 }
 
 // In halves of halves: that way it is compiled to one load and a byte swap.

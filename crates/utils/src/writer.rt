@@ -34,19 +34,12 @@ fn write_reversed(buf: &mut [u8], at: usize, v: u32)
     buf[at + 3] = (v / 16777216 % 256) as u8;
 }
 
-// The number of the same four bytes in the other order.
-fn swap_bytes(v: u32) -> u32
-    ensures { λ r. ⌜ reversed r ≡ be 4 v ⌝ }
-{
-    v / 16777216 + v / 65536 % 256 * 256 + v / 256 % 256 * 65536 + v % 256 * 16777216
-}
-
 // By a swap and a store of the bytes in the machine's order: so it is compiled to one store wherever it stands.
 pub fn write_u32_unchecked(buf: &mut [u8], at: usize, v: u32)
     requires { ⌜ at + 4 ≤ length (now buf) ⌝ }
     ensures { λ _. ⌜ now (buf .exit) ≡ store at (be 4 v) (now (buf .entry)) ⌝ }
 {
-    write_reversed(buf, at, swap_bytes(v));
+    write_reversed(buf, at, parser::swap_bytes(v));
 }
 
 pub fn write_u64_unchecked(buf: &mut [u8], at: usize, v: u64)

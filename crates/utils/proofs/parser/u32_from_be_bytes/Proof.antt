@@ -1,11 +1,9 @@
-use Rattle.utils.proofs.Numbers.{val-join}
-use borrow.Author.Needs.{needs}
+use Rattle.utils.proofs.WriterCases.{writer}
+use Rattle.utils.proofs.parser.u32_from_be_bytes.Statement.{statement}
 use Rattle.utils.proofs.parser.u32_from_be_bytes.Tie as tie
 
-returns : tie.Need-returns
-returns c = search (needs, val-join 2 2)
-
-pub u32-from-be-bytes-spec : {M : Type 1} → Rattle.utils.proofs.parser.u32_from_be_bytes.Statement.statement M
+pub u32-from-be-bytes-spec : {M : Type 1} → statement M
 u32-from-be-bytes-spec {M} =
-    let answers = tie.spec {M = M} (λ c κs. search needs) (λ c. search needs) (λ c. search needs) (λ c κs. search needs) (λ c. search needs)
-    (λ c. search needs) (λ c. search needs) returns in tie.close answers
+    let answers = tie.spec {M = M}
+    (λ c κs. search writer) (λ c κs. search writer) (λ c. search writer) in
+    tie.close answers

@@ -4,7 +4,7 @@ use Rattle.utils.proofs.writer.write_u32_unchecked.Statement.{statement
 use Rattle.utils.proofs.writer.write_u32_unchecked.Tie as tie
 use Rattle.utils.proofs.writer.write_u32_unchecked.Reads as reads
 use Rattle.utils.proofs.writer.write_u32_unchecked.Lts as lts
-use Rattle.utils.proofs.writer.swap_bytes.Reads as swap-bytes-reads
+use Rattle.utils.proofs.parser.swap_bytes.Reads as swap-bytes-reads
 use Rattle.utils.proofs.writer.write_reversed.Reads as write-reversed-reads
 
 -- src/writer.rt:49:29
