@@ -191,6 +191,7 @@ pub trait RtcpPacketWriterExt: RtcpPacketWriter {
     /// assert_eq!(Bye::builder().add_source(7).write_into(&mut buf), Ok(8));
     /// assert_eq!(buf, [0x81, 203, 0, 1, 0, 0, 0, 7, 0x5A, 0x5A]);
     /// ```
+    #[inline]
     fn write_into(&self, buf: &mut [u8]) -> Result<usize, RtcpWriteError> {
         self.write(buf)
     }
@@ -226,6 +227,7 @@ fn padding_set(padding: u8) -> Option<u8> {
 }
 
 /// The size that a call gives.
+#[inline]
 fn size(written: ffi::RtcpWritten) -> Result<usize, RtcpWriteError> {
     Ok(written.done()?.size as usize)
 }
