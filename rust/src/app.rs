@@ -1,8 +1,5 @@
 use crate::ffi::{self, part};
-use crate::{
-    padding_count, padding_set, size, CompoundWriter, RtcpPacket, RtcpPacketParser,
-    RtcpPacketWriter, RtcpParseError, RtcpWriteError,
-};
+use crate::{padding_count, RtcpPacket, RtcpPacketParser, RtcpParseError};
 use std::string::FromUtf8Error;
 
 /// An APP packet. Its subtype is
@@ -140,43 +137,9 @@ impl<'a> AppBuilder<'a> {
     }
 }
 
-impl RtcpPacketWriter for AppBuilder<'_> {
-    fn calculate_size(&self) -> Result<usize, RtcpWriteError> {
-        size(ffi::rtcp_app_size(
-            self.subtype.into(),
-            self.name,
-            self.data,
-            self.padding.into(),
-        ))
-    }
-
-    fn get_padding(&self) -> Option<u8> {
-        padding_set(self.padding)
-    }
-
-    #[inline]
-    fn write(&self, buf: &mut [u8]) -> Result<usize, RtcpWriteError> {
-        size(ffi::rtcp_app_write(
-            buf,
-            self.subtype.into(),
-            self.ssrc,
-            self.name,
-            self.data,
-            self.padding.into(),
-        ))
-    }
-
-    fn add_to(&self, writer: &mut CompoundWriter, buf: &mut [u8]) -> Result<(), RtcpWriteError> {
-        writer.call(|state| {
-            ffi::rtcp_writer_add_app(
-                state,
-                buf,
-                self.subtype.into(),
-                self.ssrc,
-                self.name,
-                self.data,
-                self.padding.into(),
-            )
-        })
-    }
+packet_writer! {
+    AppBuilder<'_>, app,
+    rtcp_app_size(app.subtype.into(), app.name, app.data, app.padding.into()),
+    rtcp_app_write,
+    rtcp_writer_add_app(app.subtype.into(), app.ssrc, app.name, app.data, app.padding.into())
 }

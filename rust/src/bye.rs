@@ -1,8 +1,5 @@
 use crate::ffi::{self, between, part};
-use crate::{
-    padding_count, padding_set, size, CompoundWriter, RtcpPacket, RtcpPacketParser,
-    RtcpPacketWriter, RtcpParseError, RtcpWriteError,
-};
+use crate::{padding_count, RtcpPacket, RtcpPacketParser, RtcpParseError};
 use std::borrow::Cow;
 use std::iter::FusedIterator;
 use std::string::FromUtf8Error;
@@ -200,32 +197,8 @@ impl<'a> ByeBuilder<'a> {
     }
 }
 
-impl RtcpPacketWriter for ByeBuilder<'_> {
-    fn calculate_size(&self) -> Result<usize, RtcpWriteError> {
-        size(ffi::rtcp_bye_size(
-            &self.sources,
-            &self.reason,
-            self.padding.into(),
-        ))
-    }
-
-    fn get_padding(&self) -> Option<u8> {
-        padding_set(self.padding)
-    }
-
-    #[inline]
-    fn write(&self, buf: &mut [u8]) -> Result<usize, RtcpWriteError> {
-        size(ffi::rtcp_bye_write(
-            buf,
-            &self.sources,
-            &self.reason,
-            self.padding.into(),
-        ))
-    }
-
-    fn add_to(&self, writer: &mut CompoundWriter, buf: &mut [u8]) -> Result<(), RtcpWriteError> {
-        writer.call(|state| {
-            ffi::rtcp_writer_add_bye(state, buf, &self.sources, &self.reason, self.padding.into())
-        })
-    }
+packet_writer! {
+    ByeBuilder<'_>, bye,
+    rtcp_bye_size, rtcp_bye_write,
+    rtcp_writer_add_bye(&bye.sources, &bye.reason, bye.padding.into())
 }

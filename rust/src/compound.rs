@@ -178,6 +178,20 @@ impl<'a> Packet<'a> {
     }
 }
 
+/// What is asked of a packet, whichever kind it is of.
+macro_rules! whichever {
+    ($any:expr, $packet:ident, $asked:expr) => {
+        match $any {
+            Packet::App($packet) => $asked,
+            Packet::Bye($packet) => $asked,
+            Packet::Rr($packet) => $asked,
+            Packet::Sdes($packet) => $asked,
+            Packet::Sr($packet) => $asked,
+            Packet::Unknown($packet) => $asked,
+        }
+    };
+}
+
 impl RtcpPacket for Packet<'_> {
     const MIN_PACKET_LEN: usize = 4;
     /// Of no use: a packet has the type of its kind.
@@ -195,47 +209,19 @@ impl<'a> RtcpPacketParser<'a> for Packet<'a> {
     }
 
     fn bytes(&self) -> &'a [u8] {
-        match self {
-            Packet::App(packet) => packet.bytes(),
-            Packet::Bye(packet) => packet.bytes(),
-            Packet::Rr(packet) => packet.bytes(),
-            Packet::Sdes(packet) => packet.bytes(),
-            Packet::Sr(packet) => packet.bytes(),
-            Packet::Unknown(packet) => packet.bytes(),
-        }
+        whichever!(self, packet, packet.bytes())
     }
 
     fn padding_bytes(&self) -> &'a [u8] {
-        match self {
-            Packet::App(packet) => packet.padding_bytes(),
-            Packet::Bye(packet) => packet.padding_bytes(),
-            Packet::Rr(packet) => packet.padding_bytes(),
-            Packet::Sdes(packet) => packet.padding_bytes(),
-            Packet::Sr(packet) => packet.padding_bytes(),
-            Packet::Unknown(packet) => packet.padding_bytes(),
-        }
+        whichever!(self, packet, packet.padding_bytes())
     }
 
     fn packet_type(&self) -> u8 {
-        match self {
-            Packet::App(packet) => packet.packet_type(),
-            Packet::Bye(packet) => packet.packet_type(),
-            Packet::Rr(packet) => packet.packet_type(),
-            Packet::Sdes(packet) => packet.packet_type(),
-            Packet::Sr(packet) => packet.packet_type(),
-            Packet::Unknown(packet) => packet.packet_type(),
-        }
+        whichever!(self, packet, packet.packet_type())
     }
 
     fn low_bits(&self) -> u8 {
-        match self {
-            Packet::App(packet) => packet.low_bits(),
-            Packet::Bye(packet) => packet.low_bits(),
-            Packet::Rr(packet) => packet.low_bits(),
-            Packet::Sdes(packet) => packet.low_bits(),
-            Packet::Sr(packet) => packet.low_bits(),
-            Packet::Unknown(packet) => packet.low_bits(),
-        }
+        whichever!(self, packet, packet.low_bits())
     }
 }
 

@@ -1,8 +1,5 @@
 use crate::ffi;
-use crate::{
-    padding_count, padding_set, size, CompoundWriter, RtcpPacket, RtcpPacketParser,
-    RtcpPacketWriter, RtcpParseError, RtcpWriteError,
-};
+use crate::{padding_count, RtcpPacket, RtcpPacketParser, RtcpParseError};
 use std::iter::FusedIterator;
 
 /// What the two kinds of report have in common.
@@ -464,53 +461,16 @@ impl SenderReportBuilder {
     }
 }
 
-impl RtcpPacketWriter for SenderReportBuilder {
-    fn calculate_size(&self) -> Result<usize, RtcpWriteError> {
-        size(ffi::rtcp_sr_size(
-            &self.blocks.fractions,
-            &self.blocks.losses,
-            &self.blocks.words,
-            self.padding.into(),
-        ))
-    }
-
-    fn get_padding(&self) -> Option<u8> {
-        padding_set(self.padding)
-    }
-
-    #[inline]
-    fn write(&self, buf: &mut [u8]) -> Result<usize, RtcpWriteError> {
-        size(ffi::rtcp_sr_write(
-            buf,
-            self.ssrc,
-            self.ntp_timestamp,
-            self.rtp_timestamp,
-            self.packet_count,
-            self.octet_count,
-            &self.blocks.fractions,
-            &self.blocks.losses,
-            &self.blocks.words,
-            self.padding.into(),
-        ))
-    }
-
-    fn add_to(&self, writer: &mut CompoundWriter, buf: &mut [u8]) -> Result<(), RtcpWriteError> {
-        writer.call(|state| {
-            ffi::rtcp_writer_add_sr(
-                state,
-                buf,
-                self.ssrc,
-                self.ntp_timestamp,
-                self.rtp_timestamp,
-                self.packet_count,
-                self.octet_count,
-                &self.blocks.fractions,
-                &self.blocks.losses,
-                &self.blocks.words,
-                self.padding.into(),
-            )
-        })
-    }
+packet_writer! {
+    SenderReportBuilder, sr,
+    rtcp_sr_size(
+        &sr.blocks.fractions, &sr.blocks.losses, &sr.blocks.words, sr.padding.into()
+    ),
+    rtcp_sr_write,
+    rtcp_writer_add_sr(
+        sr.ssrc, sr.ntp_timestamp, sr.rtp_timestamp, sr.packet_count, sr.octet_count,
+        &sr.blocks.fractions, &sr.blocks.losses, &sr.blocks.words, sr.padding.into()
+    )
 }
 
 /// A receiver report to write.
@@ -531,43 +491,13 @@ pub struct ReceiverReportBuilder {
     blocks: BlockLists,
 }
 
-impl RtcpPacketWriter for ReceiverReportBuilder {
-    fn calculate_size(&self) -> Result<usize, RtcpWriteError> {
-        size(ffi::rtcp_rr_size(
-            &self.blocks.fractions,
-            &self.blocks.losses,
-            &self.blocks.words,
-            self.padding.into(),
-        ))
-    }
-
-    fn get_padding(&self) -> Option<u8> {
-        padding_set(self.padding)
-    }
-
-    #[inline]
-    fn write(&self, buf: &mut [u8]) -> Result<usize, RtcpWriteError> {
-        size(ffi::rtcp_rr_write(
-            buf,
-            self.ssrc,
-            &self.blocks.fractions,
-            &self.blocks.losses,
-            &self.blocks.words,
-            self.padding.into(),
-        ))
-    }
-
-    fn add_to(&self, writer: &mut CompoundWriter, buf: &mut [u8]) -> Result<(), RtcpWriteError> {
-        writer.call(|state| {
-            ffi::rtcp_writer_add_rr(
-                state,
-                buf,
-                self.ssrc,
-                &self.blocks.fractions,
-                &self.blocks.losses,
-                &self.blocks.words,
-                self.padding.into(),
-            )
-        })
-    }
+packet_writer! {
+    ReceiverReportBuilder, rr,
+    rtcp_rr_size(
+        &rr.blocks.fractions, &rr.blocks.losses, &rr.blocks.words, rr.padding.into()
+    ),
+    rtcp_rr_write,
+    rtcp_writer_add_rr(
+        rr.ssrc, &rr.blocks.fractions, &rr.blocks.losses, &rr.blocks.words, rr.padding.into()
+    )
 }

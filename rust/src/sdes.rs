@@ -1,8 +1,5 @@
 use crate::ffi::{self, between, part};
-use crate::{
-    padding_count, padding_set, size, CompoundWriter, RtcpPacket, RtcpPacketParser,
-    RtcpPacketWriter, RtcpParseError, RtcpWriteError,
-};
+use crate::{padding_count, size, RtcpPacket, RtcpPacketParser, RtcpParseError, RtcpWriteError};
 use std::borrow::Cow;
 use std::iter::FusedIterator;
 use std::marker::PhantomData;
@@ -360,55 +357,13 @@ impl<'a> SdesBuilder<'a> {
     }
 }
 
-impl RtcpPacketWriter for SdesBuilder<'_> {
-    fn calculate_size(&self) -> Result<usize, RtcpWriteError> {
-        let items = &self.items;
-        size(ffi::rtcp_sdes_size(
-            &self.ssrcs,
-            &self.counts,
-            &items.types,
-            &items.prefixes,
-            &items.values,
-            &items.bytes,
-            self.padding.into(),
-        ))
-    }
-
-    fn get_padding(&self) -> Option<u8> {
-        padding_set(self.padding)
-    }
-
-    #[inline]
-    fn write(&self, buf: &mut [u8]) -> Result<usize, RtcpWriteError> {
-        let items = &self.items;
-        size(ffi::rtcp_sdes_write(
-            buf,
-            &self.ssrcs,
-            &self.counts,
-            &items.types,
-            &items.prefixes,
-            &items.values,
-            &items.bytes,
-            self.padding.into(),
-        ))
-    }
-
-    fn add_to(&self, writer: &mut CompoundWriter, buf: &mut [u8]) -> Result<(), RtcpWriteError> {
-        let items = &self.items;
-        writer.call(|state| {
-            ffi::rtcp_writer_add_sdes(
-                state,
-                buf,
-                &self.ssrcs,
-                &self.counts,
-                &items.types,
-                &items.prefixes,
-                &items.values,
-                &items.bytes,
-                self.padding.into(),
-            )
-        })
-    }
+packet_writer! {
+    SdesBuilder<'_>, sdes,
+    rtcp_sdes_size, rtcp_sdes_write,
+    rtcp_writer_add_sdes(
+        &sdes.ssrcs, &sdes.counts, &sdes.items.types, &sdes.items.prefixes, &sdes.items.values,
+        &sdes.items.bytes, sdes.padding.into()
+    )
 }
 
 /// Items as the library takes them: a type and two lengths for each, and one run
