@@ -1,8 +1,5 @@
-use crate::ffi::{self, between, part};
-use crate::{
-    padding_count, padding_set, size, CompoundWriter, RtcpPacket, RtcpPacketParser,
-    RtcpPacketWriter, RtcpParseError, RtcpWriteError,
-};
+use crate::ffi::{self, part};
+use crate::{padding_count, RtcpPacket, RtcpPacketParser, RtcpParseError};
 use std::string::FromUtf8Error;
 
 /// An APP packet. Its subtype is
@@ -18,11 +15,11 @@ use std::string::FromUtf8Error;
 #[derive(Clone, Copy, Debug, PartialEq, Eq)]
 pub struct App<'a> {
     packet: &'a [u8],
-    subtype: u8,
     ssrc: u32,
-    name: &'a [u8],
-    data: &'a [u8],
-    padding: &'a [u8],
+    /// Where the padding starts.
+    body: u32,
+    name: [u8; App::NAME_LEN],
+    subtype: u8,
 }
 
 impl RtcpPacket for App<'_> {
@@ -34,13 +31,13 @@ impl<'a> RtcpPacketParser<'a> for App<'a> {
     #[inline]
     fn parse(data: &'a [u8]) -> Result<Self, RtcpParseError> {
         let app = ffi::rtcp_app_parse(data).done()?;
+        let name = part(data, app.name, app.name_len);
         Ok(App {
             packet: data,
-            subtype: app.subtype as u8,
             ssrc: app.ssrc as u32,
-            name: part(data, app.name, app.name_len),
-            data: part(data, app.data, app.data_len),
-            padding: part(data, app.padding, app.padding_len),
+            body: app.padding as u32,
+            name: [name[0], name[1], name[2], name[3]],
+            subtype: app.subtype as u8,
         })
     }
 
@@ -49,7 +46,7 @@ impl<'a> RtcpPacketParser<'a> for App<'a> {
     }
 
     fn padding_bytes(&self) -> &'a [u8] {
-        self.padding
+        &self.packet[self.body as usize..]
     }
 
     fn low_bits(&self) -> u8 {
@@ -61,21 +58,9 @@ impl<'a> App<'a> {
     /// The bytes of a name.
     pub const NAME_LEN: usize = 4;
 
-    pub(crate) fn of_step(packet: &'a [u8], step: &ffi::RtcpStep) -> Self {
-        let least = Self::MIN_PACKET_LEN as u64;
-        App {
-            packet,
-            subtype: step.count as u8,
-            ssrc: step.ssrc as u32,
-            name: between(packet, least - Self::NAME_LEN as u64, least),
-            data: between(packet, least, step.body),
-            padding: part(packet, step.body, step.padding_len),
-        }
-    }
-
     /// The number of padding bytes, if the packet is padded.
     pub fn padding(&self) -> Option<u8> {
-        padding_count(self.padding)
+        padding_count(self.padding_bytes())
     }
 
     /// The SSRC of the sender.
@@ -85,8 +70,7 @@ impl<'a> App<'a> {
 
     /// The name, four bytes.
     pub fn name(&self) -> [u8; App::NAME_LEN] {
-        let name = self.name;
-        [name[0], name[1], name[2], name[3]]
+        self.name
     }
 
     /// The name up to its first zero, as a string.
@@ -97,7 +81,7 @@ impl<'a> App<'a> {
 
     /// The data.
     pub fn data(&self) -> &'a [u8] {
-        self.data
+        &self.packet[Self::MIN_PACKET_LEN..self.body as usize]
     }
 
     /// A builder for an APP packet. A name shorter than four bytes is filled up
@@ -153,42 +137,9 @@ impl<'a> AppBuilder<'a> {
     }
 }
 
-impl RtcpPacketWriter for AppBuilder<'_> {
-    fn calculate_size(&self) -> Result<usize, RtcpWriteError> {
-        size(ffi::rtcp_app_size(
-            self.subtype.into(),
-            self.name,
-            self.data,
-            self.padding.into(),
-        ))
-    }
-
-    fn get_padding(&self) -> Option<u8> {
-        padding_set(self.padding)
-    }
-
-    fn write(&self, buf: &mut [u8]) -> Result<usize, RtcpWriteError> {
-        size(ffi::rtcp_app_write(
-            buf,
-            self.subtype.into(),
-            self.ssrc,
-            self.name,
-            self.data,
-            self.padding.into(),
-        ))
-    }
-
-    fn add_to(&self, writer: &mut CompoundWriter, buf: &mut [u8]) -> Result<(), RtcpWriteError> {
-        writer.call(|state| {
-            ffi::rtcp_writer_add_app(
-                state,
-                buf,
-                self.subtype.into(),
-                self.ssrc,
-                self.name,
-                self.data,
-                self.padding.into(),
-            )
-        })
-    }
+packet_writer! {
+    AppBuilder<'_>, app,
+    rtcp_app_size(app.subtype.into(), app.name, app.data, app.padding.into()),
+    rtcp_app_write,
+    rtcp_writer_add_app(app.subtype.into(), app.ssrc, app.name, app.data, app.padding.into())
 }

@@ -1,8 +1,5 @@
 use crate::ffi::{self, between, part};
-use crate::{
-    padding_count, padding_set, size, CompoundWriter, RtcpPacket, RtcpPacketParser,
-    RtcpPacketWriter, RtcpParseError, RtcpWriteError,
-};
+use crate::{padding_count, RtcpPacket, RtcpPacketParser, RtcpParseError};
 use std::borrow::Cow;
 use std::iter::FusedIterator;
 use std::string::FromUtf8Error;
@@ -23,10 +20,11 @@ use std::string::FromUtf8Error;
 #[derive(Clone, Copy, Debug, PartialEq, Eq)]
 pub struct Bye<'a> {
     data: &'a [u8],
+    /// Where the reason and the padding start.
+    reason: u32,
+    body: u32,
+    reason_len: Option<u8>,
     n_sources: u8,
-    reason: Option<&'a [u8]>,
-    tail: &'a [u8],
-    padding: &'a [u8],
 }
 
 impl RtcpPacket for Bye<'_> {
@@ -40,10 +38,10 @@ impl<'a> RtcpPacketParser<'a> for Bye<'a> {
         let bye = ffi::rtcp_bye_parse(data).done()?;
         Ok(Bye {
             data,
+            reason: bye.reason as u32,
+            body: bye.padding as u32,
+            reason_len: (bye.has_reason != 0).then_some(bye.reason_len as u8),
             n_sources: bye.n_sources as u8,
-            reason: (bye.has_reason != 0).then(|| part(data, bye.reason, bye.reason_len)),
-            tail: part(data, bye.tail, bye.tail_len),
-            padding: part(data, bye.padding, bye.padding_len),
         })
     }
 
@@ -52,7 +50,7 @@ impl<'a> RtcpPacketParser<'a> for Bye<'a> {
     }
 
     fn padding_bytes(&self) -> &'a [u8] {
-        self.padding
+        &self.data[self.body as usize..]
     }
 
     fn low_bits(&self) -> u8 {
@@ -61,20 +59,9 @@ impl<'a> RtcpPacketParser<'a> for Bye<'a> {
 }
 
 impl<'a> Bye<'a> {
-    pub(crate) fn of_step(data: &'a [u8], step: &ffi::RtcpStep) -> Self {
-        let reason = part(data, step.reason, step.reason_len);
-        Bye {
-            data,
-            n_sources: step.count as u8,
-            reason: (step.has_reason != 0).then_some(reason),
-            tail: between(data, step.reason + step.reason_len, step.body),
-            padding: part(data, step.body, step.padding_len),
-        }
-    }
-
     /// The number of padding bytes, if the packet is padded.
     pub fn padding(&self) -> Option<u8> {
-        padding_count(self.padding)
+        padding_count(self.padding_bytes())
     }
 
     /// The sources that leave, one call of the library for each.
@@ -94,17 +81,20 @@ impl<'a> Bye<'a> {
 
     /// The reason, if there is one. It may be empty.
     pub fn reason(&self) -> Option<&'a [u8]> {
-        self.reason
+        let len = self.reason_len?;
+        Some(part(self.data, self.reason.into(), len.into()))
     }
 
     /// The reason as a string.
     pub fn get_reason_string(&self) -> Option<Result<String, FromUtf8Error>> {
-        self.reason.map(|reason| String::from_utf8(reason.to_vec()))
+        self.reason()
+            .map(|reason| String::from_utf8(reason.to_vec()))
     }
 
     /// The bytes after the reason.
     pub fn tail(&self) -> &'a [u8] {
-        self.tail
+        let reason_end = self.reason + u32::from(self.reason_len.unwrap_or(0));
+        between(self.data, reason_end.into(), self.body.into())
     }
 
     /// A builder for a BYE packet.
@@ -207,31 +197,8 @@ impl<'a> ByeBuilder<'a> {
     }
 }
 
-impl RtcpPacketWriter for ByeBuilder<'_> {
-    fn calculate_size(&self) -> Result<usize, RtcpWriteError> {
-        size(ffi::rtcp_bye_size(
-            &self.sources,
-            &self.reason,
-            self.padding.into(),
-        ))
-    }
-
-    fn get_padding(&self) -> Option<u8> {
-        padding_set(self.padding)
-    }
-
-    fn write(&self, buf: &mut [u8]) -> Result<usize, RtcpWriteError> {
-        size(ffi::rtcp_bye_write(
-            buf,
-            &self.sources,
-            &self.reason,
-            self.padding.into(),
-        ))
-    }
-
-    fn add_to(&self, writer: &mut CompoundWriter, buf: &mut [u8]) -> Result<(), RtcpWriteError> {
-        writer.call(|state| {
-            ffi::rtcp_writer_add_bye(state, buf, &self.sources, &self.reason, self.padding.into())
-        })
-    }
+packet_writer! {
+    ByeBuilder<'_>, bye,
+    rtcp_bye_size, rtcp_bye_write,
+    rtcp_writer_add_bye(&bye.sources, &bye.reason, bye.padding.into())
 }

@@ -1,4 +1,4 @@
-use crate::ffi::{self, between, part};
+use crate::ffi::{self, part};
 use crate::{
     padding_count, App, Bye, CompoundBuilder, ReceiverReport, RtcpPacket, RtcpPacketParser,
     RtcpParseError, Sdes, SenderReport,
@@ -33,26 +33,28 @@ pub struct Compound<'a> {
 
 impl<'a> Compound<'a> {
     /// Reads a datagram, or says why it cannot be read.
+    #[inline]
     pub fn parse(data: &'a [u8]) -> Result<Self, RtcpParseError> {
-        let mut rows = [[0; 3]; Self::LISTED];
-        let listed = ffi::rtcp_compound_packets(data, rows.as_flattened_mut());
-        let n_packets = match listed.number {
-            // There are more than are listed: the first in how many numbers.
-            10 => listed.first as usize / 3,
-            _ => listed.done()?.size as usize / 3,
-        };
-        Ok(Compound {
+        let mut compound = Compound {
             data,
-            n_packets,
-            rows,
+            n_packets: 0,
+            rows: [[0; 3]; Self::LISTED],
             next: 0,
             at: 0,
-        })
+        };
+        let listed = ffi::rtcp_compound_packets(data, compound.rows.as_flattened_mut());
+        let numbers = match listed.number {
+            // There are more packets than rows: so many numbers.
+            10 => listed.first,
+            _ => listed.done()?.size,
+        };
+        compound.n_packets = numbers as usize / 3;
+        Ok(compound)
     }
 
     /// The packets of a datagram that are listed at once. Where there are more,
     /// they are walked over.
-    const LISTED: usize = 4;
+    const LISTED: usize = 3;
 
     /// The number of packets of the datagram.
     pub fn n_packets(&self) -> usize {
@@ -63,7 +65,9 @@ impl<'a> Compound<'a> {
     fn step(&mut self) -> Result<Packet<'a>, RtcpParseError> {
         let step = ffi::rtcp_walk_step(self.data, self.at).done()?;
         self.at = step.at;
-        Ok(Packet::of_step(self.data, &step))
+        let data = part(self.data, step.offset, step.len);
+        Packet::of_kind(step.kind as u8, data)
+            .unwrap_or_else(|| Ok(Packet::Unknown(Unknown::of_step(data, &step))))
     }
 
     /// A builder for a datagram.
@@ -85,16 +89,11 @@ impl<'a> Iterator for Compound<'a> {
             return Some(self.step());
         }
         let [kind, offset, len] = self.rows[self.next - 1];
-        self.at = offset;
-        let data = part(self.data, offset, len);
-        Some(match kind as u8 {
-            SenderReport::PACKET_TYPE => SenderReport::parse(data).map(Packet::Sr),
-            ReceiverReport::PACKET_TYPE => ReceiverReport::parse(data).map(Packet::Rr),
-            Sdes::PACKET_TYPE => Sdes::parse(data).map(Packet::Sdes),
-            Bye::PACKET_TYPE => Bye::parse(data).map(Packet::Bye),
-            App::PACKET_TYPE => App::parse(data).map(Packet::App),
-            _ => self.step(),
-        })
+        let read = Packet::of_kind(kind as u8, part(self.data, offset, len));
+        Some(read.unwrap_or_else(|| {
+            self.at = offset;
+            self.step()
+        }))
     }
 }
 
@@ -128,16 +127,27 @@ pub enum Packet<'a> {
 }
 
 impl<'a> Packet<'a> {
-    fn of_step(datagram: &'a [u8], step: &ffi::RtcpStep) -> Self {
-        let data = part(datagram, step.offset, step.len);
-        match step.kind as u8 {
-            SenderReport::PACKET_TYPE => Packet::Sr(SenderReport::of_step(data, step)),
-            ReceiverReport::PACKET_TYPE => Packet::Rr(ReceiverReport::of_step(data, step)),
-            Sdes::PACKET_TYPE => Packet::Sdes(Sdes::of_step(data, step)),
-            Bye::PACKET_TYPE => Packet::Bye(Bye::of_step(data, step)),
-            App::PACKET_TYPE => Packet::App(App::of_step(data, step)),
-            _ => Packet::Unknown(Unknown::of_step(data, step)),
+    /// The packet of one of the five kinds that these bytes of a datagram are, as
+    /// the library has said of the datagram.
+    #[inline]
+    fn of_kind(kind: u8, data: &'a [u8]) -> Option<Result<Self, RtcpParseError>> {
+        match kind {
+            Sdes::PACKET_TYPE => Some(Ok(Packet::Sdes(Sdes::accepted(data)))),
+            _ => Self::parse_kind(kind, data),
         }
+    }
+
+    /// Reads a packet of one of the five kinds.
+    #[inline]
+    fn parse_kind(kind: u8, data: &'a [u8]) -> Option<Result<Self, RtcpParseError>> {
+        Some(match kind {
+            SenderReport::PACKET_TYPE => SenderReport::parse(data).map(Packet::Sr),
+            ReceiverReport::PACKET_TYPE => ReceiverReport::parse(data).map(Packet::Rr),
+            Sdes::PACKET_TYPE => Sdes::parse(data).map(Packet::Sdes),
+            Bye::PACKET_TYPE => Bye::parse(data).map(Packet::Bye),
+            App::PACKET_TYPE => App::parse(data).map(Packet::App),
+            _ => return None,
+        })
     }
 
     /// Whether the packet is of another type than the five.
@@ -168,6 +178,20 @@ impl<'a> Packet<'a> {
     }
 }
 
+/// What is asked of a packet, whichever kind it is of.
+macro_rules! whichever {
+    ($any:expr, $packet:ident, $asked:expr) => {
+        match $any {
+            Packet::App($packet) => $asked,
+            Packet::Bye($packet) => $asked,
+            Packet::Rr($packet) => $asked,
+            Packet::Sdes($packet) => $asked,
+            Packet::Sr($packet) => $asked,
+            Packet::Unknown($packet) => $asked,
+        }
+    };
+}
+
 impl RtcpPacket for Packet<'_> {
     const MIN_PACKET_LEN: usize = 4;
     /// Of no use: a packet has the type of its kind.
@@ -177,60 +201,27 @@ impl RtcpPacket for Packet<'_> {
 impl<'a> RtcpPacketParser<'a> for Packet<'a> {
     /// Reads one packet by the `parse` of its kind.
     fn parse(data: &'a [u8]) -> Result<Self, RtcpParseError> {
-        match data {
-            [_, SenderReport::PACKET_TYPE, _, _, ..] => SenderReport::parse(data).map(Packet::Sr),
-            [_, ReceiverReport::PACKET_TYPE, _, _, ..] => {
-                ReceiverReport::parse(data).map(Packet::Rr)
-            }
-            [_, Sdes::PACKET_TYPE, _, _, ..] => Sdes::parse(data).map(Packet::Sdes),
-            [_, Bye::PACKET_TYPE, _, _, ..] => Bye::parse(data).map(Packet::Bye),
-            [_, App::PACKET_TYPE, _, _, ..] => App::parse(data).map(Packet::App),
-            _ => Unknown::parse(data).map(Packet::Unknown),
-        }
+        let read = match *data {
+            [_, kind, _, _, ..] => Self::parse_kind(kind, data),
+            _ => None,
+        };
+        read.unwrap_or_else(|| Unknown::parse(data).map(Packet::Unknown))
     }
 
     fn bytes(&self) -> &'a [u8] {
-        match self {
-            Packet::App(packet) => packet.bytes(),
-            Packet::Bye(packet) => packet.bytes(),
-            Packet::Rr(packet) => packet.bytes(),
-            Packet::Sdes(packet) => packet.bytes(),
-            Packet::Sr(packet) => packet.bytes(),
-            Packet::Unknown(packet) => packet.bytes(),
-        }
+        whichever!(self, packet, packet.bytes())
     }
 
     fn padding_bytes(&self) -> &'a [u8] {
-        match self {
-            Packet::App(packet) => packet.padding_bytes(),
-            Packet::Bye(packet) => packet.padding_bytes(),
-            Packet::Rr(packet) => packet.padding_bytes(),
-            Packet::Sdes(packet) => packet.padding_bytes(),
-            Packet::Sr(packet) => packet.padding_bytes(),
-            Packet::Unknown(packet) => packet.padding_bytes(),
-        }
+        whichever!(self, packet, packet.padding_bytes())
     }
 
     fn packet_type(&self) -> u8 {
-        match self {
-            Packet::App(packet) => packet.packet_type(),
-            Packet::Bye(packet) => packet.packet_type(),
-            Packet::Rr(packet) => packet.packet_type(),
-            Packet::Sdes(packet) => packet.packet_type(),
-            Packet::Sr(packet) => packet.packet_type(),
-            Packet::Unknown(packet) => packet.packet_type(),
-        }
+        whichever!(self, packet, packet.packet_type())
     }
 
     fn low_bits(&self) -> u8 {
-        match self {
-            Packet::App(packet) => packet.low_bits(),
-            Packet::Bye(packet) => packet.low_bits(),
-            Packet::Rr(packet) => packet.low_bits(),
-            Packet::Sdes(packet) => packet.low_bits(),
-            Packet::Sr(packet) => packet.low_bits(),
-            Packet::Unknown(packet) => packet.low_bits(),
-        }
+        whichever!(self, packet, packet.low_bits())
     }
 }
 
@@ -302,10 +293,10 @@ impl<'a> From<Unknown<'a>> for Packet<'a> {
 #[derive(Clone, Copy, Debug, PartialEq, Eq)]
 pub struct Unknown<'a> {
     data: &'a [u8],
+    /// Where the padding starts.
+    body: u32,
     type_: u8,
     count: u8,
-    body: &'a [u8],
-    padding: &'a [u8],
 }
 
 impl RtcpPacket for Unknown<'_> {
@@ -358,7 +349,7 @@ impl<'a> RtcpPacketParser<'a> for Unknown<'a> {
     }
 
     fn padding_bytes(&self) -> &'a [u8] {
-        self.padding
+        &self.data[self.body as usize..]
     }
 
     fn packet_type(&self) -> u8 {
@@ -374,10 +365,9 @@ impl<'a> Unknown<'a> {
     fn of_step(data: &'a [u8], step: &ffi::RtcpStep) -> Self {
         Unknown {
             data,
+            body: step.body as u32,
             type_: step.packet_type as u8,
             count: step.count as u8,
-            body: between(data, Self::MIN_PACKET_LEN as u64, step.body),
-            padding: part(data, step.body, step.padding_len),
         }
     }
 
@@ -408,17 +398,17 @@ impl<'a> Unknown<'a> {
 
     /// The bytes between the header and the padding.
     pub fn body(&self) -> &'a [u8] {
-        self.body
+        &self.data[Self::MIN_PACKET_LEN..self.body as usize]
     }
 
     /// The number of padding bytes, if the packet is padded.
     pub fn padding(&self) -> Option<u8> {
-        padding_count(self.padding)
+        padding_count(self.padding_bytes())
     }
 
     /// The padding, its count at the end; empty where the packet is not padded.
     pub fn padding_bytes(&self) -> &'a [u8] {
-        self.padding
+        RtcpPacketParser::padding_bytes(self)
     }
 
     /// The packet as one of a kind or of a type of yours, or why its bytes cannot
@@ -451,28 +441,32 @@ mod tests {
         }
     }
 
-    /// Up to four packets are listed, more are walked over: both give the same.
+    /// Few packets are listed, more are walked over: both give the same.
     #[test]
-    fn listed_packets_are_those_of_the_walk() {
+    fn packets_are_those_of_the_walk() {
         let mut datagram = b"\x80\xC9\x00\x01\x11\x22\x33\x44".to_vec();
         datagram.extend(b"\x81\xCA\x00\x03\x11\x22\x33\x44\x01\x03a@b\x00\x00\x00");
         for more in [203, 205, 201, 206, 203, 0] {
             let (mut at, mut walked) = (0, Vec::new());
             while let Ok(step) = rtcp_walk_step(&datagram, at).done() {
-                walked.push(Packet::of_step(&datagram, &step));
+                let bytes = part(&datagram, step.offset, step.len);
+                walked.push((step.packet_type as u8, step.count as u8, bytes));
                 at = step.at;
             }
             let compound = Compound::parse(&datagram).expect("a datagram");
             assert_eq!(compound.n_packets(), walked.len());
-            let read: Result<Vec<Packet>, _> = compound.collect();
-            assert_eq!(read, Ok(walked));
+            let read = compound.map(|packet| {
+                let packet = packet.expect("a packet");
+                assert_eq!(Packet::parse(packet.bytes()), Ok(packet));
+                (packet.packet_type(), packet.low_bits(), packet.bytes())
+            });
+            assert_eq!(read.collect::<Vec<_>>(), walked);
             datagram.extend([0x80, more, 0, 1, 0, 0, 0, 0]);
         }
     }
 
-    /// What a step hands over of a packet is what the function of its kind does.
     #[test]
-    fn a_step_and_the_parse_of_a_kind_agree() {
+    fn a_packet_of_a_datagram_is_what_its_bytes_are_alone() {
         let datagram = b"\
             \x81\xC8\x00\x0D\x00\x00\x00\x01\x02\x03\x04\x05\x06\x07\x08\x09\x0A\x0B\x0C\x0D\x0E\x0F\x10\x11\x12\x13\x14\x15\
             \x16\x17\x18\x19\x1A\x1B\x1C\x1D\x1E\x1F\x20\x21\x22\x23\x24\x25\x26\x27\x28\x29\x2A\x2B\x2C\x2Dexts\

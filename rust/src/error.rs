@@ -2,331 +2,59 @@ use crate::ffi::Refusal;
 use std::error::Error;
 use std::fmt;
 
-/// Why bytes are not read. Each case is one refusal number of the project's
-/// docs/REFUSALS.md.
-///
-/// ```
-/// use bokyjave::{prelude::*, ReceiverReport, RtcpParseError};
-///
-/// let error = ReceiverReport::parse(&[0x80, 201, 0, 0]).unwrap_err();
-/// assert_eq!(error, RtcpParseError::Truncated { expected: 8, actual: 4 });
-/// assert_eq!((error.number(), error.first(), error.second()), (2, 8, 4));
-/// assert_eq!(
-///     error.to_string(),
-///     "a packet, report, chunk, item or reason that says it is longer than the bytes \
-///      (refusal 2: bytes needed 8, bytes there 4)"
-/// );
-/// ```
-#[derive(Clone, Copy, Debug, PartialEq, Eq)]
-#[non_exhaustive]
-pub enum RtcpParseError {
-    /// 1: the version is not 2.
-    UnsupportedVersion(u8),
-    /// 2: bytes are missing.
-    Truncated {
-        /// The bytes needed.
-        expected: usize,
-        /// The bytes there.
-        actual: usize,
-    },
-    /// 3: there are bytes left over.
-    TooLarge {
-        /// The bytes stated.
-        expected: usize,
-        /// The bytes there.
-        actual: usize,
-    },
-    /// 4: the padding count is 0, no multiple of 4, or more than the packet has.
-    InvalidPadding,
-    /// 5: the prefix of a PRIV item is longer than the item.
-    SdesPrivPrefixTooLarge {
-        /// The length of the prefix.
-        len: usize,
-        /// The bytes there for it.
-        available: u8,
-    },
-    /// 6: the packet has another type than the one asked for.
-    PacketTypeMismatch {
-        /// The type of the packet.
-        actual: u8,
-        /// The type asked for.
-        requested: u8,
-    },
-    /// 7: the datagram does not begin with a report, but with this type.
-    FirstPacketNoReport(u8),
-    /// 8: no SDES chunk of the datagram has a CNAME.
-    NoCname,
-    /// 9: a packet before the datagram's last is padded.
-    NonLastCompoundPacketPadding,
-    /// 25: the index is past the last block or source.
-    NothingLeft,
-    /// 30: the item of this type is not PRIV, and has no prefix.
-    NotPriv(u8),
-    /// A refusal that this version of the crate does not name.
-    Other {
-        /// The refusal number.
-        number: u64,
-        /// The first detail.
-        first: u64,
-        /// The second detail.
-        second: u64,
-    },
-}
-
-/// Why nothing is written. Each case is one refusal number of the project's
-/// docs/REFUSALS.md. No byte of the buffer has changed.
-///
-/// ```
-/// use bokyjave::{prelude::*, Bye, RtcpWriteError};
-///
-/// let bye = Bye::builder().add_source(7).reason("done");
-/// let error = bye.write_into(&mut [0; 10]).unwrap_err();
-/// assert_eq!(error, RtcpWriteError::OutputTooSmall(16));
-/// assert_eq!((error.number(), error.first(), error.second()), (10, 16, 0));
-/// ```
-#[derive(Clone, Copy, Debug, PartialEq, Eq)]
-#[non_exhaustive]
-pub enum RtcpWriteError {
-    /// 10: the buffer is shorter than this size.
-    OutputTooSmall(usize),
-    /// 11: the padding is no multiple of 4.
-    InvalidPadding {
-        /// The padding asked for.
-        padding: u8,
-    },
-    /// 12: the APP subtype does not fit 5 bits.
-    AppSubtypeOutOfRange {
-        /// The subtype.
-        subtype: u8,
-        /// The largest.
-        max: u8,
-    },
-    /// 13: the APP name has more than 4 bytes, or is not ASCII.
-    InvalidName,
-    /// 14: APP data of this length are no full words.
-    DataLen32bitMultiple(usize),
-    /// 15: there are too many BYE sources.
-    TooManySources {
-        /// The sources.
-        count: usize,
-        /// The most.
-        max: u8,
-    },
-    /// 16: the BYE reason is too long.
-    ReasonLenTooLarge {
-        /// Its length.
-        len: usize,
-        /// The most.
-        max: u8,
-    },
-    /// 17: the cumulative loss does not fit 24 bits.
-    CumulativeLostTooLarge {
-        /// The loss.
-        value: u32,
-        /// The most.
-        max: u32,
-    },
-    /// 18: there are too many report blocks.
-    TooManyReportBlocks {
-        /// The blocks.
-        count: usize,
-        /// The most.
-        max: u8,
-    },
-    /// 19: there are too many SDES chunks.
-    TooManySdesChunks {
-        /// The chunks.
-        count: usize,
-        /// The most.
-        max: u8,
-    },
-    /// 20: the value of an SDES item is too long.
-    SdesValueTooLarge {
-        /// Its length.
-        len: usize,
-        /// The most.
-        max: u8,
-    },
-    /// 21: the prefix of a PRIV item is too long.
-    SdesPrivPrefixTooLarge {
-        /// Its length.
-        len: usize,
-        /// The most.
-        max: u8,
-    },
-    /// 22: the packet has over 262,144 bytes, or the lone chunk over 262,140.
-    PacketTooLarge,
-    /// 23: an SDES item has type 0.
-    ItemTypeZero,
-    /// 24: lent lists do not fit together. No builder of this crate lends such.
-    ListsDisagree,
-    /// 26: the datagram is closed.
-    WriterClosed,
-    /// 27: the first packet of the datagram is no report.
-    FirstPacketNoReport,
-    /// 28: the datagram has no CNAME.
-    NoCname,
-    /// 29: a padded packet is already in the datagram.
-    AlreadyPadded,
-    /// A refusal that this version of the crate does not name.
-    Other {
-        /// The refusal number.
-        number: u64,
-        /// The first detail.
-        first: u64,
-        /// The second detail.
-        second: u64,
-    },
-}
-
-impl RtcpParseError {
-    fn named(refusal: Refusal) -> Self {
-        let Refusal {
-            number,
-            first,
-            second,
-        } = refusal;
-        match number {
-            1 => Self::UnsupportedVersion(first as u8),
-            2 => Self::Truncated {
-                expected: first as usize,
-                actual: second as usize,
-            },
-            3 => Self::TooLarge {
-                expected: first as usize,
-                actual: second as usize,
-            },
-            4 => Self::InvalidPadding,
-            5 => Self::SdesPrivPrefixTooLarge {
-                len: first as usize,
-                available: second as u8,
-            },
-            6 => Self::PacketTypeMismatch {
-                actual: first as u8,
-                requested: second as u8,
-            },
-            7 => Self::FirstPacketNoReport(first as u8),
-            8 => Self::NoCname,
-            9 => Self::NonLastCompoundPacketPadding,
-            25 => Self::NothingLeft,
-            30 => Self::NotPriv(first as u8),
-            _ => Self::Other {
-                number,
-                first,
-                second,
+/// An error: its cases, each with a refusal number and the details that it has.
+macro_rules! error {
+    ($(#[$about:meta])* $name:ident { $(
+        $(#[$case_about:meta])*
+        $number:literal $case:ident
+        $( ($only:ident: $only_width:ty) )?
+        $( { $( $(#[$detail_about:meta])* $detail:ident: $width:ty, )+ } )?,
+    )* }) => {
+        $(#[$about])*
+        #[derive(Clone, Copy, Debug, PartialEq, Eq)]
+        #[non_exhaustive]
+        pub enum $name {
+            $(
+                $(#[$case_about])*
+                $case $( ($only_width) )? $( { $( $(#[$detail_about])* $detail: $width, )+ } )?,
+            )*
+            /// A refusal that this version of the crate does not name.
+            Other {
+                /// The refusal number.
+                number: u64,
+                /// The first detail.
+                first: u64,
+                /// The second detail.
+                second: u64,
             },
         }
-    }
 
-    fn refusal(&self) -> Refusal {
-        let (number, first, second) = match *self {
-            Self::UnsupportedVersion(version) => (1, version.into(), 0),
-            Self::Truncated { expected, actual } => (2, expected as u64, actual as u64),
-            Self::TooLarge { expected, actual } => (3, expected as u64, actual as u64),
-            Self::InvalidPadding => (4, 0, 0),
-            Self::SdesPrivPrefixTooLarge { len, available } => (5, len as u64, available.into()),
-            Self::PacketTypeMismatch { actual, requested } => (6, actual.into(), requested.into()),
-            Self::FirstPacketNoReport(type_) => (7, type_.into(), 0),
-            Self::NoCname => (8, 0, 0),
-            Self::NonLastCompoundPacketPadding => (9, 0, 0),
-            Self::NothingLeft => (25, 0, 0),
-            Self::NotPriv(type_) => (30, type_.into(), 0),
-            Self::Other {
-                number,
-                first,
-                second,
-            } => (number, first, second),
-        };
-        Refusal {
-            number,
-            first,
-            second,
-        }
-    }
-}
-
-impl RtcpWriteError {
-    fn named(refusal: Refusal) -> Self {
-        let Refusal {
-            number,
-            first,
-            second,
-        } = refusal;
-        let (count, max) = (first as usize, second as u8);
-        match number {
-            10 => Self::OutputTooSmall(count),
-            11 => Self::InvalidPadding {
-                padding: first as u8,
-            },
-            12 => Self::AppSubtypeOutOfRange {
-                subtype: first as u8,
-                max,
-            },
-            13 => Self::InvalidName,
-            14 => Self::DataLen32bitMultiple(count),
-            15 => Self::TooManySources { count, max },
-            16 => Self::ReasonLenTooLarge { len: count, max },
-            17 => Self::CumulativeLostTooLarge {
-                value: first as u32,
-                max: second as u32,
-            },
-            18 => Self::TooManyReportBlocks { count, max },
-            19 => Self::TooManySdesChunks { count, max },
-            20 => Self::SdesValueTooLarge { len: count, max },
-            21 => Self::SdesPrivPrefixTooLarge { len: count, max },
-            22 => Self::PacketTooLarge,
-            23 => Self::ItemTypeZero,
-            24 => Self::ListsDisagree,
-            26 => Self::WriterClosed,
-            27 => Self::FirstPacketNoReport,
-            28 => Self::NoCname,
-            29 => Self::AlreadyPadded,
-            _ => Self::Other {
-                number,
-                first,
-                second,
-            },
-        }
-    }
-
-    fn refusal(&self) -> Refusal {
-        let (number, first, second) = match *self {
-            Self::OutputTooSmall(size) => (10, size as u64, 0),
-            Self::InvalidPadding { padding } => (11, padding.into(), 0),
-            Self::AppSubtypeOutOfRange { subtype, max } => (12, subtype.into(), max.into()),
-            Self::InvalidName => (13, 0, 0),
-            Self::DataLen32bitMultiple(len) => (14, len as u64, 0),
-            Self::TooManySources { count, max } => (15, count as u64, max.into()),
-            Self::ReasonLenTooLarge { len, max } => (16, len as u64, max.into()),
-            Self::CumulativeLostTooLarge { value, max } => (17, value.into(), max.into()),
-            Self::TooManyReportBlocks { count, max } => (18, count as u64, max.into()),
-            Self::TooManySdesChunks { count, max } => (19, count as u64, max.into()),
-            Self::SdesValueTooLarge { len, max } => (20, len as u64, max.into()),
-            Self::SdesPrivPrefixTooLarge { len, max } => (21, len as u64, max.into()),
-            Self::PacketTooLarge => (22, 0, 0),
-            Self::ItemTypeZero => (23, 0, 0),
-            Self::ListsDisagree => (24, 0, 0),
-            Self::WriterClosed => (26, 0, 0),
-            Self::FirstPacketNoReport => (27, 0, 0),
-            Self::NoCname => (28, 0, 0),
-            Self::AlreadyPadded => (29, 0, 0),
-            Self::Other {
-                number,
-                first,
-                second,
-            } => (number, first, second),
-        };
-        Refusal {
-            number,
-            first,
-            second,
-        }
-    }
-}
-
-macro_rules! errors {
-    ($($name:ident)*) => { $(
         impl $name {
+            fn named(refusal: Refusal) -> Self {
+                let Refusal { number, first, second } = refusal;
+                let mut details = [first, second].into_iter();
+                match number {
+                    $(
+                        $number => Self::$case
+                            $( (first as $only_width) )?
+                            $( { $( $detail: details.next().unwrap_or(0) as $width, )+ } )?,
+                    )*
+                    _ => Self::Other { number, first, second },
+                }
+            }
+
+            fn refusal(&self) -> Refusal {
+                match *self {
+                    $(
+                        Self::$case $( ($only) )? $( { $( $detail, )+ } )? => Refusal::of(
+                            $number,
+                            &[$( $only as u64 )? $( $( $detail as u64, )+ )?],
+                        ),
+                    )*
+                    Self::Other { number, first, second } => Refusal { number, first, second },
+                }
+            }
+
             /// The refusal number.
             pub fn number(&self) -> u64 {
                 self.refusal().number
@@ -346,6 +74,7 @@ macro_rules! errors {
         #[doc(hidden)]
         impl From<Refusal> for $name {
             /// The case of the number, where it has room for the details.
+            #[cold]
             fn from(refusal: Refusal) -> Self {
                 let named = Self::named(refusal);
                 if named.refusal() == refusal {
@@ -366,10 +95,167 @@ macro_rules! errors {
         }
 
         impl Error for $name {}
-    )* };
+    };
 }
 
-errors! { RtcpParseError RtcpWriteError }
+error! {
+    /// Why bytes are not read. Each case is one refusal number of the project's
+    /// docs/REFUSALS.md.
+    ///
+    /// ```
+    /// use bokyjave::{prelude::*, ReceiverReport, RtcpParseError};
+    ///
+    /// let error = ReceiverReport::parse(&[0x80, 201, 0, 0]).unwrap_err();
+    /// assert_eq!(error, RtcpParseError::Truncated { expected: 8, actual: 4 });
+    /// assert_eq!((error.number(), error.first(), error.second()), (2, 8, 4));
+    /// assert_eq!(
+    ///     error.to_string(),
+    ///     "a packet, report, chunk, item or reason that says it is longer than the bytes \
+    ///      (refusal 2: bytes needed 8, bytes there 4)"
+    /// );
+    /// ```
+    RtcpParseError {
+        /// 1: the version is not 2.
+        1 UnsupportedVersion(detail: u8),
+        /// 2: bytes are missing.
+        2 Truncated {
+            /// The bytes needed.
+            expected: usize,
+            /// The bytes there.
+            actual: usize,
+        },
+        /// 3: there are bytes left over.
+        3 TooLarge {
+            /// The bytes stated.
+            expected: usize,
+            /// The bytes there.
+            actual: usize,
+        },
+        /// 4: the padding count is 0, no multiple of 4, or more than the packet has.
+        4 InvalidPadding,
+        /// 5: the prefix of a PRIV item is longer than the item.
+        5 SdesPrivPrefixTooLarge {
+            /// The length of the prefix.
+            len: usize,
+            /// The bytes there for it.
+            available: u8,
+        },
+        /// 6: the packet has another type than the one asked for.
+        6 PacketTypeMismatch {
+            /// The type of the packet.
+            actual: u8,
+            /// The type asked for.
+            requested: u8,
+        },
+        /// 7: the datagram does not begin with a report, but with this type.
+        7 FirstPacketNoReport(detail: u8),
+        /// 8: no SDES chunk of the datagram has a CNAME.
+        8 NoCname,
+        /// 9: a packet before the datagram's last is padded.
+        9 NonLastCompoundPacketPadding,
+        /// 25: the index is past the last block or source.
+        25 NothingLeft,
+        /// 30: the item of this type is not PRIV, and has no prefix.
+        30 NotPriv(detail: u8),
+    }
+}
+
+error! {
+    /// Why nothing is written. Each case is one refusal number of the project's
+    /// docs/REFUSALS.md. No byte of the buffer has changed.
+    ///
+    /// ```
+    /// use bokyjave::{prelude::*, Bye, RtcpWriteError};
+    ///
+    /// let bye = Bye::builder().add_source(7).reason("done");
+    /// let error = bye.write_into(&mut [0; 10]).unwrap_err();
+    /// assert_eq!(error, RtcpWriteError::OutputTooSmall(16));
+    /// assert_eq!((error.number(), error.first(), error.second()), (10, 16, 0));
+    /// ```
+    RtcpWriteError {
+        /// 10: the buffer is shorter than this size.
+        10 OutputTooSmall(detail: usize),
+        /// 11: the padding is no multiple of 4.
+        11 InvalidPadding {
+            /// The padding asked for.
+            padding: u8,
+        },
+        /// 12: the APP subtype does not fit 5 bits.
+        12 AppSubtypeOutOfRange {
+            /// The subtype.
+            subtype: u8,
+            /// The largest.
+            max: u8,
+        },
+        /// 13: the APP name has more than 4 bytes, or is not ASCII.
+        13 InvalidName,
+        /// 14: APP data of this length are no full words.
+        14 DataLen32bitMultiple(detail: usize),
+        /// 15: there are too many BYE sources.
+        15 TooManySources {
+            /// The sources.
+            count: usize,
+            /// The most.
+            max: u8,
+        },
+        /// 16: the BYE reason is too long.
+        16 ReasonLenTooLarge {
+            /// Its length.
+            len: usize,
+            /// The most.
+            max: u8,
+        },
+        /// 17: the cumulative loss does not fit 24 bits.
+        17 CumulativeLostTooLarge {
+            /// The loss.
+            value: u32,
+            /// The most.
+            max: u32,
+        },
+        /// 18: there are too many report blocks.
+        18 TooManyReportBlocks {
+            /// The blocks.
+            count: usize,
+            /// The most.
+            max: u8,
+        },
+        /// 19: there are too many SDES chunks.
+        19 TooManySdesChunks {
+            /// The chunks.
+            count: usize,
+            /// The most.
+            max: u8,
+        },
+        /// 20: the value of an SDES item is too long.
+        20 SdesValueTooLarge {
+            /// Its length.
+            len: usize,
+            /// The most.
+            max: u8,
+        },
+        /// 21: the prefix of a PRIV item is too long.
+        21 SdesPrivPrefixTooLarge {
+            /// Its length.
+            len: usize,
+            /// The most.
+            max: u8,
+        },
+        /// 22: the packet has over 262,144 bytes, or the lone chunk over 262,140.
+        22 PacketTooLarge,
+        /// 23: an SDES item has type 0.
+        23 ItemTypeZero,
+        /// 24: lent lists do not fit together. No builder of this crate lends such.
+        24 ListsDisagree,
+        /// 26: the datagram is closed.
+        26 WriterClosed,
+        /// 27: the first packet of the datagram is no report.
+        27 FirstPacketNoReport,
+        /// 28: the datagram has no CNAME.
+        28 NoCname,
+        /// 29: a padded packet is already in the datagram.
+        29 AlreadyPadded,
+    }
+}
 
 /// For each number from 1 on, what came in, and the names of its details.
 const SENTENCES: [(&str, &[&str]); 30] = [
@@ -445,6 +331,16 @@ const SENTENCES: [(&str, &[&str]); 30] = [
 ];
 
 impl Refusal {
+    /// The refusal with a number and up to two details.
+    fn of(number: u64, details: &[u64]) -> Self {
+        let detail = |at| details.get(at).copied().unwrap_or(0);
+        Refusal {
+            number,
+            first: detail(0),
+            second: detail(1),
+        }
+    }
+
     fn explain(&self, f: &mut fmt::Formatter<'_>) -> fmt::Result {
         let Refusal {
             number,

@@ -47,6 +47,45 @@
 #![deny(missing_docs)]
 #![deny(missing_debug_implementations)]
 
+/// Makes a builder a packet to write, by the C functions that give its size, write
+/// it and add it to a datagram, with their arguments but for those that say where
+/// it goes. The last two take the same; where the first does too, they stand once.
+macro_rules! packet_writer {
+    ($builder:ty, $packet:ident, $size:ident, $write:ident, $add:ident($($of_all:expr),*)) => {
+        packet_writer! { $builder, $packet, $size($($of_all),*), $write, $add($($of_all),*) }
+    };
+    ($builder:ty, $packet:ident, $size:ident($($of_size:expr),*), $write:ident, $add:ident($($of_both:expr),*)) => {
+        impl crate::RtcpPacketWriter for $builder {
+            fn calculate_size(&self) -> Result<usize, crate::RtcpWriteError> {
+                let $packet = self;
+                crate::size(crate::ffi::$size($($of_size),*))
+            }
+
+            fn get_padding(&self) -> Option<u8> {
+                match self.padding {
+                    0 => None,
+                    padding => Some(padding),
+                }
+            }
+
+            #[inline]
+            fn write(&self, buf: &mut [u8]) -> Result<usize, crate::RtcpWriteError> {
+                let $packet = self;
+                crate::size(crate::ffi::$write(buf, $($of_both),*))
+            }
+
+            fn add_to(
+                &self,
+                writer: &mut crate::CompoundWriter,
+                buf: &mut [u8],
+            ) -> Result<(), crate::RtcpWriteError> {
+                let $packet = self;
+                writer.call(|state| crate::ffi::$add(state, buf, $($of_both),*))
+            }
+        }
+    };
+}
+
 mod app;
 mod bye;
 mod compound;
@@ -191,6 +230,7 @@ pub trait RtcpPacketWriterExt: RtcpPacketWriter {
     /// assert_eq!(Bye::builder().add_source(7).write_into(&mut buf), Ok(8));
     /// assert_eq!(buf, [0x81, 203, 0, 1, 0, 0, 0, 7, 0x5A, 0x5A]);
     /// ```
+    #[inline]
     fn write_into(&self, buf: &mut [u8]) -> Result<usize, RtcpWriteError> {
         self.write(buf)
     }
@@ -217,15 +257,8 @@ fn padding_count(padding: &[u8]) -> Option<u8> {
     }
 }
 
-/// The padding of a builder, or none.
-fn padding_set(padding: u8) -> Option<u8> {
-    match padding {
-        0 => None,
-        padding => Some(padding),
-    }
-}
-
 /// The size that a call gives.
+#[inline]
 fn size(written: ffi::RtcpWritten) -> Result<usize, RtcpWriteError> {
     Ok(written.done()?.size as usize)
 }

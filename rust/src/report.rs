@@ -1,49 +1,85 @@
-use crate::ffi::{self, between, part};
-use crate::{
-    padding_count, padding_set, size, CompoundWriter, RtcpPacket, RtcpPacketParser,
-    RtcpPacketWriter, RtcpParseError, RtcpWriteError,
-};
+use crate::ffi;
+use crate::{padding_count, RtcpPacket, RtcpPacketParser, RtcpParseError};
 use std::iter::FusedIterator;
-use std::slice::ChunksExact;
 
-// What the two kinds of report have in common, for the type and the function that reads one of its blocks.
+/// What the two kinds of report have in common.
+#[derive(Clone, Copy, Debug, PartialEq, Eq)]
+struct Report<'a> {
+    data: &'a [u8],
+    ssrc: u32,
+    /// Where the padding starts.
+    body: u32,
+    n_reports: u8,
+}
+
+// Their functions, for the type, and the C functions that read it and one of its blocks.
 macro_rules! read_report {
-    ($report:ident, $block:path) => {
+    ($report:ident, $parse:path, $block:path) => {
+        impl<'a> RtcpPacketParser<'a> for $report<'a> {
+            #[inline]
+            fn parse(data: &'a [u8]) -> Result<Self, RtcpParseError> {
+                let read = $parse(data).done()?;
+                let report = Report {
+                    data,
+                    ssrc: read.ssrc as u32,
+                    body: read.padding as u32,
+                    n_reports: read.n_reports as u8,
+                };
+                Ok(Self::of(report, &read))
+            }
+
+            fn bytes(&self) -> &'a [u8] {
+                self.report.data
+            }
+
+            fn padding_bytes(&self) -> &'a [u8] {
+                &self.report.data[self.report.body as usize..]
+            }
+
+            fn low_bits(&self) -> u8 {
+                self.report.n_reports
+            }
+        }
+
         impl<'a> $report<'a> {
             /// The number of padding bytes, if the packet is padded.
             pub fn padding(&self) -> Option<u8> {
-                padding_count(self.padding)
+                padding_count(self.padding_bytes())
             }
 
             /// The number of report blocks.
             pub fn n_reports(&self) -> u8 {
-                self.n_reports
+                self.report.n_reports
             }
 
             /// The SSRC of the one that reports.
             pub fn ssrc(&self) -> u32 {
-                self.ssrc
+                self.report.ssrc
             }
 
             /// The report blocks, one call of the library for each.
             #[inline]
             pub fn report_blocks(&self) -> ReportBlocks<'a> {
-                let size = ReportBlock::EXPECTED_SIZE;
-                let from = Self::MIN_PACKET_LEN;
-                let blocks = &self.data[from..from + size * usize::from(self.n_reports)];
                 ReportBlocks {
-                    blocks: blocks.chunks_exact(size),
+                    blocks: &self.report.data[Self::MIN_PACKET_LEN..self.blocks_end()],
                 }
             }
 
             /// The report block with an index from 0; 25 past the last.
             pub fn report_block(&self, index: usize) -> Result<ReportBlock, RtcpParseError> {
-                Ok(ReportBlock::of($block(self.data, index as u64).done()?))
+                let block = $block(self.report.data, index as u64);
+                Ok(ReportBlock::of(block.done()?))
             }
 
             /// The bytes after the blocks.
             pub fn extension(&self) -> &'a [u8] {
-                self.extension
+                &self.report.data[self.blocks_end()..self.report.body as usize]
+            }
+
+            #[inline]
+            fn blocks_end(&self) -> usize {
+                let blocks = usize::from(self.report.n_reports);
+                Self::MIN_PACKET_LEN + ReportBlock::EXPECTED_SIZE * blocks
             }
         }
     };
@@ -68,8 +104,12 @@ macro_rules! build_report {
     };
 }
 
-read_report!(SenderReport, ffi::rtcp_sr_report_block);
-read_report!(ReceiverReport, ffi::rtcp_rr_report_block);
+read_report!(SenderReport, ffi::rtcp_sr_parse, ffi::rtcp_sr_report_block);
+read_report!(
+    ReceiverReport,
+    ffi::rtcp_rr_parse,
+    ffi::rtcp_rr_report_block
+);
 build_report!(SenderReportBuilder);
 build_report!(ReceiverReportBuilder);
 
@@ -94,15 +134,11 @@ build_report!(ReceiverReportBuilder);
 /// ```
 #[derive(Clone, Copy, Debug, PartialEq, Eq)]
 pub struct SenderReport<'a> {
-    data: &'a [u8],
-    n_reports: u8,
-    ssrc: u32,
+    report: Report<'a>,
     ntp_timestamp: u64,
     rtp_timestamp: u32,
     packet_count: u32,
     octet_count: u32,
-    extension: &'a [u8],
-    padding: &'a [u8],
 }
 
 impl RtcpPacket for SenderReport<'_> {
@@ -110,48 +146,15 @@ impl RtcpPacket for SenderReport<'_> {
     const PACKET_TYPE: u8 = 200;
 }
 
-impl<'a> RtcpPacketParser<'a> for SenderReport<'a> {
-    #[inline]
-    fn parse(data: &'a [u8]) -> Result<Self, RtcpParseError> {
-        let sr = ffi::rtcp_sr_parse(data).done()?;
-        Ok(SenderReport {
-            data,
-            n_reports: sr.n_reports as u8,
-            ssrc: sr.ssrc as u32,
-            ntp_timestamp: sr.ntp_timestamp,
-            rtp_timestamp: sr.rtp_timestamp as u32,
-            packet_count: sr.packet_count as u32,
-            octet_count: sr.octet_count as u32,
-            extension: part(data, sr.extension, sr.extension_len),
-            padding: part(data, sr.padding, sr.padding_len),
-        })
-    }
-
-    fn bytes(&self) -> &'a [u8] {
-        self.data
-    }
-
-    fn padding_bytes(&self) -> &'a [u8] {
-        self.padding
-    }
-
-    fn low_bits(&self) -> u8 {
-        self.n_reports
-    }
-}
-
 impl<'a> SenderReport<'a> {
-    pub(crate) fn of_step(data: &'a [u8], step: &ffi::RtcpStep) -> Self {
+    #[inline]
+    fn of(report: Report<'a>, read: &ffi::RtcpSr) -> Self {
         SenderReport {
-            data,
-            n_reports: step.count as u8,
-            ssrc: step.ssrc as u32,
-            ntp_timestamp: step.ntp_timestamp,
-            rtp_timestamp: step.rtp_timestamp as u32,
-            packet_count: step.packet_count as u32,
-            octet_count: step.octet_count as u32,
-            extension: between(data, step.extension, step.body),
-            padding: part(data, step.body, step.padding_len),
+            report,
+            ntp_timestamp: read.ntp_timestamp,
+            rtp_timestamp: read.rtp_timestamp as u32,
+            packet_count: read.packet_count as u32,
+            octet_count: read.octet_count as u32,
         }
     }
 
@@ -202,11 +205,7 @@ impl<'a> SenderReport<'a> {
 /// ```
 #[derive(Clone, Copy, Debug, PartialEq, Eq)]
 pub struct ReceiverReport<'a> {
-    data: &'a [u8],
-    n_reports: u8,
-    ssrc: u32,
-    extension: &'a [u8],
-    padding: &'a [u8],
+    report: Report<'a>,
 }
 
 impl RtcpPacket for ReceiverReport<'_> {
@@ -214,41 +213,10 @@ impl RtcpPacket for ReceiverReport<'_> {
     const PACKET_TYPE: u8 = 201;
 }
 
-impl<'a> RtcpPacketParser<'a> for ReceiverReport<'a> {
-    #[inline]
-    fn parse(data: &'a [u8]) -> Result<Self, RtcpParseError> {
-        let rr = ffi::rtcp_rr_parse(data).done()?;
-        Ok(ReceiverReport {
-            data,
-            n_reports: rr.n_reports as u8,
-            ssrc: rr.ssrc as u32,
-            extension: part(data, rr.extension, rr.extension_len),
-            padding: part(data, rr.padding, rr.padding_len),
-        })
-    }
-
-    fn bytes(&self) -> &'a [u8] {
-        self.data
-    }
-
-    fn padding_bytes(&self) -> &'a [u8] {
-        self.padding
-    }
-
-    fn low_bits(&self) -> u8 {
-        self.n_reports
-    }
-}
-
 impl<'a> ReceiverReport<'a> {
-    pub(crate) fn of_step(data: &'a [u8], step: &ffi::RtcpStep) -> Self {
-        ReceiverReport {
-            data,
-            n_reports: step.count as u8,
-            ssrc: step.ssrc as u32,
-            extension: between(data, step.extension, step.body),
-            padding: part(data, step.body, step.padding_len),
-        }
+    #[inline]
+    fn of(report: Report<'a>, _: &ffi::RtcpRr) -> Self {
+        ReceiverReport { report }
     }
 
     /// A builder for a receiver report.
@@ -356,7 +324,7 @@ impl ReportBlock {
 /// The report blocks of a packet.
 #[derive(Clone, Debug)]
 pub struct ReportBlocks<'a> {
-    blocks: ChunksExact<'a, u8>,
+    blocks: &'a [u8],
 }
 
 impl Iterator for ReportBlocks<'_> {
@@ -364,11 +332,14 @@ impl Iterator for ReportBlocks<'_> {
 
     #[inline]
     fn next(&mut self) -> Option<ReportBlock> {
-        ReportBlock::parse(self.blocks.next()?).ok()
+        let (block, rest) = self.blocks.split_at_checked(ReportBlock::EXPECTED_SIZE)?;
+        self.blocks = rest;
+        ReportBlock::parse(block).ok()
     }
 
     fn size_hint(&self) -> (usize, Option<usize>) {
-        self.blocks.size_hint()
+        let left = self.blocks.len() / ReportBlock::EXPECTED_SIZE;
+        (left, Some(left))
     }
 }
 
@@ -490,52 +461,16 @@ impl SenderReportBuilder {
     }
 }
 
-impl RtcpPacketWriter for SenderReportBuilder {
-    fn calculate_size(&self) -> Result<usize, RtcpWriteError> {
-        size(ffi::rtcp_sr_size(
-            &self.blocks.fractions,
-            &self.blocks.losses,
-            &self.blocks.words,
-            self.padding.into(),
-        ))
-    }
-
-    fn get_padding(&self) -> Option<u8> {
-        padding_set(self.padding)
-    }
-
-    fn write(&self, buf: &mut [u8]) -> Result<usize, RtcpWriteError> {
-        size(ffi::rtcp_sr_write(
-            buf,
-            self.ssrc,
-            self.ntp_timestamp,
-            self.rtp_timestamp,
-            self.packet_count,
-            self.octet_count,
-            &self.blocks.fractions,
-            &self.blocks.losses,
-            &self.blocks.words,
-            self.padding.into(),
-        ))
-    }
-
-    fn add_to(&self, writer: &mut CompoundWriter, buf: &mut [u8]) -> Result<(), RtcpWriteError> {
-        writer.call(|state| {
-            ffi::rtcp_writer_add_sr(
-                state,
-                buf,
-                self.ssrc,
-                self.ntp_timestamp,
-                self.rtp_timestamp,
-                self.packet_count,
-                self.octet_count,
-                &self.blocks.fractions,
-                &self.blocks.losses,
-                &self.blocks.words,
-                self.padding.into(),
-            )
-        })
-    }
+packet_writer! {
+    SenderReportBuilder, sr,
+    rtcp_sr_size(
+        &sr.blocks.fractions, &sr.blocks.losses, &sr.blocks.words, sr.padding.into()
+    ),
+    rtcp_sr_write,
+    rtcp_writer_add_sr(
+        sr.ssrc, sr.ntp_timestamp, sr.rtp_timestamp, sr.packet_count, sr.octet_count,
+        &sr.blocks.fractions, &sr.blocks.losses, &sr.blocks.words, sr.padding.into()
+    )
 }
 
 /// A receiver report to write.
@@ -556,42 +491,13 @@ pub struct ReceiverReportBuilder {
     blocks: BlockLists,
 }
 
-impl RtcpPacketWriter for ReceiverReportBuilder {
-    fn calculate_size(&self) -> Result<usize, RtcpWriteError> {
-        size(ffi::rtcp_rr_size(
-            &self.blocks.fractions,
-            &self.blocks.losses,
-            &self.blocks.words,
-            self.padding.into(),
-        ))
-    }
-
-    fn get_padding(&self) -> Option<u8> {
-        padding_set(self.padding)
-    }
-
-    fn write(&self, buf: &mut [u8]) -> Result<usize, RtcpWriteError> {
-        size(ffi::rtcp_rr_write(
-            buf,
-            self.ssrc,
-            &self.blocks.fractions,
-            &self.blocks.losses,
-            &self.blocks.words,
-            self.padding.into(),
-        ))
-    }
-
-    fn add_to(&self, writer: &mut CompoundWriter, buf: &mut [u8]) -> Result<(), RtcpWriteError> {
-        writer.call(|state| {
-            ffi::rtcp_writer_add_rr(
-                state,
-                buf,
-                self.ssrc,
-                &self.blocks.fractions,
-                &self.blocks.losses,
-                &self.blocks.words,
-                self.padding.into(),
-            )
-        })
-    }
+packet_writer! {
+    ReceiverReportBuilder, rr,
+    rtcp_rr_size(
+        &rr.blocks.fractions, &rr.blocks.losses, &rr.blocks.words, rr.padding.into()
+    ),
+    rtcp_rr_write,
+    rtcp_writer_add_rr(
+        rr.ssrc, &rr.blocks.fractions, &rr.blocks.losses, &rr.blocks.words, rr.padding.into()
+    )
 }

@@ -1,8 +1,5 @@
 use crate::ffi::{self, between, part};
-use crate::{
-    padding_count, padding_set, size, CompoundWriter, RtcpPacket, RtcpPacketParser,
-    RtcpPacketWriter, RtcpParseError, RtcpWriteError,
-};
+use crate::{padding_count, size, RtcpPacket, RtcpPacketParser, RtcpParseError, RtcpWriteError};
 use std::borrow::Cow;
 use std::iter::FusedIterator;
 use std::marker::PhantomData;
@@ -25,10 +22,6 @@ use std::string::FromUtf8Error;
 #[derive(Clone, Copy, Debug, PartialEq, Eq)]
 pub struct Sdes<'a> {
     data: &'a [u8],
-    n_chunks: u8,
-    has_cname: bool,
-    body: u64,
-    padding: &'a [u8],
 }
 
 impl RtcpPacket for Sdes<'_> {
@@ -39,14 +32,8 @@ impl RtcpPacket for Sdes<'_> {
 impl<'a> RtcpPacketParser<'a> for Sdes<'a> {
     #[inline]
     fn parse(data: &'a [u8]) -> Result<Self, RtcpParseError> {
-        let sdes = ffi::rtcp_sdes_parse(data).done()?;
-        Ok(Sdes {
-            data,
-            n_chunks: sdes.n_chunks as u8,
-            has_cname: sdes.has_cname != 0,
-            body: sdes.body,
-            padding: part(data, sdes.padding, sdes.padding_len),
-        })
+        ffi::rtcp_sdes_parse(data).done()?;
+        Ok(Sdes { data })
     }
 
     fn bytes(&self) -> &'a [u8] {
@@ -54,47 +41,44 @@ impl<'a> RtcpPacketParser<'a> for Sdes<'a> {
     }
 
     fn padding_bytes(&self) -> &'a [u8] {
-        self.padding
+        let sdes = ffi::rtcp_sdes_parse(self.data);
+        part(self.data, sdes.padding, sdes.padding_len)
     }
 
     fn low_bits(&self) -> u8 {
-        self.n_chunks
+        self.n_chunks()
     }
 }
 
 impl<'a> Sdes<'a> {
-    pub(crate) fn of_step(data: &'a [u8], step: &ffi::RtcpStep) -> Self {
-        Sdes {
-            data,
-            n_chunks: step.count as u8,
-            has_cname: step.has_cname != 0,
-            body: step.body,
-            padding: part(data, step.body, step.padding_len),
-        }
+    /// The SDES packet that these bytes are, as the library has said.
+    #[inline]
+    pub(crate) fn accepted(data: &'a [u8]) -> Self {
+        Sdes { data }
     }
 
     /// The number of padding bytes, if the packet is padded.
     pub fn padding(&self) -> Option<u8> {
-        padding_count(self.padding)
+        padding_count(self.padding_bytes())
     }
 
     /// The number of chunks.
+    #[inline]
     pub fn n_chunks(&self) -> u8 {
-        self.n_chunks
+        self.data[0] & Self::MAX_COUNT
     }
 
     /// Whether some chunk has a CNAME.
     pub fn has_cname(&self) -> bool {
-        self.has_cname
+        ffi::rtcp_sdes_parse(self.data).has_cname != 0
     }
 
     /// The chunks, one call of the library for each.
     #[inline]
     pub fn chunks(&self) -> Chunks<'a> {
         Chunks {
-            data: self.data,
-            at: Self::MIN_PACKET_LEN as u64,
-            end: self.body,
+            rest: &self.data[Self::MIN_PACKET_LEN..],
+            left: self.n_chunks(),
         }
     }
 
@@ -107,9 +91,9 @@ impl<'a> Sdes<'a> {
 /// The chunks of an SDES packet.
 #[derive(Clone, Debug)]
 pub struct Chunks<'a> {
-    data: &'a [u8],
-    at: u64,
-    end: u64,
+    /// The packet's bytes from the next chunk on.
+    rest: &'a [u8],
+    left: u8,
 }
 
 impl<'a> Iterator for Chunks<'a> {
@@ -117,17 +101,19 @@ impl<'a> Iterator for Chunks<'a> {
 
     #[inline]
     fn next(&mut self) -> Option<SdesChunk<'a>> {
-        let step = ffi::rtcp_chunk_walk_step(self.data, self.at, self.end);
-        let step = step.done().ok()?;
-        let chunk = SdesChunk {
-            data: part(self.data, self.at, step.length),
-            ssrc: step.ssrc as u32,
-            cname: step.cname,
-        };
-        (self.at, self.end) = (step.at, step.end);
+        self.left = self.left.checked_sub(1)?;
+        let chunk = SdesChunk::parse(self.rest).ok()?;
+        self.rest = &self.rest[chunk.length()..];
         Some(chunk)
     }
+
+    fn size_hint(&self) -> (usize, Option<usize>) {
+        let left = usize::from(self.left);
+        (left, Some(left))
+    }
 }
+
+impl ExactSizeIterator for Chunks<'_> {}
 
 impl FusedIterator for Chunks<'_> {}
 
@@ -154,6 +140,7 @@ impl<'a> SdesChunk<'a> {
     /// assert_eq!((chunk.ssrc(), chunk.length(), chunk.items().count()), (7, 8, 1));
     /// # Ok::<(), bokyjave::RtcpParseError>(())
     /// ```
+    #[inline]
     pub fn parse(data: &'a [u8]) -> Result<Self, RtcpParseError> {
         let chunk = ffi::rtcp_chunk_parse(data).done()?;
         Ok(SdesChunk {
@@ -370,54 +357,13 @@ impl<'a> SdesBuilder<'a> {
     }
 }
 
-impl RtcpPacketWriter for SdesBuilder<'_> {
-    fn calculate_size(&self) -> Result<usize, RtcpWriteError> {
-        let items = &self.items;
-        size(ffi::rtcp_sdes_size(
-            &self.ssrcs,
-            &self.counts,
-            &items.types,
-            &items.prefixes,
-            &items.values,
-            &items.bytes,
-            self.padding.into(),
-        ))
-    }
-
-    fn get_padding(&self) -> Option<u8> {
-        padding_set(self.padding)
-    }
-
-    fn write(&self, buf: &mut [u8]) -> Result<usize, RtcpWriteError> {
-        let items = &self.items;
-        size(ffi::rtcp_sdes_write(
-            buf,
-            &self.ssrcs,
-            &self.counts,
-            &items.types,
-            &items.prefixes,
-            &items.values,
-            &items.bytes,
-            self.padding.into(),
-        ))
-    }
-
-    fn add_to(&self, writer: &mut CompoundWriter, buf: &mut [u8]) -> Result<(), RtcpWriteError> {
-        let items = &self.items;
-        writer.call(|state| {
-            ffi::rtcp_writer_add_sdes(
-                state,
-                buf,
-                &self.ssrcs,
-                &self.counts,
-                &items.types,
-                &items.prefixes,
-                &items.values,
-                &items.bytes,
-                self.padding.into(),
-            )
-        })
-    }
+packet_writer! {
+    SdesBuilder<'_>, sdes,
+    rtcp_sdes_size, rtcp_sdes_write,
+    rtcp_writer_add_sdes(
+        &sdes.ssrcs, &sdes.counts, &sdes.items.types, &sdes.items.prefixes, &sdes.items.values,
+        &sdes.items.bytes, sdes.padding.into()
+    )
 }
 
 /// Items as the library takes them: a type and two lengths for each, and one run
@@ -564,8 +510,9 @@ impl<'a> SdesItemBuilder<'a> {
 #[cfg(test)]
 mod tests {
     use super::*;
-    use crate::ffi::rtcp_sdes_items;
-    use crate::ffi::{rtcp_chunk_walk_open, rtcp_item_walk_open};
+    use crate::ffi::{
+        rtcp_chunk_walk_open, rtcp_chunk_walk_step, rtcp_item_walk_open, rtcp_sdes_items,
+    };
 
     const PACKETS: [&[u8]; 5] = [
         b"\x80\xCA\x00\x00",
@@ -600,18 +547,21 @@ mod tests {
     }
 
     #[test]
-    fn walks_start_where_the_library_opens_them() {
+    fn chunks_and_items_are_those_of_the_walks() {
         for packet in PACKETS {
             let sdes = Sdes::parse(packet).expect("an SDES packet");
-            let opened = rtcp_chunk_walk_open(packet).done().expect("a walk");
-            let chunks = sdes.chunks();
-            assert_eq!((chunks.at, chunks.end), (opened.at, opened.end));
-            assert_eq!(chunks.clone().count(), usize::from(sdes.n_chunks()));
-            for chunk in chunks {
+            let mut walk = rtcp_chunk_walk_open(packet).done().expect("a walk");
+            assert_eq!(sdes.chunks().len(), usize::from(sdes.n_chunks()));
+            for chunk in sdes.chunks() {
+                let step = rtcp_chunk_walk_step(packet, walk.at, walk.end);
+                let step = step.done().expect("a chunk");
+                assert_eq!(chunk.data, part(packet, walk.at, step.length));
+                assert_eq!((chunk.ssrc.into(), chunk.cname), (step.ssrc, step.cname));
+                (walk.at, walk.end) = (step.at, step.end);
                 let opened = rtcp_item_walk_open(chunk.data).done().expect("a walk");
                 assert_eq!(chunk.items().at, opened.at);
-                assert_eq!(SdesChunk::parse(chunk.data), Ok(chunk));
             }
+            assert_eq!(rtcp_chunk_walk_step(packet, walk.at, walk.end).number, 25);
         }
     }
 }

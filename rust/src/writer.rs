@@ -3,6 +3,7 @@ use crate::{
     AppBuilder, ByeBuilder, ReceiverReportBuilder, RtcpPacketWriter, RtcpWriteError, SdesBuilder,
     SenderReportBuilder,
 };
+use std::marker::PhantomData;
 
 /// The compound writer: a datagram is written packet by packet, and closed. It
 /// holds the length so far; the same buffer is lent at each call.
@@ -90,64 +91,82 @@ impl CompoundWriter {
 /// assert_eq!(Compound::parse(&buf).map(|read| read.n_packets()), Ok(3));
 /// # Ok::<(), RtcpWriteError>(())
 /// ```
-#[derive(Debug, Default)]
+#[derive(Clone, Debug, Default)]
 #[must_use = "a builder does nothing until it is written"]
 pub struct CompoundBuilder<'a> {
-    packets: Vec<Box<dyn RtcpPacketWriter + 'a>>,
+    writer: CompoundWriter,
+    /// The datagram so far, and room for more.
+    datagram: Vec<u8>,
+    /// Why a packet could not be added. None is added after it.
+    refused: Option<RtcpWriteError>,
+    lent: PhantomData<&'a [u8]>,
 }
 
 impl<'a> CompoundBuilder<'a> {
-    /// The datagrams up to this length take no heap memory when they are written.
-    const SHORT: usize = 512;
+    /// The room that a datagram begins with.
+    const ROOM: usize = 512;
 
-    /// Adds a packet.
+    /// Adds a packet. It is written at once, into memory of the builder's own; a
+    /// refusal is given by [`write_into`](Self::write_into) and
+    /// [`calculate_size`](Self::calculate_size).
     pub fn add_packet(mut self, packet: impl RtcpPacketWriter + 'a) -> Self {
-        self.packets.push(Box::new(packet));
+        if self.refused.is_none() {
+            self.refused = self.add(&packet).err();
+        }
         self
+    }
+
+    /// Makes the writer's call, with more room where that is missing.
+    fn add(&mut self, packet: &impl RtcpPacketWriter) -> Result<(), RtcpWriteError> {
+        if self.datagram.is_empty() {
+            self.datagram.resize(Self::ROOM, 0);
+        }
+        match packet.add_to(&mut self.writer, &mut self.datagram) {
+            Err(RtcpWriteError::OutputTooSmall(size)) => {
+                self.datagram.resize(size.max(2 * self.datagram.len()), 0);
+                packet.add_to(&mut self.writer, &mut self.datagram)
+            }
+            added => added,
+        }
     }
 
     /// The size of the datagram, or why it cannot be written.
     pub fn calculate_size(&self) -> Result<usize, RtcpWriteError> {
-        match self.write(&mut [0; Self::SHORT]) {
-            Err(RtcpWriteError::OutputTooSmall(_)) => self.write(&mut vec![0; self.room()]),
-            size => size,
+        match self.refused {
+            Some(refused) => Err(refused),
+            None => { self.writer }.close(),
         }
     }
 
-    /// Writes the datagram at the start of the buffer and gives its size. Bytes
+    /// Copies the datagram to the start of the buffer and gives its size. Bytes
     /// after it stay as they are; on a refusal all do. 10 names the length with
     /// the first packet that has no room; [`calculate_size`](Self::calculate_size)
     /// gives the whole.
     pub fn write_into(&self, buf: &mut [u8]) -> Result<usize, RtcpWriteError> {
-        let mut short = [0; Self::SHORT];
-        let mut long = Vec::new();
-        let room = buf.len().min(Self::SHORT);
-        let written = match self.write(&mut short[..room]) {
-            Err(RtcpWriteError::OutputTooSmall(_)) if room < buf.len() => {
-                long.resize(self.room().min(buf.len()), 0);
-                let len = self.write(&mut long)?;
-                &long[..len]
-            }
-            len => &short[..len?],
+        let written = &self.datagram[..self.writer.len()];
+        let Some(room) = buf.get_mut(..written.len()) else {
+            return Err(RtcpWriteError::OutputTooSmall(first_end_past(
+                written,
+                buf.len(),
+            )));
         };
-        buf[..written.len()].copy_from_slice(written);
-        Ok(written.len())
+        let size = self.calculate_size()?;
+        room.copy_from_slice(written);
+        Ok(size)
     }
+}
 
-    /// Room for every packet that can be written.
-    fn room(&self) -> usize {
-        let sizes = self.packets.iter().map(|packet| packet.calculate_size());
-        sizes.map(|size| size.unwrap_or(0)).sum()
-    }
-
-    /// Makes the writer's calls. A refusal may come after packets are written.
-    fn write(&self, buf: &mut [u8]) -> Result<usize, RtcpWriteError> {
-        let mut writer = CompoundWriter::new();
-        for packet in &self.packets {
-            packet.add_to(&mut writer, buf)?;
+/// Where the first of the packets ends that reaches past a length, as the library
+/// walks over them.
+fn first_end_past(packets: &[u8], len: usize) -> usize {
+    let mut end = 0;
+    while end <= len {
+        match ffi::rtcp_walk_step(packets, end as u64).done() {
+            Ok(step) => end = step.at as usize,
+            Err(_) => return packets.len(),
         }
-        writer.close()
     }
+    end
 }
 
 /// A packet of any of the five kinds to write.

@@ -338,6 +338,42 @@ fn refusals_of_the_compound_writer() {
     );
 }
 
+/// Whatever the packets, faulty ones included, and whatever the buffer's length.
+#[test]
+fn a_compound_builder_answers_as_the_compound_writer() {
+    let packet = |which| -> PacketBuilder<'static> {
+        match which {
+            0 => ReceiverReport::builder(1).into(),
+            1 => named(1).into(),
+            2 => named(1).padding(4).into(),
+            3 => Bye::builder().into(),
+            _ => App::builder(1, "names").into(),
+        }
+    };
+    for list in 0..125 {
+        let list = [list % 5, list / 5 % 5, list / 25].map(packet);
+        let start = Compound::builder();
+        let builder = list
+            .iter()
+            .cloned()
+            .fold(start, |all, one| all.add_packet(one));
+        for len in 0..72 {
+            let mut buf = vec![0x5A; len];
+            let mut writer = CompoundWriter::new();
+            let added = list
+                .iter()
+                .try_for_each(|packet| writer.add(&mut buf, packet).map(drop));
+            let closed = added.and_then(|()| writer.close());
+            if closed.is_err() {
+                buf.fill(0x5A);
+            }
+            let mut built = vec![0x5A; len];
+            assert_eq!(builder.write_into(&mut built), closed);
+            assert_eq!(built, buf);
+        }
+    }
+}
+
 #[test]
 fn a_compound_builder_leaves_the_buffer_on_a_refusal() {
     let refused = |compound: bokyjave::CompoundBuilder, len| {
