@@ -7,15 +7,15 @@ use mathlib.Core.List.{List, [], _∷_, _++_}
 use native.Mathlib.Nat.{div-one, le-antisymm, zero-add}
 use native.Mathlib.Numerals.{add-one}
 use native.Mathlib.Omega.{arith}
-use borrow.Author.Tests.{eq-eqb, ne-eqb}
+use borrow.Author.Tests.{eq-eqb, ne-eqb, ltb-true, ltb-false, le-leb, lt-leb}
 use lib.ListN.{length, take, drop, set, getD, replicate, length-append, length-drop, length-set, length-replicate, replicate-append-replicate}
-use lib.Seq.{drop-cons, take-suc, take-add, take-length, length-take-le}
-use lib.Dec.{leb}
+use lib.Seq.{drop-cons, drop-drop, take-suc, take-add, take-length, length-take-le}
+use lib.Dec.{leb, ltb}
 use Rattle.rfc3550.specs.Bytes.{be, val, store}
 use Rattle.rfc3550.specs.Packet.{paddingBit}
 use Rattle.rfc3550.specs.Write.{paddingOk, paddingBytes}
 use Rattle.rfc3550.proofs.Bytes.{length-be, length-store, be-take, bytes-drop, bytes-each}
-use Rattle.utils.specs.Writer.{firstByte, header, reversed}
+use Rattle.utils.specs.Writer.{firstByte, header, reversed, reversedEight}
 use Rattle.utils.proofs.WriterStores.{store-nil, store-store, store-over, store-snoc, store-puts, store-number, be-digits, puts, digits}
 
 -- ---- padding
@@ -23,8 +23,12 @@ use Rattle.utils.proofs.WriterStores.{store-nil, store-store, store-ove
 pub padding-odd : (k : ℕ) → (k % 4 ≡ 0 → ⊥) → false ≡ paddingOk k
 padding-odd k h = sym (rw (ne-eqb _ _ h))
 
-pub padding-even : (k : ℕ) → k % 4 ≡ 0 → leb k 252 ≡ paddingOk k
-padding-even k h = sym (rw (eq-eqb _ _ h))
+pub padding-even : (k : ℕ) → k % 4 ≡ 0 → ltb k 256 ≡ paddingOk k
+padding-even k h = go (ltb k 256) refl ∙ sym (rw (eq-eqb _ _ h))
+  where
+    go : (t : Bool) → ltb k 256 ≡ t → ltb k 256 ≡ leb k 252
+    go true e = let f = ltb-true k 256 e in e ∙ sym (le-leb k 252 (omega arith))
+    go false e = let f = ltb-false k 256 e in e ∙ sym (lt-leb k 252 (omega arith))
 
 bit-some : (k : ℕ) → (k ≡ 0 → ⊥) → paddingBit (paddingBytes k) ≡ 32
 bit-some zero h = absurd (h refl)
@@ -62,14 +66,12 @@ module _ (at v : ℕ) (l : List ℕ) where
   pub reversed-laid : at + 4 ≤ length l → puts at 1 (v / 256 % 256 ∷ v / 65536 % 256 ∷ v / 16777216 % 256 ∷ []) (set l at (v % 256)) ≡ store at (reversed v) l
   reversed-laid h = store-puts at (v % 256) (v / 256 % 256 ∷ v / 65536 % 256 ∷ v / 16777216 % 256 ∷ []) l h
 
-  pub swapped-laid : (r : ℕ) (l₁ : List ℕ) → reversed r ≡ be 4 v → l₁ ≡ store at (reversed r) l → l₁ ≡ store at (be 4 v) l
-  swapped-laid r l₁ e f = f ∙ ap (λ (bs : List ℕ). store at bs l) e
-
-  pub u32-laid : v < 2 ^ 32 → at + 4 ≤ length l → puts at 1 (v / 65536 % 256 ∷ v / 256 % 256 ∷ v % 256 ∷ []) (set l at (v / 16777216 % 256)) ≡ store at (be 4 v) l
-  u32-laid f h = rw div-one at (store-number 3 at v l f h)
-
   pub u64-laid : v < 2 ^ 64 → at + 8 ≤ length l → puts at 1 (v / 281474976710656 % 256 ∷ v / 1099511627776 % 256 ∷ v / 4294967296 % 256 ∷ v / 16777216 % 256 ∷ v / 65536 % 256 ∷ v / 256 % 256 ∷ v % 256 ∷ []) (set l at (v / 72057594037927936 % 256)) ≡ store at (be 8 v) l
   u64-laid f h = rw div-one at (store-number 7 at v l f h)
+
+-- bytes that are the same
+pub same-laid : (at : ℕ) (bs cs l l₁ : List ℕ) → bs ≡ cs → l₁ ≡ store at bs l → l₁ ≡ store at cs l
+same-laid at bs cs l l₁ e f = f ∙ ap (λ (x : List ℕ). store at x l) e
 
 -- the bytes in the other order, reversed
 four : (a b c d : ℕ) → a < 256 → b < 256 → c < 256 → d < 256 → reversed (a + b * 256 + c * 65536 + d * 16777216) ≡ a ∷ b ∷ c ∷ d ∷ []
@@ -124,6 +126,16 @@ swapped-read bs v r f g p q =
     let w : val (reversed v) ≡ v % 256 * 16777216 + (v / 256 % 256 * 65536 + (v / 65536 % 256 * 256 + (v / 16777216 % 256 * 1 + 0))) = refl in
     rw (← p, w) (four-digits r g ∙ rw (e₀, e₁, e₂, e₃) (omega arith))
 
+pub eight-read : (s : List ℕ) (at low high : ℕ) → reversed low ≡ take 4 (drop at s) → reversed high ≡ take 4 (drop (at + 4) s) → low < 4294967296 → reversedEight (low + high * 4294967296) ≡ take 8 (drop at s)
+eight-read s at low high e f h =
+    let p : (low + high * 4294967296) % 4294967296 ≡ low = omega arith in
+    let q : (low + high * 4294967296) / 4294967296 ≡ high = omega arith in
+    let g : take 8 (drop at s) ≡ take 4 (drop at s) ++ take 4 (drop (at + 4) s) = rw (take-add 4 4 (drop at s), drop-drop 4 at s) in
+    rw (p, q) (ap (λ (x : List ℕ). x ++ reversed high) e ∙ ap (λ (x : List ℕ). take 4 (drop at s) ++ x) f ∙ sym g)
+
+pub eight-laid : (at v : ℕ) (l l₁ l₂ : List ℕ) → l₁ ≡ store at (reversed (v % 4294967296)) l → l₂ ≡ store (at + 4) (reversed (v / 4294967296)) l₁ → at + 8 ≤ length l → l₂ ≡ store at (reversedEight v) l
+eight-laid at v l l₁ l₂ e f h = f ∙ rw e (store-store at (at + 4) (reversed (v % 4294967296)) (reversed (v / 4294967296)) l refl (omega arith))
+
 -- the w bytes from index k on, read as a number and laid down as that number
 pub number-copied : (w at k v : ℕ) (src l l₁ : List ℕ) → ((i : ℕ) → getD src i 0 < 256) → k + w ≤ length src → v ≡ val (take w (drop k src)) → l₁ ≡ store (at + k) (be w v) l → l₁ ≡ store (at + k) (take w (drop k src)) l
 number-copied w at k v src l l₁ y h e f =
@@ -136,11 +148,10 @@ pub record Laid (at : ℕ) (bs l l₁ : List ℕ) : Type 0 where
   pub is : l₁ ≡ store at bs l
   pub long : length l₁ ≡ length l
 
--- a loop that goes on from k₀ bytes that are stored
-pub record Copying (at : ℕ) (src l₀ : List ℕ) (k₀ : ℕ) (l₁ : List ℕ) (k : ℕ) : Type 0 where
+pub record Copying (at : ℕ) (src l l₁ : List ℕ) (k : ℕ) : Type 0 where
   pub within : k ≤ length src
-  pub long : length l₁ ≡ length l₀
-  pub so-far : (l : List ℕ) → at + length src ≤ length l → Laid at (take k₀ src) l l₀ → Laid at (take k src) l l₁
+  pub long : length l₁ ≡ length l
+  pub laid : Laid at (take k src) l l₁
 
 module _ (at : ℕ) (l : List ℕ) where
   pub laid-none : Laid at [] l l
@@ -183,20 +194,6 @@ module _ (at : ℕ) (l : List ℕ) where
   pub group-twice : (w : ℕ) (src l₁ l₂ : List ℕ) → l₂ ≡ store (at + (length src - w)) (take w (drop (length src - w) src)) l₁ → l₁ ≡ store (at + 0) (take w (drop 0 src)) l → w ≤ length src → length src ≤ w + w → at + length src ≤ length l → l₂ ≡ store at src l
   group-twice w src l₁ l₂ e d h f s = group-last w (0 + w) src l₁ l₂ h (omega arith) (omega arith) s e (copied w 0 0 src l l₁ (omega arith) (omega arith) (omega arith) s d laid-none)
 
-  -- the first w bytes, and the w bytes after them
-  pub group-one : (w : ℕ) (src l₁ : List ℕ) → l₁ ≡ store (at + 0) (take w (drop 0 src)) l → w ≤ length src → at + length src ≤ length l → l₁ ≡ store at (take w src) l
-  group-one w src l₁ e h s = rw (zero-add w) at (copied w 0 0 src l l₁ (omega arith) (omega arith) (omega arith) s e laid-none .is)
-
-  pub laid-first : (k : ℕ) (src l₁ : List ℕ) → k ≤ length src → l₁ ≡ store at (take k src) l → at + length src ≤ length l → Laid at (take k src) l l₁
-  laid-first k src l₁ h e s = record { is = e; long = ap length e ∙ length-store at (take k src) l (omega (arith, length-take-le k src h)) }
-
-  pub group-two : (w : ℕ) (src l₁ l₂ : List ℕ) → l₂ ≡ store (at + w) (take w (drop w src)) l₁ → l₁ ≡ store (at + 0) (take w (drop 0 src)) l → w + w ≤ length src → at + length src ≤ length l → l₂ ≡ store at (take (w + w) src) l
-  group-two w src l₁ l₂ e d h s = copied w w w src l₁ l₂ (omega arith) (omega arith) h s e (laid-first w src l₁ (omega arith) (group-one w src l₁ d (omega arith) s) s) .is
-
-  pub copied-all : (w k₀ k : ℕ) (src l₀ l₁ l₂ : List ℕ) → w ≤ length src → k₀ ≤ length src → at + length src ≤ length l → l₀ ≡ store at (take k₀ src) l → Copying at src l₀ k₀ l₁ k → length src - k ≤ w
-      → l₂ ≡ store (at + (length src - w)) (take w (drop (length src - w) src)) l₁ → l₂ ≡ store at src l
-  copied-all w k₀ k src l₀ l₁ l₂ h f s e c g d = group-last w k src l₁ l₂ h (c .within) g s d (c .so-far l s (laid-first k₀ src l₀ f e s))
-
   pub byte-alone : (src : List ℕ) → 0 < length src → length src < 2 → at + length src ≤ length l → set l at (getD src 0 0) ≡ store at src l
   byte-alone (b ∷ []) e f h = store-puts at b [] l h
   byte-alone [] e f h = absurd (omega arith)
@@ -212,17 +209,20 @@ module _ (at : ℕ) (l : List ℕ) where
   pub zeros-done : (k n : ℕ) (l₁ : List ℕ) → k ≤ n → n ≤ k → Laid at (replicate k 0) l l₁ → l₁ ≡ store at (replicate n 0) l
   zeros-done k n l₁ h f w = let e : k ≡ n = omega arith in rw e at (w .is)
 
-pub copying-start : (at : ℕ) (src l : List ℕ) (k : ℕ) → k ≤ length src → Copying at src l k l k
-copying-start at src l k h = record { within = h; long = refl; so-far = λ l₀ s w. w }
-
-pub copying-again : (w at : ℕ) (src l₀ : List ℕ) (k₀ : ℕ) (l₁ : List ℕ) (k : ℕ) (l₂ : List ℕ) → Copying at src l₀ k₀ l₁ k → w < length src - k → at + length src ≤ length l₀ → l₂ ≡ store (at + k) (take w (drop k src)) l₁ → Copying at src l₀ k₀ l₂ (k + w)
-copying-again w at src l₀ k₀ l₁ k l₂ c h s e =
+-- w bytes and the w bytes after them
+pub group-next : (w at k : ℕ) (src l l₁ l₂ : List ℕ) → l₁ ≡ store (at + k) (take w (drop k src)) l → l₂ ≡ store (at + (k + w)) (take w (drop (k + w) src)) l₁ → k + (w + w) ≤ length src → at + length src ≤ length l
+    → l₂ ≡ store (at + k) (take (w + w) (drop k src)) l
+group-next w at k src l l₁ l₂ e f h s =
     let n : length (take w (drop k src)) ≡ w = length-take-le w (drop k src) (rw length-drop (omega arith)) in
-    let g = c .long in
-    record {
-      within = omega arith;
-      long = ap length e ∙ length-store (at + k) (take w (drop k src)) l₁ (omega arith) ∙ c .long;
-      so-far = λ l t v. group-more at l w k src l₁ l₂ h t e (c .so-far l t v);
-    }
+    let m : length (take w (drop (k + w) src)) ≡ w = length-take-le w (drop (k + w) src) (rw length-drop (omega arith)) in
+    f ∙ rw (e, take-add w w (drop k src), drop-drop w k src) (store-store (at + k) (at + (k + w)) (take w (drop k src)) (take w (drop (k + w) src)) l (omega arith) (omega arith))
 
-pub ruleset writer = (needs, padding-odd, padding-even, first-plain, first-padded, padding-none, padding-laid, header-laid, u16-laid, reversed-laid, swapped-laid, swapped, four-read, swapped-read, u32-laid, u64-laid, laid-none, zeros-more, zeros-done, group-more, group-last, byte-alone, bytes-none)
+pub copying-start : (at : ℕ) (src l : List ℕ) → Copying at src l l 0
+copying-start at src l = record { within = omega arith; long = refl; laid = laid-none at l }
+
+pub copying-again : (w at : ℕ) (src l l₁ : List ℕ) (k : ℕ) (l₂ : List ℕ) → Copying at src l l₁ k → w < length src - k → at + length src ≤ length l → l₂ ≡ store (at + k) (take w (drop k src)) l₁ → Copying at src l l₂ (k + w)
+copying-again w at src l l₁ k l₂ c h s e =
+    let v = group-more at l w k src l₁ l₂ h s e (c .laid) in
+    record { within = omega arith; long = v .long; laid = v }
+
+pub ruleset writer = (needs, padding-odd, padding-even, first-plain, first-padded, padding-none, padding-laid, header-laid, u16-laid, reversed-laid, same-laid, swapped, four-read, swapped-read, eight-read, eight-laid, u64-laid, laid-none, zeros-more, zeros-done, group-more, group-last, byte-alone, bytes-none)

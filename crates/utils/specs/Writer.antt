@@ -1,6 +1,6 @@
 -- What a write answers, and the first four bytes of a packet.
 use Prim.Native.Nat.{ℕ, _+_, _-_, _/_, _%_}
-use mathlib.Core.List.{List, [], _∷_}
+use mathlib.Core.List.{List, [], _∷_, _++_}
 use Rattle.rfc3550.specs.Answer.{Refusal, refusal, Answer, ok, refused}
 use Rattle.rfc3550.specs.Bytes.{be}
 use Rattle.rfc3550.specs.Packet.{paddingBit}
@@ -29,3 +29,7 @@ header padding low type size = firstByte padding low ∷ type ∷ be 2 (size / 4
 -- the four bytes of a number, least significant first
 abbrev pub reversed : ℕ → List ℕ
 reversed v = v % 256 ∷ v / 256 % 256 ∷ v / 65536 % 256 ∷ v / 16777216 % 256 ∷ []
+
+-- of eight bytes
+abbrev pub reversedEight : ℕ → List ℕ
+reversedEight v = reversed (v % 4294967296) ++ reversed (v / 4294967296)

@@ -7,7 +7,7 @@ ghost use Prim.Native.Nat.{_+_, _%_, _≤_, _<_};
 ghost use lib.ListN.{length, take, drop, replicate};
 ghost use Rattle.rfc3550.specs.Bytes.{be, store};
 ghost use Rattle.rfc3550.specs.Write.{paddingOk, paddingBytes};
-ghost use Rattle.utils.specs.Writer.{firstByte, header, reversed};
+ghost use Rattle.utils.specs.Writer.{firstByte, header, reversed, reversedEight};
 
 // The size of what was written, or why nothing was.
 pub enum Written {
@@ -87,41 +87,64 @@ pub fn write_fill_unchecked(buf: &mut [u8], at: usize, n: usize)
     buf[at + 3] = 0;
 }
 
-// The eight bytes of src from index k on, each laid as far behind index at as it stands in src. As one number: it is compiled to one
-// load and one store.
-fn copy_eight(buf: &mut [u8], at: usize, src: &[u8], k: usize)
-    requires { ⌜ (k + 8 ≤ length (now src)) × (at + length (now src) ≤ length (now buf)) ⌝ }
-    ensures { λ _. ⌜ now (buf .exit) ≡ store (at + k) (take 8 (drop k (now (src .entry)))) (now (buf .entry)) ⌝ }
+// The number of the eight bytes from index at on, the last of them first.
+fn reversed_eight(s: &[u8], at: usize) -> u64
+    requires { ⌜ at + 8 ≤ length (now s) ⌝ }
+    ensures { λ r. ⌜ reversedEight r ≡ take 8 (drop at (now (s .entry))) ⌝ }
 {
-    let v = parser::u64_from_be_bytes(src, k);
-    write_u64_unchecked(buf, at + k, v);
+    let low = parser::u32_from_le_bytes(s, at) as u64;
+    let high = parser::u32_from_le_bytes(s, at + 4) as u64;
+    low + high * 4294967296
 }
 
-// Four bytes as they were read, as copy_eight has eight.
-fn write_four(buf: &mut [u8], at: usize, v: u32)
-    requires { ⌜ at + 4 ≤ length (now buf) ⌝ }
-    ensures { λ _. ⌜ now (buf .exit) ≡ store at (be 4 v) (now (buf .entry)) ⌝ }
+fn write_reversed_eight(buf: &mut [u8], at: usize, v: u64)
+    requires { ⌜ at + 8 ≤ length (now buf) ⌝ }
+    ensures { λ _. ⌜ now (buf .exit) ≡ store at (reversedEight v) (now (buf .entry)) ⌝ }
 {
-    buf[at] = (v / 16777216 % 256) as u8;
-    buf[at + 1] = (v / 65536 % 256) as u8;
-    buf[at + 2] = (v / 256 % 256) as u8;
-    buf[at + 3] = (v % 256) as u8;
+    write_reversed(buf, at, (v % 4294967296) as u32);
+    write_reversed(buf, at + 4, (v / 4294967296) as u32);
 }
 
-fn copy_four(buf: &mut [u8], at: usize, src: &[u8], k: usize)
-    requires { ⌜ (k + 4 ≤ length (now src)) × (at + length (now src) ≤ length (now buf)) ⌝ }
-    ensures { λ _. ⌜ now (buf .exit) ≡ store (at + k) (take 4 (drop k (now (src .entry)))) (now (buf .entry)) ⌝ }
-{
-    let v = parser::u32_from_be_bytes(src, k);
-    write_four(buf, at + k, v);
-}
-
+// The two bytes of src from index k on, each laid as far behind index at as it stands in src.
 fn copy_two(buf: &mut [u8], at: usize, src: &[u8], k: usize)
     requires { ⌜ (k + 2 ≤ length (now src)) × (at + length (now src) ≤ length (now buf)) ⌝ }
     ensures { λ _. ⌜ now (buf .exit) ≡ store (at + k) (take 2 (drop k (now (src .entry)))) (now (buf .entry)) ⌝ }
 {
     let v = parser::u16_from_be_bytes(src, k);
     write_u16_unchecked(buf, at + k, v);
+}
+
+// Four of them, as one number: it is compiled to one load and one store.
+fn copy_four(buf: &mut [u8], at: usize, src: &[u8], k: usize)
+    requires { ⌜ (k + 4 ≤ length (now src)) × (at + length (now src) ≤ length (now buf)) ⌝ }
+    ensures { λ _. ⌜ now (buf .exit) ≡ store (at + k) (take 4 (drop k (now (src .entry)))) (now (buf .entry)) ⌝ }
+{
+    let v = parser::u32_from_le_bytes(src, k);
+    write_reversed(buf, at + k, v);
+}
+
+fn copy_eight(buf: &mut [u8], at: usize, src: &[u8], k: usize)
+    requires { ⌜ (k + 8 ≤ length (now src)) × (at + length (now src) ≤ length (now buf)) ⌝ }
+    ensures { λ _. ⌜ now (buf .exit) ≡ store (at + k) (take 8 (drop k (now (src .entry)))) (now (buf .entry)) ⌝ }
+{
+    let v = reversed_eight(src, k);
+    write_reversed_eight(buf, at + k, v);
+}
+
+fn copy_sixteen(buf: &mut [u8], at: usize, src: &[u8], k: usize)
+    requires { ⌜ (k + 16 ≤ length (now src)) × (at + length (now src) ≤ length (now buf)) ⌝ }
+    ensures { λ _. ⌜ now (buf .exit) ≡ store (at + k) (take 16 (drop k (now (src .entry)))) (now (buf .entry)) ⌝ }
+{
+    copy_eight(buf, at, src, k);
+    copy_eight(buf, at, src, k + 8);
+}
+
+fn copy_thirty_two(buf: &mut [u8], at: usize, src: &[u8], k: usize)
+    requires { ⌜ (k + 32 ≤ length (now src)) × (at + length (now src) ≤ length (now buf)) ⌝ }
+    ensures { λ _. ⌜ now (buf .exit) ≡ store (at + k) (take 32 (drop k (now (src .entry)))) (now (buf .entry)) ⌝ }
+{
+    copy_sixteen(buf, at, src, k);
+    copy_sixteen(buf, at, src, k + 16);
 }
 
 // Less than eight bytes: the first and the last four, or two, which may share some.
@@ -145,39 +168,38 @@ fn write_few(buf: &mut [u8], at: usize, src: &[u8])
     }
 }
 
-// The first eight bytes of eight or more, or the first sixteen of more than sixteen, and how many: most texts are short, and need no loop.
-fn write_first(buf: &mut [u8], at: usize, src: &[u8]) -> usize
-    requires { ⌜ (8 ≤ length (now src)) × (at + length (now src) ≤ length (now buf)) ⌝ }
-    ensures { λ r. ⌜ (r ≤ length (now (src .entry))) × (now (buf .exit) ≡ store at (take r (now (src .entry))) (now (buf .entry))) ⌝ }
-{
-    copy_eight(buf, at, src, 0);
-    if src.len() <= 16 {
-        return 8;
-    }
-    copy_eight(buf, at, src, 8);
-    16
-}
-
-// Eight bytes or more: by eights, and the last eight, which may share some with those before.
+// More than 32 bytes, and the last 32, which may share some with those before.
 fn write_many(buf: &mut [u8], at: usize, src: &[u8])
-    requires { ⌜ (8 ≤ length (now src)) × (at + length (now src) ≤ length (now buf)) ⌝ }
+    requires { ⌜ (32 ≤ length (now src)) × (at + length (now src) ≤ length (now buf)) ⌝ }
     ensures { λ _. ⌜ now (buf .exit) ≡ store at (now (src .entry)) (now (buf .entry)) ⌝ }
 {
     let n = src.len();
-    let mut k = write_first(buf, at, src);
-    while 8 < n - k {
-        copy_eight(buf, at, src, k);
-        k += 8;
+    let mut k: usize = 0;
+    while 32 < n - k {
+        copy_thirty_two(buf, at, src, k);
+        k += 32;
     }
-    copy_eight(buf, at, src, n - 8);
+    copy_thirty_two(buf, at, src, n - 32);
 }
 
+// Up to 32 bytes without a loop: most texts are short.
 pub fn write_bytes_unchecked(buf: &mut [u8], at: usize, src: &[u8])
     requires { ⌜ at + length (now src) ≤ length (now buf) ⌝ }
     ensures { λ _. ⌜ now (buf .exit) ≡ store at (now (src .entry)) (now (buf .entry)) ⌝ }
 {
-    if src.len() < 8 {
+    let n = src.len();
+    if n < 8 {
         write_few(buf, at, src);
+        return;
+    }
+    if n <= 16 {
+        copy_eight(buf, at, src, 0);
+        copy_eight(buf, at, src, n - 8);
+        return;
+    }
+    if n <= 32 {
+        copy_sixteen(buf, at, src, 0);
+        copy_sixteen(buf, at, src, n - 16);
         return;
     }
     write_many(buf, at, src);
@@ -225,5 +247,5 @@ pub fn check_padding(padding: u64) -> bool
     if padding % 4 != 0 {
         return false;
     }
-    padding <= 252
+    padding < 256
 }

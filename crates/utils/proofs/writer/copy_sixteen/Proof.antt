@@ -1,0 +1,12 @@
+use Rattle.utils.proofs.WriterCases.{writer, group-next}
+use Rattle.utils.proofs.writer.copy_sixteen.Statement.{statement}
+use Rattle.utils.proofs.writer.copy_sixteen.Tie as tie
+
+returns : tie.Need-returns
+returns c = search (writer, group-next 8)
+
+pub copy-sixteen-spec : {M : Type 1} → statement M
+copy-sixteen-spec {M} =
+    let answers = tie.spec {M = M}
+    (λ c κs. search writer) (λ c. search writer) (λ c κs. search writer) (λ c. search writer) returns in
+    tie.close answers
