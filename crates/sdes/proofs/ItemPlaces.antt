@@ -23,6 +23,7 @@ use Rattle.sdes_chunk.specs.declared.item.SdesItem.{SdesItem}
 use Rattle.sdes_chunk.specs.Item.{itemFirst, itemSize, itemEnd, stepEnd, valueOf, prefixLength}
 use Rattle.sdes_chunk.proofs.Answers.{rest-is}
 use Rattle.sdes_chunk.proofs.Items.{Steps, steps-not, steps}
+use Rattle.sdes_chunk.proofs.Walks.{step-some}
 use Rattle.sdes_chunk.proofs.Readings.{isPriv, item-in, item-length, item-rest, Placed, item-placed, chunk-in}
 use Rattle.sdes.specs.Sdes.{sdesView}
 use Rattle.sdes.proofs.Packets.{sdes-body, content-chunks}
@@ -75,32 +76,30 @@ row-zero s at n h e z = go (eqb (getD s at 0) 0) refl
         absurd (refused≢ok (sym (steps-not s at n e z (h .within) y) ∙ h .read y .1))
 
 module _ (s : List ℕ) (p : Place) (n : ℕ) (e : n ≡ stepEnd s (p .at)) (z : n ≡ 0 → ⊥) where
-  on : Steps s (p .at) n
-  on = steps s (p .at) n e z
+  over : Steps s (p .at) n
+  over = steps s (p .at) n e z
+
+  pub item-next : record { ssrc = p .ssrc; at = n } ≡ placeAfter s p
+  item-next = after-item s p n (over .item) (sym (ap (valueOr 0 (itemEnd (p .at))) (over .reads) ∙ over .end))
+
+  pub item-less : length s - n < length s - p .at
+  item-less = let w = over in omega (arith, w .end, w .inside)
+
+  pub item-stands : stepEnd s (p .at) ≡ 0 → ⊥
+  item-stands y = z (e ∙ y)
+
+module _ (s : List ℕ) (p : Place) (z : stepEnd s (p .at) ≡ 0 → ⊥) where
+  on : Steps s (p .at) (stepEnd s (p .at))
+  on = steps s (p .at) (stepEnd s (p .at)) refl z
 
   pub item-within : p .at ≤ length s
   item-within = let l = on .inside in omega arith
 
-  pub item-next : record { ssrc = p .ssrc; at = n } ≡ placeAfter s p
-  item-next = after-item s p n (on .item) (sym (ap (valueOr 0 (itemEnd (p .at))) (on .reads) ∙ on .end))
-
   pub item-bound : length s ≤ 262144 → p .at < 262144
   item-bound l = let w = on .inside in omega arith
 
-  pub item-ends : p .at ≤ n
-  item-ends = let w = on in omega (arith, w .end)
-
-  pub item-less : length s - n < length s - p .at
-  item-less = let w = on in omega (arith, w .end, w .inside)
-
-  pub item-size : n - p .at ≡ valueOr 0 itemSize (readItem (take (length s - p .at) (drop (p .at) s)))
-  item-size = go (on .read) (on .reads) (on .end)
-    where
-      go : (x : Item × List ℕ) → readItem (drop (p .at) s) ≡ ok x → itemEnd (p .at) x ≡ n → n - p .at ≡ valueOr 0 itemSize (readItem (take (length s - p .at) (drop (p .at) s)))
-      go x r m = rw (rest-is s (p .at), r) (omega arith)
-
-  pub item-some : n - p .at ≡ 0 → ⊥
-  item-some y = let w = on in absurd (omega (arith, w .end))
+  pub item-some : valueOr 0 itemSize (readItem (take (length s - p .at) (drop (p .at) s))) ≡ 0 → ⊥
+  item-some = step-some s (p .at) (stepEnd s (p .at)) refl z
 
   module _ (i : SdesItem) (f : ok i ≡ mapOk itemFirst (readItem (take (length s - p .at) (drop (p .at) s)))) where
     here : (x : Item × List ℕ) × (readItem (drop (p .at) s) ≡ ok x) × (itemFirst x ≡ i)

@@ -29,7 +29,7 @@ use Rattle.sdes.specs.declared.items.Row.{Row}
 use Rattle.sdes.specs.declared.items.Place.{Place}
 use Rattle.sdes.specs.ItemRows.{sdesRows}
 use Rattle.sdes.specs.ItemPlaces.{rowOf, chunkPlace, placeAfter, rowAt, HasRow, RowsAt, rowsFrom, Needed, RoomFor, LaidUpTo, ItemsLaid, AllLaid}
-use Rattle.sdes.proofs.ItemPlaces.{chunk-none, chunk-some, after-zero, after-item, after-less, row-end, row-zero, item-within, item-next, item-ends, item-less, item-size, item-some, row-length, row-plain, row-prefix, row-value, row-one, row-rest, row-rest-fits, row-priv, row-next, length-row, length-rows, after-more, rows-most, rows-one, Reads, packet-read, packet-most}
+use Rattle.sdes.proofs.ItemPlaces.{chunk-none, chunk-some, after-zero, after-item, after-less, row-end, row-zero, item-within, item-next, item-less, item-stands, item-some, row-length, row-plain, row-prefix, row-value, row-one, row-rest, row-rest-fits, row-priv, row-next, length-row, length-rows, after-more, rows-most, rows-one, Reads, packet-read, packet-most}
 
 -- ---- the count
 
@@ -258,4 +258,4 @@ module _ (s : List ℕ) (p : Sdes) (h : p ≡ valueOr noSdes sdesView (readAs SD
           let q = c .enough m in
           sym (laid ∙ in-room (sdesRows (found .0)) l r y (omega arith) ∙ ap (λ (xs : List ℕ). (ok r, store 0 xs l)) (sym (same (w .n) (w .rows))) ∙ ap (λ (k : List ℕ). (ok r, k)) (sym (w .laid)))
 
-pub ruleset rows = (needs, chunk-none, chunk-some, after-zero, after-less, row-end, row-zero, item-within, item-next, item-ends, item-less, item-size, item-some, row-length, row-plain, row-prefix, row-value, row-one, row-rest, row-rest-fits, row-priv, count-start, count-done, count-fits, count-has, count-again, room-sure, room-counted, row-laid, row-stored, row-ended, lay-left, lay-more, items-start, items-has, items-room, items-within, items-zero, items-again, chunk-laid, rows-start, rows-done, chunk-less, items-refused, items-inside, items-body, items-short, items-laid)
+pub ruleset rows = (needs, chunk-none, chunk-some, after-zero, after-less, row-end, row-zero, item-within, item-next, item-less, item-stands, item-some, row-length, row-plain, row-prefix, row-value, row-one, row-rest, row-rest-fits, row-priv, count-start, count-done, count-fits, count-has, count-again, room-sure, room-counted, row-laid, row-stored, row-ended, lay-left, lay-more, items-start, items-has, items-room, items-within, items-zero, items-again, chunk-laid, rows-start, rows-done, chunk-less, items-refused, items-inside, items-body, items-short, items-laid)

@@ -64,12 +64,12 @@ fn after(body: &[u8], place: Place) -> Place
 }
 
 // The row of an item, which is read from the part that starts with it.
-fn item_row(body: &[u8], place: Place, end: usize) -> Row
-    requires { ⌜ (length (now body) ≤ 262144) × (end ≡ stepEnd (now body) (place .at)) × (end ≡ 0 → ⊥) ⌝ }
+fn item_row(body: &[u8], place: Place) -> Row
+    requires { ⌜ (length (now body) ≤ 262144) × (stepEnd (now body) (place .at) ≡ 0 → ⊥) ⌝ }
     ensures { λ r. ⌜ rowOf r ≡ rowAt (now (body .entry)) place ⌝ }
 {
     let at = place.at;
-    let item = item::item_of_unchecked(&body[at..], end - at);
+    let item = item::item_of_unchecked(&body[at..]);
     let type_ = item.type_;
     let length = item.length;
     if type_ != SdesItem::PRIV {
@@ -166,7 +166,7 @@ fn lay_items(body: &[u8], first: Place, rows: &mut [u32], from: usize) -> Next
                 i,
             };
         }
-        let row = item_row(body, Place { ssrc, at }, end);
+        let row = item_row(body, Place { ssrc, at });
         write_row(rows, i, row);
         at = end;
         i += ITEM_ROW;

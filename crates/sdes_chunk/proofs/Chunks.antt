@@ -1,5 +1,5 @@
 -- The turns over a chunk's items and over its closing zeros, and the chunk.
-use Prim.Native.Nat.{ℕ, zero, suc, _+_, _-_, _%_, _^_, _<_, _≤_}
+use Prim.Native.Nat.{ℕ, zero, suc, _+_, _-_, _*_, _/_, _%_, _^_, _<_, _≤_}
 use mathlib.Core.Path.{_≡_, refl, sym, ap, _∙_, subst}
 use mathlib.Core.Logic.{_≢_, _↔_}
 use mathlib.Core.Bool.{Bool, true, false, _&&_, _||_}
@@ -16,7 +16,7 @@ use Rattle.rfc3550.specs.Answer.{Refusal, refusal, Answer, ok, refused, refuse,
 use Rattle.rfc3550.specs.Bytes.{val}
 use Rattle.rfc3550.specs.Packet.{Item, itemType, itemRest, itemBytes, itemsBytes, isCname, some, Chunk, chunkBytes, chunkHasCname, fill}
 use Rattle.rfc3550.specs.Read.{readItem, readFill, readItems, readChunk}
-use Rattle.rfc3550.proofs.Answer.{mapOk-inv, need-inv, bind-elim, ok-injective, true≢false}
+use Rattle.rfc3550.proofs.Answer.{mapOk-inv, need-inv, bind-elim, ok-injective, refused≢ok, true≢false}
 use Rattle.rfc3550.proofs.Bytes.{length-be}
 use Rattle.utils.specs.Error.{refusalIn, valueOr}
 use Rattle.utils.proofs.Values.{value-came, value-is, none-came, none-is}
@@ -24,29 +24,32 @@ use Rattle.sdes_chunk.specs.declared.chunk.SdesChunk.{SdesChunk}
 use Rattle.sdes_chunk.specs.declared.chunk.ChunkEnd.{ChunkEnd}
 use Rattle.sdes_chunk.specs.declared.chunk.Chunks.{Chunks}
 use Rattle.sdes_chunk.specs.Item.{itemEnd, stepEnd}
-use Rattle.sdes_chunk.specs.Chunk.{cnamePlace, chunkView, chunkFirst, noChunk, zeroAt, firstPlace, firstCname, boundary, filled, chunkEnd, noEnd, closedAt, closing, ItemsEnd, ZerosEnd, chunksFrom}
+use Rattle.sdes_chunk.specs.Chunk.{cnamePlace, chunkView, chunkFirst, noChunk, zeroAt, firstPlace, firstCname, boundary, filled, chunkEnd, noEnd, closedAt, closing, filledEnd, ItemsEnd, ZerosEnd, chunksFrom}
 use Rattle.sdes_chunk.proofs.Answers.{rest-is, map-ok, map-refused, map-refusal, map-same, map-bind}
-use Rattle.sdes_chunk.proofs.Items.{Steps, steps-not, steps}
+use Rattle.sdes_chunk.proofs.Items.{Steps, steps-not, steps, end-last}
 use Rattle.sdes_chunk.proofs.Readings.{item-in, item-length, item-rest, chunk-in}
 
 abbrev ends : ℕ → List ℕ → Answer ChunkEnd
 ends known s = mapOk (chunkEnd known) (readChunk s)
 
+pub boundary-is : (at : ℕ) → at / 4 * 4 + 4 ≡ at + fill at
+boundary-is at = omega arith
+
 -- ---- the first CNAME
-
-pub cname-known : (cname at t n : ℕ) → (cname ≡ 0 → ⊥) → cname ≡ firstCname cname at t n
-cname-known zero at t n h = absurd (h refl)
-cname-known (suc c) at t n h = refl
-
-pub cname-here : (cname at t n : ℕ) (b : Bool) → cname ≡ 0 → b ≡ isCname t n → b ≡ true → at ≡ firstCname cname at t n
-cname-here cname at t n b z e h = rw (z, ← e, h)
-
-pub cname-none : (cname at t n : ℕ) (b : Bool) → cname ≡ 0 → b ≡ isCname t n → b ≡ false → 0 ≡ firstCname cname at t n
-cname-none cname at t n b z e h = rw (z, ← e, h)
 
 first-none : (cname : ℕ) → firstPlace cname 0 ≡ cname
 first-none zero = refl
 first-none (suc c) = refl
+
+pub cname-known : (cname at t n : ℕ) (b : Bool) → (cname ≡ 0 → ⊥) → b ≡ isCname t n → b ≡ true → cname ≡ firstCname cname at t n
+cname-known zero at t n b h e k = absurd (h refl)
+cname-known (suc c) at t n b h e k = refl
+
+pub cname-here : (cname at t n : ℕ) (b : Bool) → cname ≡ 0 → b ≡ isCname t n → b ≡ true → at ≡ firstCname cname at t n
+cname-here cname at t n b z e h = rw (z, ← e, h)
+
+pub cname-none : (cname at t n : ℕ) (b : Bool) → b ≡ isCname t n → b ≡ false → cname ≡ firstCname cname at t n
+cname-none cname at t n b e h = rw (← e, h) (sym (first-none cname))
 
 -- one item in front: a place is not 0
 first-step : (cname at p : ℕ) (b : Bool) → 0 < at → firstPlace cname (pick b at p) ≡ firstPlace (firstPlace cname (pick b at 0)) p
@@ -186,7 +189,7 @@ module _ (s : List ℕ) (known at cname : ℕ) (g : Going s known at cname) wher
       go (suc t) m = items-refused₁ t s at cname l z _ e
 
   module _ (n : ℕ) (h : n ≡ stepEnd s at) where
-    pub items-stop : (b : Bool) → n ≡ 0 → b ≡ zeroAt s at → ItemsEnd s known at cname b
+    items-stop : (b : Bool) → n ≡ 0 → b ≡ zeroAt s at → ItemsEnd s known at cname b
     items-stop b e q = subst (ItemsEnd s known at cname) (sym q) (go (ltb at (length s)) (eqb (getD s at 0) 0) refl refl)
       where
         go : (x y : Bool) → ltb at (length s) ≡ x → eqb (getD s at 0) 0 ≡ y → ItemsEnd s known at cname (x && y)
@@ -196,6 +199,10 @@ module _ (s : List ℕ) (known at cname : ℕ) (g : Going s known at cname) wher
             let l = ltb-true at (length s) f in
             let z = eqb-false (getD s at 0) 0 k in
             items-refused l z (steps-not s at n h e l z)
+
+    -- where two bytes are left
+    pub items-halt : (b : Bool) → n ≡ 0 → 4 ≤ length s → at ≤ length s - 2 → b ≡ eqb (getD s at 0) 0 → ItemsEnd s known at cname b
+    items-halt b e l k q = items-stop b e (zero-inside s at b (omega arith) q)
 
     module _ (p : n ≡ 0 → ⊥) where
       on : Steps s at n
@@ -236,6 +243,10 @@ module _ (s : List ℕ) (known at cname : ℕ) (g : Going s known at cname) wher
                 within = w .1;
                 same = rw (k, ← m) (d ∙ items-again₁ t s at cname items-inside (on .item) x (omega (arith, g .start)) r);
               }
+
+  -- where a single byte is left, or none
+  pub items-rest : (b : Bool) → length s - 2 < at → b ≡ zeroAt s at → ItemsEnd s known at cname b
+  items-rest b l q = items-stop 0 (end-last s at l) b refl q
 
 -- ---- the turns over the closing zeros
 
@@ -313,6 +324,82 @@ module _ (s : List ℕ) (from end at : ℕ) (g : Closing s from end at) where
   pub zeros-all : end ≤ at → closes s from ≡ filled end at
   zeros-all l = rw (le-ltb at end l) (sym (zeros-done s from end at g l))
 
+-- ---- whether they stand up to the boundary
+
+module _ (s : List ℕ) (from end : ℕ) where
+  answer-filled : (at : ℕ) → closes s from ≡ filled end at → pick (ltb at end) 0 end ≡ filledEnd s from
+  unfolding mapOk
+  answer-filled at e = go (ltb at end) (readFill (fill from) from (drop from s)) e
+    where
+      go : (b : Bool) (m : Answer (List ℕ)) → mapOk (boundary from) m ≡ pick b (refuse 2 end at) (ok end) → pick b 0 end ≡ valueOr 0 (boundary from) m
+      go true (ok r) e = absurd (refused≢ok (sym e))
+      go true (refused r) e = refl
+      go false (ok r) e = sym (ok-injective e)
+      go false (refused r) e = absurd (refused≢ok e)
+
+  module _ (l : end ≤ length s) (at : ℕ) (g : Closing s from end at) where
+    all : at ≡ end → pick true end 0 ≡ filledEnd s from
+    all e = rw (le-ltb at end (omega arith)) at (answer-filled at (zeros-all s from end at g (omega arith)))
+
+    module _ (n : at ≡ end → ⊥) where
+      before : (at < end) × (at < length s)
+      before = omega (arith, g .before)
+
+      one-not : (getD s at 0 ≡ 0 → ⊥) → pick false end 0 ≡ filledEnd s from
+      one-not z = rw (lt-ltb at end (before .0)) at (answer-filled at (zeros-stop s from end at g (before .0) (before .1) z))
+
+      more : getD s at 0 ≡ 0 → Closing s from end (at + 1)
+      more z = zeros-more s from end at g (before .0) (before .1) z
+
+  -- the four bytes one after the other
+  module _ (z : getD s from 0 ≡ 0) (e : end ≡ from + fill from) (l : end ≤ length s) where
+    g₁ : Closing s from end (from + 1)
+    g₁ = zeros-behind s from end (omega arith) z e
+
+    pub filled-one : from + 1 ≡ end → pick true end 0 ≡ filledEnd s from
+    filled-one = all l (from + 1) g₁
+
+    module _ (n₁ : from + 1 ≡ end → ⊥) where
+      pub second-inside : from + 1 < length s
+      second-inside = before l (from + 1) g₁ n₁ .1
+
+      pub second-not : (getD s (from + 1) 0 ≡ 0 → ⊥) → pick false end 0 ≡ filledEnd s from
+      second-not = one-not l (from + 1) g₁ n₁
+
+      module _ (z₁ : getD s (from + 1) 0 ≡ 0) where
+        g₂ : Closing s from end (from + 1 + 1)
+        g₂ = more l (from + 1) g₁ n₁ z₁
+
+        pub filled-two : from + 1 + 1 ≡ end → pick true end 0 ≡ filledEnd s from
+        filled-two = all l (from + 1 + 1) g₂
+
+        module _ (n₂ : from + 1 + 1 ≡ end → ⊥) where
+          pub third-inside : from + 1 + 1 < length s
+          third-inside = before l (from + 1 + 1) g₂ n₂ .1
+
+          pub third-not : (getD s (from + 1 + 1) 0 ≡ 0 → ⊥) → pick false end 0 ≡ filledEnd s from
+          third-not = one-not l (from + 1 + 1) g₂ n₂
+
+          module _ (z₂ : getD s (from + 1 + 1) 0 ≡ 0) where
+            g₃ : Closing s from end (from + 1 + 1 + 1)
+            g₃ = more l (from + 1 + 1) g₂ n₂ z₂
+
+            pub filled-three : from + 1 + 1 + 1 ≡ end → pick true end 0 ≡ filledEnd s from
+            filled-three = all l (from + 1 + 1 + 1) g₃
+
+            module _ (n₃ : from + 1 + 1 + 1 ≡ end → ⊥) where
+              pub fourth-inside : from + 1 + 1 + 1 < length s
+              fourth-inside = before l (from + 1 + 1 + 1) g₃ n₃ .1
+
+              pub filled-last : (b : Bool) → b ≡ eqb (getD s (from + 1 + 1 + 1) 0) 0 → pick b end 0 ≡ filledEnd s from
+              filled-last b q = rw q (go (eqb (getD s (from + 1 + 1 + 1) 0) 0) refl)
+                where
+                  go : (t : Bool) → eqb (getD s (from + 1 + 1 + 1) 0) 0 ≡ t → pick t end 0 ≡ filledEnd s from
+                  go true y =
+                      all l (from + 1 + 1 + 1 + 1) (more l (from + 1 + 1 + 1) g₃ n₃ (eqb-true (getD s (from + 1 + 1 + 1) 0) 0 y))
+                      (omega (arith, before l (from + 1 + 1 + 1) g₃ n₃ .0))
+                  go false y = one-not l (from + 1 + 1 + 1) g₃ n₃ (eqb-false (getD s (from + 1 + 1 + 1) 0) 0 y)
+
 -- bytes that end before the boundary
 fill-short : (k at : ℕ) (s : List ℕ) → length s < k → (r : Refusal) × (readFill k at s ≡ refused r)
 unfolding readFill
@@ -327,8 +414,16 @@ short : (s : List ℕ) → length s < 4 → readChunk s ≡ refuse 2 4 (length s
 unfolding readChunk need _>>_
 short s h = rw (lt-leb 4 (length s) h)
 
-pub none-short : (s : List ℕ) (known : ℕ) (c : ChunkEnd) → c ≡ noEnd → length s < 4 → c ≡ valueOr noEnd (chunkEnd known) (readChunk s)
-none-short s known c q h = q ∙ sym (ap (valueOr noEnd (chunkEnd known)) (short s h))
+-- an SSRC and a word of zeros
+least-long : (s : List ℕ) {x : Chunk × List ℕ} → readChunk s ≡ ok x → 8 ≤ length s
+least-long s {x} e = omega (arith, chunk-size (x .0), chunk-in s e .size)
+
+pub none-short : (s : List ℕ) (known : ℕ) (c : ChunkEnd) → c ≡ noEnd → length s < 8 → c ≡ valueOr noEnd (chunkEnd known) (readChunk s)
+none-short s known c q h = q ∙ go (readChunk s) refl
+  where
+    go : (m : Answer (Chunk × List ℕ)) → readChunk s ≡ m → noEnd ≡ valueOr noEnd (chunkEnd known) m
+    go (ok x) e = absurd (omega (arith, least-long s e))
+    go (refused r) e = refl
 
 pub why-short : (s : List ℕ) → length s < 4 → refusal 2 4 (length s) ≡ refusalIn (readChunk s)
 why-short s h = sym (ap refusalIn (short s h))
@@ -376,28 +471,30 @@ module _ (s : List ℕ) (known at cname : ℕ) (b : Bool) (h : ItemsEnd s known 
         let w = fill-short (fill at) at (drop at s) (rw length-drop (omega arith)) in
         q ∙ seen-none known (readChunk s) _ (sym (map-refused (closedAt at cname) (readFill (fill at) at (drop at s)) (w .1)) ∙ shut) .0
 
+    -- zeros stand up to the boundary
+    closed-up : {end : ℕ} → (x : List ℕ) × (readFill (fill at) at (drop at s) ≡ ok x) × (boundary at x ≡ end) → ok (record { length = end; cname = cname }) ≡ ends known s
+    closed-up w = rw (← w .2) (sym (map-ok (closedAt at cname) (readFill (fill at) at (drop at s)) (w .1)) ∙ shut)
+
     module _ (end r : ℕ) (f : ZerosEnd s at end r) where
       stops : r < end → refused (refusal 2 end r) ≡ ends known s
       stops l =
           let w : readFill (fill at) at (drop at s) ≡ refused (refusal 2 end r) = map-refusal (boundary at) (readFill (fill at) at (drop at s)) (refusal 2 end r) (sym (rw (lt-ltb r end l) at (f .closes))) in
           sym (map-refused (closedAt at cname) (readFill (fill at) at (drop at s)) w) ∙ shut
 
-      pub none-zeros : (c : ChunkEnd) → c ≡ noEnd → r < end → c ≡ valueOr noEnd (chunkEnd known) (readChunk s)
-      none-zeros c q l = q ∙ seen-none known (readChunk s) _ (stops l) .0
-
       pub why-zeros : (r ≡ end → ⊥) → refusal 2 end r ≡ refusalIn (readChunk s)
       why-zeros n = seen-none known (readChunk s) _ (stops (omega (arith, f .below))) .1
 
-      filled-up : end ≤ r → ok (record { length = end; cname = cname }) ≡ ends known s
-      filled-up l =
-          let w = mapOk-inv (boundary at) (readFill (fill at) at (drop at s)) (rw (le-ltb r end l) at (f .closes)) in
-          rw (← w .2) (sym (map-ok (closedAt at cname) (readFill (fill at) at (drop at s)) (w .1)) ∙ shut)
-
-      pub chunk-ends : end ≤ r → record { length = end; cname = cname } ≡ valueOr noEnd (chunkEnd known) (readChunk s)
-      chunk-ends l = seen-read known (readChunk s) _ (filled-up l) .0
-
       pub why-read : r ≡ end → refusal 25 0 0 ≡ refusalIn (readChunk s)
-      why-read e = seen-read known (readChunk s) _ (filled-up (omega arith)) .1
+      why-read e = seen-read known (readChunk s) _ (closed-up (mapOk-inv (boundary at) (readFill (fill at) at (drop at s)) (rw (le-ltb r end (omega arith)) at (f .closes)))) .1
+
+    module _ (end : ℕ) (t : Bool) (f : pick t end 0 ≡ filledEnd s at) (y : end ≡ at + fill at) where
+      pub none-zeros : (c : ChunkEnd) → c ≡ noEnd → t ≡ false → c ≡ valueOr noEnd (chunkEnd known) (readChunk s)
+      none-zeros c q n =
+          let w = none-came 0 (boundary at) (λ n. n) refl (λ r. omega arith) (readFill (fill at) at (drop at s)) 0 (rw n at f) refl in
+          q ∙ seen-none known (readChunk s) _ (sym (map-refused (closedAt at cname) (readFill (fill at) at (drop at s)) w) ∙ shut) .0
+
+      pub chunk-ends : t ≡ true → record { length = end; cname = cname } ≡ valueOr noEnd (chunkEnd known) (readChunk s)
+      chunk-ends n = seen-read known (readChunk s) _ (closed-up (value-came 0 (boundary at) (λ n. n) refl (readFill (fill at) at (drop at s)) end (rw n at f) (λ z. absurd (omega arith)))) .0
 
 -- ---- chunks one after the other
 
@@ -515,4 +612,4 @@ module _ (s : List ℕ) (c : SdesChunk) (h : c ≡ valueOr noChunk chunkFirst (r
   pub chunk-parsed : (c .length ≡ 0 → ⊥) → ok c ≡ mapOk chunkFirst (readChunk s)
   chunk-parsed z = value-is noChunk chunkFirst (λ c. c .length) refl (readChunk s) c h z
 
-pub ruleset chunks = (needs, not-true, not-false, cname-known, cname-here, cname-none, zero-behind, zero-inside, items-start, items-stop, items-inside, items-after, items-two, items-less, items-again, zeros-behind, zeros-below, zeros-short, zeros-stop, zeros-more, zeros-all, chunk-within, chunk-inside, chunk-zero, none-short, why-short, none-open, none-cut, why-ended, why-item, none-zeros, why-zeros, chunk-ends, why-read, run-start, run-inside, run-done, run-refused, run-fits, run-again, lone-refused, lone-long, lone-read, chunk-refused, chunk-parsed)
+pub ruleset chunks = (needs, not-true, not-false, boundary-is, cname-known, cname-here, cname-none, zero-behind, zero-inside, items-start, items-halt, items-rest, items-inside, items-after, items-two, items-less, items-again, zeros-behind, zeros-below, zeros-short, zeros-stop, zeros-more, zeros-all, filled-one, second-inside, second-not, filled-two, third-inside, third-not, filled-three, fourth-inside, filled-last, chunk-within, chunk-inside, chunk-zero, none-short, why-short, none-open, none-cut, why-ended, why-item, none-zeros, why-zeros, chunk-ends, why-read, run-start, run-inside, run-done, run-refused, run-fits, run-again, lone-refused, lone-long, lone-read, chunk-refused, chunk-parsed)

@@ -18,7 +18,7 @@ use Rattle.utils.specs.declared.error.Code.{Code}
 use Rattle.utils.specs.Error.{codeRefusal, refusalIn, valueOr}
 use Rattle.utils.proofs.Values.{value-came, none-came, none-is}
 use Rattle.sdes_chunk.specs.declared.item.SdesItem.{SdesItem}
-use Rattle.sdes_chunk.specs.Item.{itemView, itemFirst, itemSize, itemEnd, stepEnd, valueOf, valueStart, valueLen, prefixIn, answerOf}
+use Rattle.sdes_chunk.specs.Item.{itemView, itemFirst, itemSize, itemEnd, readEnd, stepEnd, valueOf, valueStart, valueLen, prefixIn, answerOf}
 use Rattle.sdes_chunk.proofs.Answers.{rest-is, map-ok}
 use Rattle.sdes_chunk.proofs.Readings.{isPriv, item-in, item-length, item-placed, prefix-not, prefix-length, prefix-taken}
 
@@ -83,47 +83,89 @@ whole (t ∷ suc m ∷ b ∷ s) n p l e h q z r k =
 
 -- ---- the number, and why it is 0
 
-read-size : (s : List ℕ) (n : ℕ) → Read s n → n ≡ size s
-read-size s n w = sym (ap (valueOr 0 itemSize) (w .1) ∙ w .2)
-
 read-why : (s : List ℕ) (n : ℕ) → Read s n → refusal 25 0 0 ≡ why s
 read-why s n w = sym (ap refusalIn (w .1))
-
-pub size-short : (s : List ℕ) → length s < 2 → 0 ≡ size s
-size-short s h = sym (ap (valueOr 0 itemSize) (short s h))
 
 pub why-short : (s : List ℕ) → length s < 2 → refusal 2 4 (length s) ≡ why s
 why-short s h = sym (ap refusalIn (short s h))
 
-pub size-past : (s : List ℕ) (n : ℕ) → 2 ≤ length s → n ≡ getD s 1 0 → length s - 2 < n → 0 ≡ size s
-size-past s n l e h = sym (ap (valueOr 0 itemSize) (past s n l e h))
+module _ (s : List ℕ) (n : ℕ) (l : 2 ≤ length s) (e : n ≡ getD s 1 0) where
+  pub why-past : length s - 2 < n → refusal 2 (2 + n) (length s) ≡ why s
+  why-past h = sym (ap refusalIn (past s n l e h))
 
-pub why-past : (s : List ℕ) (n : ℕ) → 2 ≤ length s → n ≡ getD s 1 0 → length s - 2 < n → refusal 2 (2 + n) (length s) ≡ why s
-why-past s n l e h = sym (ap refusalIn (past s n l e h))
+  module _ (h : n ≤ length s - 2) where
+    pub why-plain : (getD s 0 0 ≡ 8 → ⊥) → refusal 25 0 0 ≡ why s
+    why-plain q = read-why s _ (plain s n l e h q)
 
-pub size-plain : (s : List ℕ) (n : ℕ) → 2 ≤ length s → n ≡ getD s 1 0 → n ≤ length s - 2 → (getD s 0 0 ≡ 8 → ⊥) → 2 + n ≡ size s
-size-plain s n l e h q = read-size s _ (plain s n l e h q)
+    module _ (q : getD s 0 0 ≡ 8) where
+      pub why-empty : n ≡ 0 → refusal 2 3 2 ≡ why s
+      why-empty z = sym (ap refusalIn (empty s n l e h q z))
 
-pub why-plain : (s : List ℕ) (n : ℕ) → 2 ≤ length s → n ≡ getD s 1 0 → n ≤ length s - 2 → (getD s 0 0 ≡ 8 → ⊥) → refusal 25 0 0 ≡ why s
-why-plain s n l e h q = read-why s _ (plain s n l e h q)
+      module _ (z : n ≡ 0 → ⊥) (p : ℕ) (r : p ≡ getD s 2 0) where
+        pub why-over : n - 1 < p → refusal 5 p (n - 1) ≡ why s
+        why-over k = sym (ap refusalIn (over s n p l e h q z r k))
 
-pub size-empty : (s : List ℕ) (n : ℕ) → 2 ≤ length s → n ≡ getD s 1 0 → n ≤ length s - 2 → getD s 0 0 ≡ 8 → n ≡ 0 → 0 ≡ size s
-size-empty s n l e h q z = sym (ap (valueOr 0 itemSize) (empty s n l e h q z))
+        pub why-whole : p ≤ n - 1 → refusal 25 0 0 ≡ why s
+        why-whole k = read-why s _ (whole s n p l e h q z r k)
 
-pub why-empty : (s : List ℕ) (n : ℕ) → 2 ≤ length s → n ≡ getD s 1 0 → n ≤ length s - 2 → getD s 0 0 ≡ 8 → n ≡ 0 → refusal 2 3 2 ≡ why s
-why-empty s n l e h q z = sym (ap refusalIn (empty s n l e h q z))
+-- the end of the item at a place, which is read from the part that starts with it
+module _ (s : List ℕ) (at : ℕ) (l : at + 2 ≤ length s) where
+  abbrev rest : List ℕ
+  rest = take (length s - at) (drop at s)
 
-pub size-over : (s : List ℕ) (n p : ℕ) → 2 ≤ length s → n ≡ getD s 1 0 → n ≤ length s - 2 → getD s 0 0 ≡ 8 → (n ≡ 0 → ⊥) → p ≡ getD s 2 0 → n - 1 < p → 0 ≡ size s
-size-over s n p l e h q z r k = sym (ap (valueOr 0 itemSize) (over s n p l e h q z r k))
+  two : 2 ≤ length (drop at s)
+  two = rw length-drop (omega arith)
 
-pub why-over : (s : List ℕ) (n p : ℕ) → 2 ≤ length s → n ≡ getD s 1 0 → n ≤ length s - 2 → getD s 0 0 ≡ 8 → (n ≡ 0 → ⊥) → p ≡ getD s 2 0 → n - 1 < p → refusal 5 p (n - 1) ≡ why s
-why-over s n p l e h q z r k = sym (ap refusalIn (over s n p l e h q z r k))
+  no-end : (r : Refusal) → readItem (drop at s) ≡ refused r → 0 ≡ readEnd s at
+  no-end r w = sym (ap (valueOr 0 (itemEnd at)) w)
 
-pub size-whole : (s : List ℕ) (n p : ℕ) → 2 ≤ length s → n ≡ getD s 1 0 → n ≤ length s - 2 → getD s 0 0 ≡ 8 → (n ≡ 0 → ⊥) → p ≡ getD s 2 0 → p ≤ n - 1 → 2 + n ≡ size s
-size-whole s n p l e h q z r k = read-size s _ (whole s n p l e h q z r k)
+  read-end : (n : ℕ) → Read (drop at s) (2 + n) → at + 2 + n ≡ readEnd s at
+  read-end n w = sym (ap (valueOr 0 (itemEnd at)) (w .1) ∙ ap (λ (k : ℕ). at + k) (w .2) ∙ omega arith)
 
-pub why-whole : (s : List ℕ) (n p : ℕ) → 2 ≤ length s → n ≡ getD s 1 0 → n ≤ length s - 2 → getD s 0 0 ≡ 8 → (n ≡ 0 → ⊥) → p ≡ getD s 2 0 → p ≤ n - 1 → refusal 25 0 0 ≡ why s
-why-whole s n p l e h q z r k = read-why s _ (whole s n p l e h q z r k)
+  module _ (n : ℕ) (e : n ≡ getD rest 1 0) where
+    length-here : n ≡ getD (drop at s) 1 0
+    length-here = e ∙ ap (λ (r : List ℕ). getD r 1 0) (rest-is s at)
+
+    pub end-past : length s < at + 2 + n → 0 ≡ readEnd s at
+    end-past h = no-end _ (past (drop at s) n two length-here (rw length-drop (omega arith)))
+
+    module _ (h : at + 2 + n ≤ length s) where
+      fits : n ≤ length (drop at s) - 2
+      fits = rw length-drop (omega arith)
+
+      pub end-plain : (getD rest 0 0 ≡ 8 → ⊥) → at + 2 + n ≡ readEnd s at
+      end-plain q = read-end n (plain (drop at s) n two length-here fits (rw rest-is at q))
+
+      module _ (q : getD rest 0 0 ≡ 8) where
+        type-here : getD (drop at s) 0 0 ≡ 8
+        type-here = rw rest-is at q
+
+        pub end-empty : n ≡ 0 → 0 ≡ readEnd s at
+        end-empty z = no-end _ (empty (drop at s) n two length-here fits type-here z)
+
+        module _ (z : n ≡ 0 → ⊥) where
+          pub end-third : 2 < length rest
+          end-third = rw (rest-is, length-drop) (omega arith)
+
+          module _ (p : ℕ) (r : p ≡ getD rest 2 0) where
+            prefix-here : p ≡ getD (drop at s) 2 0
+            prefix-here = r ∙ ap (λ (r : List ℕ). getD r 2 0) (rest-is s at)
+
+            pub end-over : n - 1 < p → 0 ≡ readEnd s at
+            end-over k = no-end _ (over (drop at s) n p two length-here fits type-here z prefix-here k)
+
+            pub end-whole : p ≤ n - 1 → at + 2 + n ≡ readEnd s at
+            end-whole k = read-end n (whole (drop at s) n p two length-here fits type-here z prefix-here k)
+
+pub size-short : (s : List ℕ) → length s < 2 → 0 ≡ size s
+size-short s h = sym (ap (valueOr 0 itemSize) (short s h))
+
+pub size-end : (s : List ℕ) (n : ℕ) → n ≡ readEnd s 0 → n ≡ size s
+size-end s n h = h ∙ go (readItem s)
+  where
+    go : (m : Answer (Item × List ℕ)) → valueOr 0 (itemEnd 0) m ≡ valueOr 0 itemSize m
+    go (ok x) = omega arith
+    go (refused r) = refl
 
 -- ---- the step over an item
 
@@ -159,26 +201,13 @@ module _ (s : List ℕ) (at : ℕ) where
           go (ok x) = refl
           go (refused r) = refl
 
-      module _ (n : ℕ) (h : n ≡ size (take (length s - at) (drop at s))) where
-        here : n ≡ size (drop at s)
-        here = h ∙ ap size (rest-is s at)
-
-        pub end-refused : n ≡ 0 → 0 ≡ stepEnd s at
-        unfolding _>>=_
-        end-refused y =
-            let w = none-came 0 itemSize (λ n. n) refl (λ x. omega arith) (readItem (drop at s)) n here y in
-            rw (step-is, w)
-
-        module _ (y : n ≡ 0 → ⊥) where
-          read-here : Read (drop at s) n
-          read-here = value-came 0 itemSize (λ n. n) refl (readItem (drop at s)) n here y
-
-          pub end-fits : length s < 2 ^ 64 → at + n < 2 ^ 64
-          end-fits l = let w = read-here in omega (arith, w .2, item-length (drop at s) (w .1), length-drop at s)
-
-          pub end-is : at + n ≡ stepEnd s at
-          unfolding _>>=_
-          end-is = let w = read-here in rw (step-is, w .1) (ap (λ (n : ℕ). at + n) (sym (w .2)))
+      pub end-is : readEnd s at ≡ stepEnd s at
+      unfolding _>>=_
+      end-is = go (readItem (drop at s)) ∙ sym (ap (valueOr 0 (λ (x : Item × ℕ). x .1)) step-is)
+        where
+          go : (m : Answer (Item × List ℕ)) → valueOr 0 (itemEnd at) m ≡ valueOr 0 (λ (x : Item × ℕ). x .1) (_>>=_ {B = Item × ℕ} m (λ x. ok (x .0, itemEnd at x)))
+          go (ok x) = refl
+          go (refused r) = refl
 
   -- what the number says: an item stands there, or none, or one that is refused
   pub record Steps (n : ℕ) : Type 0 where
@@ -187,6 +216,30 @@ module _ (s : List ℕ) (at : ℕ) where
     pub read : Item × List ℕ
     pub reads : readItem (drop at s) ≡ ok read
     pub end : itemEnd at read ≡ n
+
+  -- a single byte is no item, and neither is none
+  end-one : length s < at + 2 → 0 ≡ stepEnd s at
+  end-one h = go (ltb at (length s)) (eqb (getD s at 0) 0) refl refl
+    where
+      go : (a b : Bool) → ltb at (length s) ≡ a → eqb (getD s at 0) 0 ≡ b → 0 ≡ stepEnd s at
+      go false b f g = end-none (ltb-false at (length s) f)
+      go true true f g = end-zero (ltb-true at (length s) f) (eqb-true (getD s at 0) 0 g)
+      go true false f g =
+          let l = ltb-true at (length s) f in
+          sym (ap (valueOr 0 (itemEnd at)) (short (drop at s) (rw length-drop (omega arith)))) ∙ end-is l (eqb-false (getD s at 0) 0 g)
+
+  pub end-few : length s < 2 → 0 ≡ stepEnd s at
+  end-few h = end-one (omega arith)
+
+  pub end-last : length s - 2 < at → 0 ≡ stepEnd s at
+  end-last h = end-one (omega arith)
+
+  module _ (h : 2 ≤ length s) (k : at ≤ length s - 2) where
+    pub end-stop : getD s at 0 ≡ 0 → 0 ≡ stepEnd s at
+    end-stop z = end-zero (omega arith) z
+
+    pub end-goes : (n : ℕ) → (getD s at 0 ≡ 0 → ⊥) → n ≡ readEnd s at → n ≡ stepEnd s at
+    end-goes n z q = q ∙ end-is (omega arith) z
 
   module _ (n : ℕ) (h : n ≡ stepEnd s at) where
     pub steps-not : n ≡ 0 → at < length s → (getD s at 0 ≡ 0 → ⊥) → readItem (drop at s) ≡ refused (why (drop at s))
@@ -218,53 +271,44 @@ module _ (s : List ℕ) (at : ℕ) where
 
 -- ---- the item, from its size
 
-plain-view : (i : Item) (r s : List ℕ) (n : ℕ) → itemBytes i ++ r ≡ s → length (itemBytes i) ≡ n → (getD s 0 0 ≡ 8 → ⊥)
-    → record { «type_» = getD s 0 0; length = n - 2; «prefix_len» = 0 } ≡ itemView i
-plain-view (item t v) r s n g e h =
-    let m : n - 2 ≡ length v = omega arith in
-    let k : getD s 0 0 ≡ t = ap (λ (s : List ℕ). getD s 0 0) (sym g) in
-    rw (m, k)
-plain-view (priv p v) r s n g e h = absurd (h (ap (λ (s : List ℕ). getD s 0 0) (sym g)))
+plain-view : (i : Item) (r s : List ℕ) → itemBytes i ++ r ≡ s → (getD s 0 0 ≡ 8 → ⊥) → record { «type_» = getD s 0 0; length = getD s 1 0; «prefix_len» = 0 } ≡ itemView i
+plain-view (item t v) r s g h = rw (← g)
+plain-view (priv p v) r s g h = absurd (h (ap (λ (s : List ℕ). getD s 0 0) (sym g)))
 
-priv-view : (i : Item) (r s : List ℕ) (n : ℕ) → itemBytes i ++ r ≡ s → length (itemBytes i) ≡ n → isPriv i ≡ eqb (itemType i) 8 → getD s 0 0 ≡ 8
-    → (3 ≤ n) × (record { «type_» = getD s 0 0; length = n - 2; «prefix_len» = getD s 2 0 } ≡ itemView i)
-priv-view (item t v) r s n g e k h = absurd (true≢false (sym (k ∙ eq-eqb t 8 (ap (λ (s : List ℕ). getD s 0 0) g ∙ h))))
-priv-view (priv p v) r s n g e k h =
-    let m : n - 2 ≡ length (length p ∷ (p ++ v)) = omega arith in
-    let q : getD s 2 0 ≡ length p = ap (λ (s : List ℕ). getD s 2 0) (sym g) in
-    (omega arith, rw (m, h, q))
+priv-view : (i : Item) (r s : List ℕ) → itemBytes i ++ r ≡ s → isPriv i ≡ eqb (itemType i) 8 → getD s 0 0 ≡ 8
+    → (2 < length s) × (record { «type_» = getD s 0 0; length = getD s 1 0; «prefix_len» = getD s 2 0 } ≡ itemView i)
+priv-view (item t v) r s g k h = absurd (true≢false (sym (k ∙ eq-eqb t 8 (ap (λ (s : List ℕ). getD s 0 0) g ∙ h))))
+priv-view (priv p v) r s g k h = rw (← g) (omega arith, refl)
 
 module _ (s : List ℕ) (n : ℕ) (e : n ≡ size s) where
   pub parse-refused : (k : Refusal) → n ≡ 0 → k ≡ refusalIn (readItem (take (length s - 0) (drop 0 s))) → refused k ≡ seen s
   parse-refused k z q = none-is 0 itemSize (λ n. n) refl (λ x. omega arith) itemFirst (readItem s) n k e z (q ∙ ap why (rest-is s 0))
 
-  module _ (z : n ≡ 0 → ⊥) where
-    sized : Read s n
-    sized = value-came 0 itemSize (λ n. n) refl (readItem s) n e z
+  pub parse-some : (n ≡ 0 → ⊥) → size s ≡ 0 → ⊥
+  parse-some z q = z (e ∙ q)
 
-    pub size-least : 2 ≤ n
-    size-least = let w = sized in omega (arith, w .2)
+module _ (s : List ℕ) (z : size s ≡ 0 → ⊥) where
+  sized : Read s (size s)
+  sized = value-came 0 itemSize (λ n. n) refl (readItem s) (size s) refl z
 
-    pub size-within : n ≤ length s
-    size-within = let w = sized in omega (arith, w .2, item-length s (w .1))
+  pub item-first : 0 < length s
+  item-first = let w = sized in omega (arith, item-length s (w .1))
 
-    pub size-first : 0 < length s
-    size-first = let a = size-least in let b = size-within in omega arith
+  pub item-second : 1 < length s
+  item-second = let w = sized in omega (arith, item-length s (w .1))
 
-    pub parse-plain : (getD s 0 0 ≡ 8 → ⊥) → ok (record { «type_» = getD s 0 0; length = n - 2; «prefix_len» = 0 }) ≡ seen s
-    parse-plain h =
-        let w = sized in
-        ap ok (plain-view (w .0 .0) (w .0 .1) s n (item-in s (w .1) .bytes) (w .2) h) ∙ sym (map-ok itemFirst (readItem s) (w .1))
+  pub parse-plain : (n : ℕ) → n ≡ getD s 1 0 → (getD s 0 0 ≡ 8 → ⊥) → ok (record { «type_» = getD s 0 0; length = n; «prefix_len» = 0 }) ≡ seen s
+  parse-plain n e h = let w = sized in rw e (ap ok (plain-view (w .0 .0) (w .0 .1) s (item-in s (w .1) .bytes) h) ∙ sym (map-ok itemFirst (readItem s) (w .1)))
 
-    module _ (h : getD s 0 0 ≡ 8) where
-      whole-view : (3 ≤ n) × (record { «type_» = getD s 0 0; length = n - 2; «prefix_len» = getD s 2 0 } ≡ itemView (sized .0 .0))
-      whole-view = let g = item-in s (sized .1) in priv-view (sized .0 .0) (sized .0 .1) s n (g .bytes) (sized .2) (g .kind) h
+  module _ (h : getD s 0 0 ≡ 8) where
+    whole-view : (2 < length s) × (record { «type_» = getD s 0 0; length = getD s 1 0; «prefix_len» = getD s 2 0 } ≡ itemView (sized .0 .0))
+    whole-view = let g = item-in s (sized .1) in priv-view (sized .0 .0) (sized .0 .1) s (g .bytes) (g .kind) h
 
-      pub size-third : 2 < length s
-      size-third = let w = whole-view .0 in let b = size-within in omega arith
+    pub item-third : 2 < length s
+    item-third = whole-view .0
 
-      pub parse-whole : (p : ℕ) → p ≡ getD s 2 0 → ok (record { «type_» = getD s 0 0; length = n - 2; «prefix_len» = p }) ≡ seen s
-      parse-whole p q = rw q (ap ok (whole-view .1) ∙ sym (map-ok itemFirst (readItem s) (sized .1)))
+    pub parse-whole : (n p : ℕ) → n ≡ getD s 1 0 → p ≡ getD s 2 0 → ok (record { «type_» = getD s 0 0; length = n; «prefix_len» = p }) ≡ seen s
+    parse-whole n p e q = rw (e, q) (ap ok (whole-view .1) ∙ sym (map-ok itemFirst (readItem s) (sized .1)))
 
 -- ---- the value
 
@@ -349,4 +393,4 @@ module _ (s : List ℕ) (n : ℕ) (e : n ≡ size s) where
       pub answer-some : 0 ∷ 0 ∷ 0 ∷ [] ≡ answerOf (readPrefix s)
       answer-some = sym (ap answerOf (is-priv .1))
 
-pub ruleset items = (needs, size-short, why-short, size-past, why-past, size-plain, why-plain, size-empty, why-empty, size-over, why-over, size-whole, why-whole, end-none, end-zero, end-refused, end-fits, end-is, step-none, step-zero, why-step, parse-refused, size-least, size-first, parse-plain, size-third, parse-whole, value-plain, value-none, value-priv, prefix-refused, answer-refused, prefix-none, answer-none, prefix-end, prefix-fits, prefix-part, answer-some)
+pub ruleset items = (needs, size-short, size-end, why-short, why-past, why-plain, why-empty, why-over, why-whole, end-past, end-plain, end-empty, end-third, end-over, end-whole, end-few, end-last, end-stop, end-goes, step-none, step-zero, why-step, parse-refused, parse-some, item-first, item-second, parse-plain, item-third, parse-whole, value-plain, value-none, value-priv, prefix-refused, answer-refused, prefix-none, answer-none, prefix-end, prefix-fits, prefix-part, answer-some)

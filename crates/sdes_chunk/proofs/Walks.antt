@@ -62,17 +62,8 @@ module _ (s : List ℕ) (at n : ℕ) (h : n ≡ stepEnd s at) where
     pub step-inside : at ≤ length s
     step-inside = let l = on .inside in omega arith
 
-    pub step-after : at ≤ n
-    step-after = let w = on in omega (arith, w .end)
-
-    pub step-size : n - at ≡ valueOr 0 itemSize (readItem (take (length s - at) (drop at s)))
-    step-size = go (on .read) (on .reads) (on .end)
-      where
-        go : (x : Item × List ℕ) → readItem (drop at s) ≡ ok x → itemEnd at x ≡ n → n - at ≡ valueOr 0 itemSize (readItem (take (length s - at) (drop at s)))
-        go x r m = rw (rest-is s at, r) (omega arith)
-
-    pub step-some : n - at ≡ 0 → ⊥
-    step-some e = let w = on in absurd (omega (arith, w .end))
+    pub step-some : valueOr 0 itemSize (readItem (take (length s - at) (drop at s))) ≡ 0 → ⊥
+    step-some e = let w = on in absurd (omega (arith, sym (ap (valueOr 0 itemSize) (ap readItem (rest-is s at) ∙ w .reads)) ∙ e))
 
     pub item-stepped : (i : SdesItem) → ok i ≡ mapOk itemFirst (readItem (take (length s - at) (drop at s)))
         → ok (i, record { at = n }) ≡ mapOk itemStepped (itemStep s at)
@@ -84,4 +75,4 @@ module _ (s : List ℕ) (at n : ℕ) (h : n ≡ stepEnd s at) where
             let v : i ≡ itemFirst x = ok-injective (q ∙ ap (λ (s : List ℕ). mapOk itemFirst (readItem s)) (rest-is s at) ∙ rw r) in
             rw (lt-ltb at (length s) l, ne-eqb (getD s at 0) 0 z, r, v, ← m)
 
-pub ruleset walks = (needs, items-not-opened, items-opened, item-not-stepped, step-inside, step-after, step-size, step-some, item-stepped)
+pub ruleset walks = (needs, items-not-opened, items-opened, item-not-stepped, step-inside, step-some, item-stepped)

@@ -93,6 +93,10 @@ pub record ZerosEnd (s : List ℕ) (from end at : ℕ) : Type 0 where
   pub below : at ≤ end
   pub closes : mapOk (boundary from) (readFill (fill from) from (drop from s)) ≡ filled end at
 
+-- the boundary up to which zeros stand from a place on; 0 where one of them is missing
+abbrev pub filledEnd : List ℕ → ℕ → ℕ
+filledEnd s at = valueOr 0 (boundary at) (readFill (fill at) at (drop at s))
+
 -- ---- chunks one after the other
 
 -- n chunks of which the first stands at `at`, at the start of s, up to one that is refused

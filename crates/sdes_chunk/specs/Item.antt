@@ -11,10 +11,11 @@
 -- What the code hands over of an item: numbers that its layout fixes.
 use Prim.Native.Nat.{ℕ, _+_, _-_}
 use mathlib.Core.List.{List, [], _∷_}
-use lib.ListN.{length}
+use lib.ListN.{length, drop}
 use lib.Dec.{eqb}
 use Rattle.rfc3550.specs.Answer.{refusal, Answer, ok, refused, pick}
 use Rattle.rfc3550.specs.Packet.{Item, item, priv, itemType, itemRest, itemBytes}
+use Rattle.rfc3550.specs.Read.{readItem}
 use Rattle.rfc3550.specs.Walk.{itemStep}
 use Rattle.utils.specs.Error.{parseRefusal, valueOr}
 use Rattle.sdes_chunk.specs.declared.item.SdesItem.{SdesItem}
@@ -45,6 +46,10 @@ itemSize x = length (itemBytes (x .0))
 -- where an item that stands at `at` ends
 abbrev pub itemEnd : ℕ → Item × List ℕ → ℕ
 itemEnd at x = at + itemSize x
+
+-- where the item that stands at `at` ends; 0 where it is refused
+abbrev pub readEnd : List ℕ → ℕ → ℕ
+readEnd s at = valueOr 0 (itemEnd at) (readItem (drop at s))
 
 -- where the step over the item at `at` leads; 0 where there is none
 abbrev pub stepEnd : List ℕ → ℕ → ℕ

@@ -5,12 +5,12 @@ use utils::parser;
 ghost use mathlib.Core.Path.{_≡_};
 ghost use Prim.Native.Nat.{_+_, _^_, _<_, _≤_};
 ghost use lib.ListN.{length, getD};
-ghost use Rattle.rfc3550.specs.Answer.{mapOk};
+ghost use Rattle.rfc3550.specs.Answer.{mapOk, pick};
 ghost use Rattle.rfc3550.specs.Packet.{fill};
 ghost use Rattle.rfc3550.specs.Read.{readChunk};
 ghost use Rattle.rfc3550.specs.Walk.{openItems, itemStep};
 ghost use Rattle.utils.specs.Error.{parseRefusal, refusalIn, valueOr};
-ghost use Rattle.sdes_chunk.specs.Chunk.{noChunk, chunkFirst, noEnd, chunkEnd, chunksFrom, zeroAt, firstCname, ItemsEnd, ZerosEnd, parsedChunkOf};
+ghost use Rattle.sdes_chunk.specs.Chunk.{noChunk, chunkFirst, noEnd, chunkEnd, chunksFrom, zeroAt, firstCname, filledEnd, ItemsEnd, ZerosEnd, parsedChunkOf};
 ghost use Rattle.sdes_chunk.specs.Walk.{itemWalk, itemStepped, openedItemsOf, steppedItemOf};
 
 // The SSRC, the number of bytes that the chunk takes, and the place of its first CNAME, counted from its start: 0 where there is none.
@@ -42,20 +42,20 @@ pub fn word_boundary_unchecked(at: usize) -> usize
     requires { ⌜ at < 2 ^ 63 ⌝ }
     ensures { λ r. ⌜ r ≡ at + fill at ⌝ }
 {
-    at + (4 - at % 4)
+    at / 4 * 4 + 4
 }
 
 // The place of the first CNAME: the one that is known, or that of the item here where it is one.
 fn first_cname(known: usize, at: usize, type_: u8, length: usize) -> usize
     ensures { λ r. ⌜ r ≡ firstCname known at «type_» length ⌝ }
 {
-    if known != 0 {
+    if !super::item::is_cname(type_, length) {
         return known;
     }
-    if super::item::is_cname(type_, length) {
+    if known == 0 {
         return at;
     }
-    0
+    known
 }
 
 // The place where no further item follows, that of the first CNAME, and whether a zero stands there: if not, it is the end of the bytes, or an item
@@ -82,15 +82,17 @@ fn items_end(chunk: &[u8], known: usize) -> Items
 {
     let mut at = SdesChunk::MIN_LEN;
     let mut cname = known;
-    loop {
+    while at <= chunk.len() - 2 {
         let end = super::item::item_end(chunk, at);
         if end == 0 {
-            let closed = zero_at(chunk, at);
+            let closed = chunk[at] == 0;
             return Items { at, cname, closed };
         }
         cname = first_cname(cname, at, chunk[at], end - at - 2);
         at = end;
     }
+    let closed = zero_at(chunk, at);
+    Items { at, cname, closed }
 }
 
 // The place of the first byte behind a zero that is none, or the boundary above it, or the end of the bytes.
@@ -111,6 +113,32 @@ fn zeros_end(chunk: &[u8], from: usize, end: usize) -> usize
     at
 }
 
+// Whether zeros stand up to the boundary. Without a loop, since there are four at most.
+fn filled(chunk: &[u8], at: usize, end: usize) -> bool
+    requires { ⌜ (getD (now chunk) at 0 ≡ 0) × (end ≡ at + fill at) × (end ≤ length (now chunk)) ⌝ }
+    ensures { λ r. ⌜ pick r end 0 ≡ filledEnd (now (chunk .entry)) at ⌝ }
+{
+    let second = at + 1;
+    if second == end {
+        return true;
+    }
+    if chunk[second] != 0 {
+        return false;
+    }
+    let third = second + 1;
+    if third == end {
+        return true;
+    }
+    if chunk[third] != 0 {
+        return false;
+    }
+    let fourth = third + 1;
+    if fourth == end {
+        return true;
+    }
+    chunk[fourth] == 0
+}
+
 // How many bytes a chunk takes, 0 where it is refused, and the place of the first CNAME up to its end, counted from the start of the chunk that has it.
 struct ChunkEnd {
     length: usize,
@@ -129,7 +157,7 @@ fn no_end() -> ChunkEnd
 fn chunk_end(chunk: &[u8], known: usize) -> ChunkEnd
     ensures { λ r. ⌜ r ≡ valueOr noEnd (chunkEnd known) (readChunk (now (chunk .entry))) ⌝ }
 {
-    if chunk.len() < SdesChunk::MIN_LEN {
+    if chunk.len() < SdesChunk::LEAST {
         return no_end();
     }
     let items = items_end(chunk, known);
@@ -141,7 +169,7 @@ fn chunk_end(chunk: &[u8], known: usize) -> ChunkEnd
     if chunk.len() < length {
         return no_end();
     }
-    if zeros_end(chunk, at, length) < length {
+    if !filled(chunk, at, length) {
         return no_end();
     }
     ChunkEnd {
@@ -178,6 +206,9 @@ pub fn chunks_end(rest: &[u8], n: usize) -> Chunks
 
 impl SdesChunk {
     pub const MIN_LEN: usize = 4;
+
+    // An SSRC, and a word of zeros.
+    const LEAST: usize = 8;
 
     // All 0, where the chunk at the start of the rest of a body is refused.
     pub fn read(rest: &[u8]) -> SdesChunk
@@ -281,7 +312,7 @@ impl ItemWalk {
         if end == 0 {
             return SteppedItem::Refused(super::item::why_end(&s[0..], at));
         }
-        let item = super::item::item_of_unchecked(&s[at..], end - at);
+        let item = super::item::item_of_unchecked(&s[at..]);
         SteppedItem::Item(item, ItemWalk { at: end })
     }
 }

@@ -4,14 +4,14 @@ use utils::error::RtcpParseError;
 use utils::parser;
 ghost use mathlib.Core.Path.{_≡_};
 ghost use mathlib.Core.List.{_∷_, []};
-ghost use Prim.Native.Nat.{_+_, _^_, min, _<_};
-ghost use lib.ListN.{take, drop};
+ghost use Prim.Native.Nat.{_+_, min, _≤_};
+ghost use lib.ListN.{length, take, drop};
 ghost use Rattle.rfc3550.specs.Answer.{ok, mapOk};
 ghost use Rattle.rfc3550.specs.Packet.{isCname};
 ghost use Rattle.rfc3550.specs.Read.{readItem, readPrefix};
 ghost use Rattle.rfc3550.specs.Walk.{itemStep};
 ghost use Rattle.utils.specs.Error.{parseRefusal, refusalIn, valueOr};
-ghost use Rattle.sdes_chunk.specs.Item.{itemFirst, itemSize, stepEnd, valueStart, valueLen, prefixIn, answerOf, parsedItemOf};
+ghost use Rattle.sdes_chunk.specs.Item.{itemFirst, itemSize, readEnd, stepEnd, valueStart, valueLen, prefixIn, answerOf, parsedItemOf};
 
 // The type, the length of what follows the first two bytes, and of that the prefix (0 where the type is not PRIV).
 pub struct SdesItem {
@@ -37,10 +37,27 @@ impl ParsedItem {
     }
 }
 
-fn wide(b: u8) -> usize
-    ensures { λ r. ⌜ (r ≡ b) × (r < 256) ⌝ }
+// The place behind the item at a place that has two bytes at least; 0 where it is refused.
+fn end_unchecked(chunk: &[u8], at: usize) -> usize
+    requires { ⌜ at + 2 ≤ length (now chunk) ⌝ }
+    ensures { λ r. ⌜ r ≡ readEnd (now (chunk .entry)) at ⌝ }
 {
-    b as usize
+    let rest = &chunk[at..];
+    let length = parser::wide(rest[1]);
+    let end = at + 2 + length;
+    if chunk.len() < end {
+        return 0;
+    }
+    if rest[0] != SdesItem::PRIV {
+        return end;
+    }
+    if length == 0 {
+        return 0;
+    }
+    if length - 1 < parser::wide(rest[2]) {
+        return 0;
+    }
+    end
 }
 
 // How many bytes the item at the start of the rest of a chunk takes; 0 where it is refused.
@@ -50,37 +67,23 @@ fn item_size(rest: &[u8]) -> usize
     if rest.len() < 2 {
         return 0;
     }
-    let length = wide(rest[1]);
-    if rest.len() - 2 < length {
-        return 0;
-    }
-    if rest[0] != SdesItem::PRIV {
-        return 2 + length;
-    }
-    if length == 0 {
-        return 0;
-    }
-    if length - 1 < wide(rest[2]) {
-        return 0;
-    }
-    2 + length
+    end_unchecked(rest, 0)
 }
 
-// The place behind the item at a place of the chunk; 0 where there is none, or it is refused.
+// The place behind the item at a place of the chunk; 0 where there is none, or it is refused. A single byte is no item.
 pub fn item_end(chunk: &[u8], at: usize) -> usize
     ensures { λ r. ⌜ r ≡ stepEnd (now (chunk .entry)) at ⌝ }
 {
-    if chunk.len() <= at {
+    if chunk.len() < 2 {
+        return 0;
+    }
+    if chunk.len() - 2 < at {
         return 0;
     }
     if chunk[at] == 0 {
         return 0;
     }
-    let size = item_size(&chunk[at..]);
-    if size == 0 {
-        return 0;
-    }
-    at + size
+    end_unchecked(chunk, at)
 }
 
 // Why item_end is 0; NothingLeft where it is not.
@@ -96,13 +99,13 @@ pub fn why_end(chunk: &[u8], at: usize) -> RtcpParseError
     why_item(&chunk[at..])
 }
 
-// The item of a size that is not 0.
-pub fn item_of_unchecked(rest: &[u8], size: usize) -> SdesItem
-    requires { ⌜ (size ≡ valueOr 0 itemSize (readItem (now rest))) × (size ≡ 0 → ⊥) ⌝ }
+// The item at the start of the rest of a chunk, where it is not refused.
+pub fn item_of_unchecked(rest: &[u8]) -> SdesItem
+    requires { ⌜ (valueOr 0 itemSize (readItem (now rest)) ≡ 0 → ⊥) ⌝ }
     ensures { λ r. ⌜ ok r ≡ mapOk itemFirst (readItem (now (rest .entry))) ⌝ }
 {
     let type_ = rest[0];
-    let length = size - 2;
+    let length = parser::wide(rest[1]);
     if type_ != SdesItem::PRIV {
         return SdesItem {
             type_,
@@ -110,7 +113,7 @@ pub fn item_of_unchecked(rest: &[u8], size: usize) -> SdesItem
             prefix_len: 0,
         };
     }
-    let prefix_len = wide(rest[2]);
+    let prefix_len = parser::wide(rest[2]);
     SdesItem {
         type_,
         length,
@@ -128,7 +131,7 @@ pub fn why_item(rest: &[u8]) -> RtcpParseError
             actual: rest.len(),
         };
     }
-    let length = wide(rest[1]);
+    let length = parser::wide(rest[1]);
     if rest.len() - 2 < length {
         return RtcpParseError::Truncated {
             expected: 2 + length,
@@ -144,7 +147,7 @@ pub fn why_item(rest: &[u8]) -> RtcpParseError
             actual: 2,
         };
     }
-    let len = wide(rest[2]);
+    let len = parser::wide(rest[2]);
     let available = length - 1;
     if available < len {
         return RtcpParseError::SdesPrivPrefixTooLarge { len, available };
@@ -197,7 +200,7 @@ impl SdesItem {
         if size == 0 {
             return ParsedItem::Refused(why_item(&rest[0..]));
         }
-        ParsedItem::Item(item_of_unchecked(rest, size))
+        ParsedItem::Item(item_of_unchecked(rest))
     }
 
     // The test that an item is a CNAME.
@@ -235,7 +238,7 @@ impl SdesItem {
             set_answer(answer, why.code());
             return &rest[..0];
         }
-        let item = item_of_unchecked(rest, size);
+        let item = item_of_unchecked(rest);
         let type_ = item.type_;
         if type_ != SdesItem::PRIV {
             let why = RtcpParseError::NotPriv(type_);

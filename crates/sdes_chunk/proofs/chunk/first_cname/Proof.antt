@@ -5,5 +5,5 @@ use Rattle.sdes_chunk.proofs.chunk.first_cname.Tie as tie
 pub first-cname-spec : {M : Type 1} → statement M
 first-cname-spec {M} =
     let answers = tie.spec {M = M}
-    (λ c. search chunks) (λ c κs. search chunks) (λ c. search chunks) (λ c. search chunks) in
+    (λ c κs. search chunks) (λ c. search chunks) (λ c. search chunks) (λ c. search chunks) in
     tie.close answers

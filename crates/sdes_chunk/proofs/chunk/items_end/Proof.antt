@@ -13,6 +13,7 @@ abbrev μ-loop : tie.MeasureT-loop
 pub items-end-spec : {M : Type 1} → statement M
 items-end-spec {M} =
     let answers = tie.spec {M = M}
-    Inv-loop μ-loop (λ c. search chunks) (λ c κs. search chunks) (λ c κs. search chunks) (λ c. search chunks) (λ c. search chunks)
-    (λ c. search chunks) (λ c. search chunks) (λ c κs. search chunks) (λ c. search chunks) (λ c. search chunks) in
+    Inv-loop μ-loop (λ c. search chunks) (λ c. search chunks) (λ c κs. search chunks) (λ c. search chunks) (λ c. search chunks) (λ c. search chunks)
+    (λ c. search chunks) (λ c. search chunks) (λ c κs. search chunks) (λ c. search chunks) (λ c. search chunks) (λ c κs. search chunks)
+    (λ c. search chunks) in
     tie.close answers

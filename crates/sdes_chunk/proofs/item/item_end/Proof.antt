@@ -5,6 +5,5 @@ use Rattle.sdes_chunk.proofs.item.item_end.Tie as tie
 pub item-end-spec : {M : Type 1} → statement M
 item-end-spec {M} =
     let answers = tie.spec {M = M}
-    (λ c. search items) (λ c. search items) (λ c. search items) (λ c. search items) (λ c. search items) (λ c. search items) (λ c κs. search items)
-    (λ c. search items) (λ c. search items) (λ c. search items) in
+    (λ c. search items) (λ c. search items) (λ c. search items) (λ c. search items) (λ c. search items) (λ c κs. search items) (λ c. search items) in
     tie.close answers

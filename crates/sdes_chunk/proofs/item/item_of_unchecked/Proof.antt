@@ -5,5 +5,5 @@ use Rattle.sdes_chunk.proofs.item.item_of_unchecked.Tie as tie
 pub item-of-unchecked-spec : {M : Type 1} → statement M
 item-of-unchecked-spec {M} =
     let answers = tie.spec {M = M}
-    (λ c. search items) (λ c. search items) (λ c. search items) (λ c. search items) (λ c κs. search items) (λ c. search items) in
+    (λ c. search items) (λ c. search items) (λ c κs. search items) (λ c. search items) (λ c. search items) (λ c κs. search items) (λ c. search items) in
     tie.close answers

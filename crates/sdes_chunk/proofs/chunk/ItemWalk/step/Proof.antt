@@ -6,5 +6,5 @@ pub step-spec : {M : Type 1} → statement M
 step-spec {M} =
     let answers = tie.spec {M = M}
     (λ c κs. search walks) (λ c. search walks) (λ c. search walks) (λ c. search walks) (λ c κs. search walks) (λ c. search walks) (λ c. search walks)
-    (λ c. search walks) (λ c. search walks) (λ c. search walks) (λ c κs. search walks) (λ c. search walks) in
+    (λ c. search walks) (λ c. search walks) (λ c κs. search walks) (λ c. search walks) in
     tie.close answers
