@@ -1,5 +1,5 @@
 use crate::ffi;
-use crate::{padding_count, RtcpPacket, RtcpPacketParser, RtcpParseError};
+use crate::{header, padding_count, RtcpPacket, RtcpPacketParser, RtcpParseError};
 use std::iter::FusedIterator;
 
 /// What the two kinds of report have in common.
@@ -28,20 +28,22 @@ macro_rules! read_report {
                 Ok(Self::of(report, &read))
             }
 
-            fn bytes(&self) -> &'a [u8] {
-                self.report.data
-            }
-
-            fn padding_bytes(&self) -> &'a [u8] {
-                &self.report.data[self.report.body as usize..]
-            }
-
-            fn low_bits(&self) -> u8 {
-                self.report.n_reports
+            fn header_data(&self) -> [u8; 4] {
+                header(self.report.data)
             }
         }
 
         impl<'a> $report<'a> {
+            /// The packet's bytes, header and padding included.
+            pub fn bytes(&self) -> &'a [u8] {
+                self.report.data
+            }
+
+            /// The padding, its count at the end; empty where the packet is not padded.
+            pub fn padding_bytes(&self) -> &'a [u8] {
+                &self.report.data[self.report.body as usize..]
+            }
+
             /// The number of padding bytes, if the packet is padded.
             pub fn padding(&self) -> Option<u8> {
                 padding_count(self.padding_bytes())

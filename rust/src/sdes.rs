@@ -1,5 +1,7 @@
 use crate::ffi::{self, between, part};
-use crate::{padding_count, size, RtcpPacket, RtcpPacketParser, RtcpParseError, RtcpWriteError};
+use crate::{
+    header, padding_count, size, RtcpPacket, RtcpPacketParser, RtcpParseError, RtcpWriteError,
+};
 use std::borrow::Cow;
 use std::iter::FusedIterator;
 use std::marker::PhantomData;
@@ -36,17 +38,8 @@ impl<'a> RtcpPacketParser<'a> for Sdes<'a> {
         Ok(Sdes { data })
     }
 
-    fn bytes(&self) -> &'a [u8] {
-        self.data
-    }
-
-    fn padding_bytes(&self) -> &'a [u8] {
-        let sdes = ffi::rtcp_sdes_parse(self.data);
-        part(self.data, sdes.padding, sdes.padding_len)
-    }
-
-    fn low_bits(&self) -> u8 {
-        self.n_chunks()
+    fn header_data(&self) -> [u8; 4] {
+        header(self.data)
     }
 }
 
@@ -55,6 +48,17 @@ impl<'a> Sdes<'a> {
     #[inline]
     pub(crate) fn accepted(data: &'a [u8]) -> Self {
         Sdes { data }
+    }
+
+    /// The packet's bytes, header and padding included.
+    pub fn bytes(&self) -> &'a [u8] {
+        self.data
+    }
+
+    /// The padding, its count at the end; empty where the packet is not padded.
+    pub fn padding_bytes(&self) -> &'a [u8] {
+        let sdes = ffi::rtcp_sdes_parse(self.data);
+        part(self.data, sdes.padding, sdes.padding_len)
     }
 
     /// The number of padding bytes, if the packet is padded.
