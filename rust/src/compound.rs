@@ -6,8 +6,8 @@ use crate::{
 use std::iter::FusedIterator;
 
 /// A datagram: one or more packets, the first of them a report, with a CNAME in
-/// some chunk. It is read whole before the first packet is given, and is an
-/// iterator over its packets, one call of the library for each.
+/// some chunk. It is checked whole before the first packet is given, and is an
+/// iterator over its packets. None of them is refused.
 ///
 /// ```
 /// use bokyjave::{Compound, Packet, RtcpParseError};

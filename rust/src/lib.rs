@@ -2,9 +2,8 @@
 //! written by the proved functions of `librtcp.a`.
 //!
 //! Names are those of the crate rtcp-types 0.3.0; README.md of this package says
-//! how a program moves from there. Nothing is decided in Rust: each answer and
-//! each refusal comes from a C function. Reading borrows the caller's bytes and
-//! takes no heap memory.
+//! how a program moves from there. What is read, refused and written is decided by
+//! the C functions. Reading borrows the caller's bytes and takes no heap memory.
 //!
 //! A datagram is read by [`Compound`], one packet by `parse` of its type:
 //!
