@@ -414,9 +414,11 @@ impl BlockLists {
     fn push(&mut self, block: &ReportBlockBuilder) {
         if self.fractions.is_empty() {
             let most = usize::from(SenderReport::MAX_COUNT);
-            self.fractions.reserve_exact(most);
-            self.losses.reserve_exact(most);
-            self.words.reserve_exact(most * block.words.len());
+            *self = BlockLists {
+                fractions: Vec::with_capacity(most),
+                losses: Vec::with_capacity(most),
+                words: Vec::with_capacity(most * block.words.len()),
+            };
         }
         self.fractions.push(block.fraction_lost);
         self.losses.push(block.cumulative_lost);
