@@ -98,6 +98,7 @@ macro_rules! build_report {
             }
 
             /// Adds a report block.
+            #[inline]
             pub fn add_report_block(mut self, report_block: ReportBlockBuilder) -> Self {
                 self.blocks.push(&report_block);
                 self
@@ -411,6 +412,7 @@ struct BlockLists {
 
 impl BlockLists {
     /// There is room at once for as many as a report has.
+    #[inline]
     fn push(&mut self, block: &ReportBlockBuilder) {
         if self.fractions.is_empty() {
             let most = usize::from(SenderReport::MAX_COUNT);
