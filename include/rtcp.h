@@ -626,26 +626,49 @@ static inline struct RtcpCall rtcp_writer_add_cname(struct RtcpWriter *writer, u
     return rtcp_writer_add_sdes(writer, buf, buf_len, &ssrc, 1, &one, 1, &type, 1, &none, 1, &value, 1, (const uint8_t *)cname, cname_len, 0);
 }
 
-/* Adds a receiver report of up to 31 blocks, given as the answers of rtcp_rr_report_block or filled by hand; more of them get 18(n, 31). */
-static inline struct RtcpCall rtcp_writer_add_rr_blocks(struct RtcpWriter *writer, uint8_t *buf, size_t buf_len, uint32_t ssrc,
-                                                        const struct RtcpBlock *blocks, size_t n) {
+/* The lists of up to 31 blocks, as the calls that write take them. */
+struct RtcpBlockLists {
     uint8_t fractions[RTCP_MAX_COUNT];
     uint32_t losses[RTCP_MAX_COUNT], words[RTCP_MAX_COUNT * RTCP_BLOCK_WORDS];
-    if (n > RTCP_MAX_COUNT) {
-        struct RtcpCall many = {RTCP_TOO_MANY_REPORT_BLOCKS, n, RTCP_MAX_COUNT};
-        return many;
-    }
-    for (size_t i = 0; i < n; i++) {
-        uint32_t *word = words + RTCP_BLOCK_WORDS * i;
-        fractions[i] = (uint8_t)blocks[i].fraction_lost;
-        losses[i] = (uint32_t)blocks[i].cumulative_lost;
+};
+
+/* Fills the lists with the first 31 of n blocks at most. */
+static inline void rtcp_block_lists(struct RtcpBlockLists *lists, const struct RtcpBlock *blocks, size_t n) {
+    for (size_t i = 0; i < n && i < RTCP_MAX_COUNT; i++) {
+        uint32_t *word = lists->words + RTCP_BLOCK_WORDS * i;
+        lists->fractions[i] = (uint8_t)blocks[i].fraction_lost;
+        lists->losses[i] = (uint32_t)blocks[i].cumulative_lost;
         word[0] = (uint32_t)blocks[i].ssrc;
         word[1] = (uint32_t)blocks[i].extended_sequence_number;
         word[2] = (uint32_t)blocks[i].interarrival_jitter;
         word[3] = (uint32_t)blocks[i].last_sender_report_timestamp;
         word[4] = (uint32_t)blocks[i].delay_since_last_sender_report_timestamp;
     }
-    return rtcp_writer_add_rr(writer, buf, buf_len, ssrc, fractions, n, losses, n, words, n * RTCP_BLOCK_WORDS, 0);
+}
+
+/* Adds a receiver report of up to 31 blocks, given as the answers of rtcp_rr_report_block or filled by hand; more of them get 18(n, 31).
+     c = rtcp_writer_add_rr_blocks(&w, buf, sizeof buf, ssrc, &block, 1); */
+static inline struct RtcpCall rtcp_writer_add_rr_blocks(struct RtcpWriter *writer, uint8_t *buf, size_t buf_len, uint32_t ssrc,
+                                                        const struct RtcpBlock *blocks, size_t n) {
+    struct RtcpCall many = {RTCP_TOO_MANY_REPORT_BLOCKS, n, RTCP_MAX_COUNT};
+    struct RtcpBlockLists l;
+    rtcp_block_lists(&l, blocks, n);
+    if (n > RTCP_MAX_COUNT) return many;
+    return rtcp_writer_add_rr(writer, buf, buf_len, ssrc, l.fractions, n, l.losses, n, l.words, n * RTCP_BLOCK_WORDS, 0);
+}
+
+/* Adds a sender report in the same way. Of sr, its SSRC and the sender's four numbers are written.
+     struct RtcpSr sr = {.ssrc = ssrc, .ntp_timestamp = ntp, .rtp_timestamp = rtp, .packet_count = packets, .octet_count = octets};
+     c = rtcp_writer_add_sr_blocks(&w, buf, sizeof buf, &sr, NULL, 0); */
+static inline struct RtcpCall rtcp_writer_add_sr_blocks(struct RtcpWriter *writer, uint8_t *buf, size_t buf_len, const struct RtcpSr *sr,
+                                                        const struct RtcpBlock *blocks, size_t n) {
+    struct RtcpCall many = {RTCP_TOO_MANY_REPORT_BLOCKS, n, RTCP_MAX_COUNT};
+    struct RtcpBlockLists l;
+    rtcp_block_lists(&l, blocks, n);
+    if (n > RTCP_MAX_COUNT) return many;
+    return rtcp_writer_add_sr(writer, buf, buf_len, (uint32_t)sr->ssrc, sr->ntp_timestamp, (uint32_t)sr->rtp_timestamp,
+                              (uint32_t)sr->packet_count, (uint32_t)sr->octet_count, l.fractions, n, l.losses, n, l.words,
+                              n * RTCP_BLOCK_WORDS, 0);
 }
 
 /* A refusal in a few words; docs/REFUSALS.md says more. */
@@ -684,6 +707,44 @@ static inline const char *rtcp_refusal_text(uint64_t number) {
         "the item is not PRIV, so it has no prefix",
     };
     return number < sizeof texts / sizeof texts[0] ? texts[number] : "no such refusal";
+}
+
+/* The name that enum RtcpRefusal gives it. */
+static inline const char *rtcp_refusal_name(uint64_t number) {
+    static const char *const names[] = {
+        "done",
+        "RTCP_UNSUPPORTED_VERSION",
+        "RTCP_TRUNCATED",
+        "RTCP_TOO_LARGE",
+        "RTCP_INVALID_PADDING",
+        "RTCP_PREFIX_TOO_LARGE_READ",
+        "RTCP_PACKET_TYPE_MISMATCH",
+        "RTCP_FIRST_PACKET_NO_REPORT_READ",
+        "RTCP_NO_CNAME_READ",
+        "RTCP_NON_LAST_PACKET_PADDING",
+        "RTCP_OUTPUT_TOO_SMALL",
+        "RTCP_INVALID_PADDING_GIVEN",
+        "RTCP_APP_SUBTYPE_OUT_OF_RANGE",
+        "RTCP_INVALID_NAME",
+        "RTCP_DATA_LEN_32BIT_MULTIPLE",
+        "RTCP_TOO_MANY_SOURCES",
+        "RTCP_REASON_LEN_TOO_LARGE",
+        "RTCP_CUMULATIVE_LOST_TOO_LARGE",
+        "RTCP_TOO_MANY_REPORT_BLOCKS",
+        "RTCP_TOO_MANY_SDES_CHUNKS",
+        "RTCP_SDES_VALUE_TOO_LARGE",
+        "RTCP_PREFIX_TOO_LARGE",
+        "RTCP_PACKET_TOO_LARGE",
+        "RTCP_ITEM_TYPE_ZERO",
+        "RTCP_LISTS_DISAGREE",
+        "RTCP_NOTHING_LEFT",
+        "RTCP_WRITER_CLOSED",
+        "RTCP_FIRST_PACKET_NO_REPORT",
+        "RTCP_NO_CNAME",
+        "RTCP_ALREADY_PADDED",
+        "RTCP_NOT_PRIV",
+    };
+    return number < sizeof names / sizeof names[0] ? names[number] : "no such refusal";
 }
 
 #ifdef __cplusplus

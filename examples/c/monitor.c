@@ -4,7 +4,8 @@
 
 #include "rtcp.h"
 
-enum { MOST = 64 };
+/* Rows of a table, and bytes of a datagram. */
+enum { MOST = 64, DATAGRAM = 1500 };
 
 struct Loss {
     uint32_t ssrc, fraction, cumulative;
@@ -29,13 +30,13 @@ static void update_meter(uint32_t ssrc, uint32_t fraction, uint32_t cumulative) 
     meter[i] = (struct Loss){ssrc, fraction, cumulative};
 }
 
-/* The blocks of a report, read by the call of its kind. */
-static void read_blocks(const uint8_t *packet, const struct RtcpStep *p) {
-    uint8_t fractions[RTCP_MAX_COUNT];
-    uint32_t losses[RTCP_MAX_COUNT], words[RTCP_MAX_COUNT * RTCP_BLOCK_WORDS];
-    struct RtcpWritten w = p->kind == RTCP_SR ? rtcp_sr_report_blocks(packet, p->len, fractions, 31, losses, 31, words, 31 * 5)
-                                              : rtcp_rr_report_blocks(packet, p->len, fractions, 31, losses, 31, words, 31 * 5);
-    for (uint64_t i = 0; i < w.size; i++) update_meter(words[RTCP_BLOCK_WORDS * i], fractions[i], losses[i]);
+/* The lists that the calls which read a report fill with its blocks. */
+static uint8_t fractions[RTCP_MAX_COUNT];
+static uint32_t losses[RTCP_MAX_COUNT], words[RTCP_MAX_COUNT * RTCP_BLOCK_WORDS];
+#define LISTS fractions, RTCP_MAX_COUNT, losses, RTCP_MAX_COUNT, words, RTCP_MAX_COUNT *RTCP_BLOCK_WORDS
+
+static void read_blocks(uint64_t n) {
+    for (uint64_t i = 0; i < n; i++) update_meter(words[RTCP_BLOCK_WORDS * i], fractions[i], losses[i]);
 }
 
 static size_t find(uint32_t ssrc) {
@@ -60,7 +61,7 @@ static void left(uint32_t ssrc) {
 
 /* The first CNAME of each chunk. */
 static void read_names(const uint8_t *packet, size_t len) {
-    static struct RtcpItemEntry items[2048];
+    static struct RtcpItemEntry items[DATAGRAM / 2];
     int named = 0;
     struct RtcpWritten w = rtcp_sdes_entries(packet, len, items, sizeof items / sizeof items[0]);
     for (uint64_t i = 0; i < w.size; i++) {
@@ -78,35 +79,31 @@ struct Sender {
     uint64_t ntp_timestamp;
 };
 
+static void read_packet(const uint8_t *packet, const struct RtcpPacketEntry *p, struct Sender *sender) {
+    if (p->packet_type == RTCP_SR) {
+        struct RtcpSr sr = rtcp_sr_read(packet, p->len, LISTS);
+        *sender = (struct Sender){1, (uint32_t)sr.ssrc, sr.ntp_timestamp};
+        read_blocks(sr.n_reports);
+    }
+    if (p->packet_type == RTCP_RR) read_blocks(rtcp_rr_read(packet, p->len, LISTS).n_reports);
+    if (p->packet_type == RTCP_SDES) read_names(packet, p->len);
+    if (p->packet_type == RTCP_BYE) {
+        struct RtcpBye bye = rtcp_bye_parse(packet, p->len);
+        for (uint64_t i = 0; i < bye.n_sources; i++) left((uint32_t)rtcp_bye_source(packet, p->len, i).ssrc);
+    }
+}
+
+/* Each packet has passed once the datagram has: only the first call can be refused. */
 static int read_datagram(const uint8_t *datagram, size_t len, struct Sender *sender) {
-    struct RtcpWalk walk = rtcp_walk_open(datagram, len);
-    if (walk.number != 0) {
-        fprintf(stderr, "refusal %u (%u, %u): %s\n", (unsigned)walk.number, (unsigned)walk.first, (unsigned)walk.second,
-                rtcp_refusal_text(walk.number));
+    static struct RtcpPacketEntry packets[DATAGRAM / 4];
+    struct RtcpWritten list = rtcp_compound_entries(datagram, len, packets, DATAGRAM / 4);
+    if (list.number != 0) {
+        fprintf(stderr, "refusal %u (%u, %u): %s\n", (unsigned)list.number, (unsigned)list.first, (unsigned)list.second,
+                rtcp_refusal_text(list.number));
         return 0;
     }
-    uint64_t at = walk.at;
-    for (;;) {
-        struct RtcpStep p = rtcp_walk_step(datagram, len, at);
-        if (p.number != 0) return 1; /* 25: no packet is left */
-        const uint8_t *packet = datagram + p.offset;
-        switch (p.kind) {
-        case RTCP_SR:
-            *sender = (struct Sender){1, (uint32_t)p.ssrc, p.ntp_timestamp};
-            read_blocks(packet, &p);
-            break;
-        case RTCP_RR:
-            read_blocks(packet, &p);
-            break;
-        case RTCP_SDES:
-            read_names(packet, p.len);
-            break;
-        case RTCP_BYE:
-            for (uint64_t i = 0; i < p.count; i++) left((uint32_t)rtcp_bye_source(packet, p.len, i).ssrc);
-            break;
-        }
-        at = p.at;
-    }
+    for (uint64_t i = 0; i < list.size; i++) read_packet(datagram + packets[i].offset, &packets[i], sender);
+    return 1;
 }
 
 /* An RR about the sender, if there is one, and an SDES packet with our own CNAME. */
@@ -134,7 +131,7 @@ int main(int argc, char **argv) {
                                  "82ca0007112233440109616374407374616765005566778801046d69636b0000"
                                  "81cb000155667788";
     const char *hex = argc > 1 ? argv[1] : sample;
-    uint8_t datagram[1500], reply[1500];
+    uint8_t datagram[DATAGRAM], reply[DATAGRAM];
     size_t len = 0;
     while (hex[0] != 0 && len < sizeof datagram) {
         int high = digit(hex[0]), low = high < 0 ? -1 : digit(hex[1]);

@@ -6,7 +6,7 @@
 
 static int failed;
 
-static void compare(const char *file, const char *name, const void *got, const void *want, size_t size) {
+static inline void compare(const char *file, const char *name, const void *got, const void *want, size_t size) {
     if (memcmp(got, want, size) != 0) {
         printf("%s: %s differs\n", file, name);
         failed = 1;
@@ -19,3 +19,9 @@ static void compare(const char *file, const char *name, const void *got, const v
         struct result want = {__VA_ARGS__};                    \
         compare(__FILE__, #call, &got, &want, sizeof got);     \
     } while (0)
+
+/* A line where nothing differs; the exit status. */
+static inline int finish(const char *file) {
+    if (!failed) printf("%s: as document 01 says\n", file);
+    return failed;
+}

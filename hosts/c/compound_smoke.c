@@ -99,6 +99,7 @@ static void states(void) {
 /* The inline helpers. */
 static void helpers(void) {
     static const struct RtcpBlock blocks[] = {{0, 0, 0, 0x01020304, 5, 0x060708, 0x090A0B0C, 0x0D0E0F10, 0x11121314, 0x15161718}};
+    static const struct RtcpBlock many[32];
     struct RtcpPacketEntry packets[2];
     struct RtcpItemEntry items[2];
     memset(buf, 0x5A, sizeof buf);
@@ -112,6 +113,14 @@ static void helpers(void) {
     if (packets[0].packet_type != RTCP_RR || items[0].type_ != RTCP_CNAME || items[0].value != 10 || items[0].value_len != 3 || items[1].type_ != 0) {
         compare(__FILE__, "the entries", "", "x", 1);
     }
+    struct RtcpSr sr = rtcp_sr_parse(datagram, 52);
+    rtcp_writer_new(&w);
+    CALLS(0, 0, 0, 52, 0, 0, 0, rtcp_writer_add_sr_blocks(&w, buf, sizeof buf, &sr, blocks, 1));
+    compare(__FILE__, "the sender report", buf, datagram, 52);
+    CALLS(18, 32, 31, 52, 0, 0, 0, rtcp_writer_add_sr_blocks(&w, buf, sizeof buf, &sr, many, 32));
+    CALLS(18, 32, 31, 52, 0, 0, 0, rtcp_writer_add_rr_blocks(&w, buf, sizeof buf, 1, many, 32));
+    compare(__FILE__, "the name of 25", rtcp_refusal_name(RTCP_NOTHING_LEFT), "RTCP_NOTHING_LEFT", 18);
+    compare(__FILE__, "the name of 31", rtcp_refusal_name(31), "no such refusal", 16);
     compare(__FILE__, "the text of 25", rtcp_refusal_text(RTCP_NOTHING_LEFT), "nothing is left, or no such index", 33);
 }
 
@@ -146,8 +155,5 @@ int main(void) {
     states();
     helpers();
     reads();
-    if (!failed) {
-        printf("hosts/c/compound_smoke.c: as document 01 says\n");
-    }
-    return failed;
+    return finish(__FILE__);
 }

@@ -1,16 +1,11 @@
 /* Packets written through the C functions: the result, the bytes, and the bytes past them. The exit status is 1 where something differs. */
-#include <stdio.h>
-#include <string.h>
-
-#include "rtcp.h"
-
-static int failed;
+#include "check.h"
 
 /* Lent to every write, and filled with 0x5A before it. */
 static uint8_t buf[64];
 
 static void differs(const char *name, const char *what) {
-    printf("hosts/c/write_smoke.c: %s: %s\n", name, what);
+    printf("%s: %s: %s\n", __FILE__, name, what);
     failed = 1;
 }
 
@@ -112,8 +107,5 @@ int main(void) {
     reports();
     descriptions();
     others();
-    if (!failed) {
-        printf("hosts/c/write_smoke.c: as document 01 says\n");
-    }
-    return failed;
+    return finish(__FILE__);
 }

@@ -1,5 +1,5 @@
 use crate::ffi::{self, part};
-use crate::{padding_count, RtcpPacket, RtcpPacketParser, RtcpParseError};
+use crate::{header, padding_count, RtcpPacket, RtcpPacketParser, RtcpParseError};
 use std::string::FromUtf8Error;
 
 /// An APP packet. Its subtype is
@@ -19,7 +19,6 @@ pub struct App<'a> {
     /// Where the padding starts.
     body: u32,
     name: [u8; App::NAME_LEN],
-    subtype: u8,
 }
 
 impl RtcpPacket for App<'_> {
@@ -37,26 +36,27 @@ impl<'a> RtcpPacketParser<'a> for App<'a> {
             ssrc: app.ssrc as u32,
             body: app.padding as u32,
             name: [name[0], name[1], name[2], name[3]],
-            subtype: app.subtype as u8,
         })
     }
 
-    fn bytes(&self) -> &'a [u8] {
-        self.packet
-    }
-
-    fn padding_bytes(&self) -> &'a [u8] {
-        &self.packet[self.body as usize..]
-    }
-
-    fn low_bits(&self) -> u8 {
-        self.subtype
+    fn header_data(&self) -> [u8; 4] {
+        header(self.packet)
     }
 }
 
 impl<'a> App<'a> {
     /// The bytes of a name.
     pub const NAME_LEN: usize = 4;
+
+    /// The packet's bytes, header and padding included.
+    pub fn bytes(&self) -> &'a [u8] {
+        self.packet
+    }
+
+    /// The padding, its count at the end; empty where the packet is not padded.
+    pub fn padding_bytes(&self) -> &'a [u8] {
+        &self.packet[self.body as usize..]
+    }
 
     /// The number of padding bytes, if the packet is padded.
     pub fn padding(&self) -> Option<u8> {

@@ -1,5 +1,5 @@
 use crate::ffi::{self, between, part};
-use crate::{padding_count, RtcpPacket, RtcpPacketParser, RtcpParseError};
+use crate::{header, padding_count, RtcpPacket, RtcpPacketParser, RtcpParseError};
 use std::borrow::Cow;
 use std::iter::FusedIterator;
 use std::string::FromUtf8Error;
@@ -45,20 +45,22 @@ impl<'a> RtcpPacketParser<'a> for Bye<'a> {
         })
     }
 
-    fn bytes(&self) -> &'a [u8] {
-        self.data
-    }
-
-    fn padding_bytes(&self) -> &'a [u8] {
-        &self.data[self.body as usize..]
-    }
-
-    fn low_bits(&self) -> u8 {
-        self.n_sources
+    fn header_data(&self) -> [u8; 4] {
+        header(self.data)
     }
 }
 
 impl<'a> Bye<'a> {
+    /// The packet's bytes, header and padding included.
+    pub fn bytes(&self) -> &'a [u8] {
+        self.data
+    }
+
+    /// The padding, its count at the end; empty where the packet is not padded.
+    pub fn padding_bytes(&self) -> &'a [u8] {
+        &self.data[self.body as usize..]
+    }
+
     /// The number of padding bytes, if the packet is padded.
     pub fn padding(&self) -> Option<u8> {
         padding_count(self.padding_bytes())

@@ -1,13 +1,13 @@
 use crate::ffi::{self, part};
 use crate::{
-    padding_count, App, Bye, CompoundBuilder, ReceiverReport, RtcpPacket, RtcpPacketParser,
+    header, padding_count, App, Bye, CompoundBuilder, ReceiverReport, RtcpPacket, RtcpPacketParser,
     RtcpParseError, Sdes, SenderReport,
 };
 use std::iter::FusedIterator;
 
 /// A datagram: one or more packets, the first of them a report, with a CNAME in
-/// some chunk. It is read whole before the first packet is given, and is an
-/// iterator over its packets, one call of the library for each.
+/// some chunk. It is checked whole before the first packet is given, and is an
+/// iterator over its packets. None of them is refused.
 ///
 /// ```
 /// use bokyjave::{Compound, Packet, RtcpParseError};
@@ -126,6 +126,20 @@ pub enum Packet<'a> {
     Unknown(Unknown<'a>),
 }
 
+/// What is asked of a packet, whichever kind it is of.
+macro_rules! whichever {
+    ($any:expr, $packet:ident, $asked:expr) => {
+        match $any {
+            Packet::App($packet) => $asked,
+            Packet::Bye($packet) => $asked,
+            Packet::Rr($packet) => $asked,
+            Packet::Sdes($packet) => $asked,
+            Packet::Sr($packet) => $asked,
+            Packet::Unknown($packet) => $asked,
+        }
+    };
+}
+
 impl<'a> Packet<'a> {
     /// The packet of one of the five kinds that these bytes of a datagram are, as
     /// the library has said of the datagram.
@@ -155,12 +169,23 @@ impl<'a> Packet<'a> {
         matches!(self, Packet::Unknown(_))
     }
 
+    /// The packet's bytes, header and padding included.
+    pub fn bytes(&self) -> &'a [u8] {
+        whichever!(self, packet, packet.bytes())
+    }
+
+    /// The padding, its count at the end; empty where the packet is not padded.
+    pub fn padding_bytes(&self) -> &'a [u8] {
+        whichever!(self, packet, packet.padding_bytes())
+    }
+
     /// The number of padding bytes, if the packet is padded.
     pub fn padding(&self) -> Option<u8> {
         padding_count(self.padding_bytes())
     }
 
-    /// The packet as one of a kind, or why its bytes cannot be read as such.
+    /// The packet as one of a kind or of a type of yours, or why its bytes cannot
+    /// be read as such.
     ///
     /// ```
     /// use bokyjave::{prelude::*, Bye, Packet, ReceiverReport};
@@ -170,26 +195,12 @@ impl<'a> Packet<'a> {
     /// assert_eq!(packet.try_as::<Bye>().unwrap_err().number(), 6);
     /// # Ok::<(), bokyjave::RtcpParseError>(())
     /// ```
-    pub fn try_as<P>(&self) -> Result<P, RtcpParseError>
+    pub fn try_as<P>(&'a self) -> Result<P, RtcpParseError>
     where
-        P: RtcpPacket + TryFrom<Packet<'a>, Error = RtcpParseError>,
+        P: RtcpPacket + TryFrom<&'a Self, Error = RtcpParseError>,
     {
-        P::try_from(*self)
+        P::try_from(self)
     }
-}
-
-/// What is asked of a packet, whichever kind it is of.
-macro_rules! whichever {
-    ($any:expr, $packet:ident, $asked:expr) => {
-        match $any {
-            Packet::App($packet) => $asked,
-            Packet::Bye($packet) => $asked,
-            Packet::Rr($packet) => $asked,
-            Packet::Sdes($packet) => $asked,
-            Packet::Sr($packet) => $asked,
-            Packet::Unknown($packet) => $asked,
-        }
-    };
 }
 
 impl RtcpPacket for Packet<'_> {
@@ -208,20 +219,8 @@ impl<'a> RtcpPacketParser<'a> for Packet<'a> {
         read.unwrap_or_else(|| Unknown::parse(data).map(Packet::Unknown))
     }
 
-    fn bytes(&self) -> &'a [u8] {
-        whichever!(self, packet, packet.bytes())
-    }
-
-    fn padding_bytes(&self) -> &'a [u8] {
-        whichever!(self, packet, packet.padding_bytes())
-    }
-
-    fn packet_type(&self) -> u8 {
-        whichever!(self, packet, packet.packet_type())
-    }
-
-    fn low_bits(&self) -> u8 {
-        whichever!(self, packet, packet.low_bits())
+    fn header_data(&self) -> [u8; 4] {
+        header(self.bytes())
     }
 }
 
@@ -295,8 +294,6 @@ pub struct Unknown<'a> {
     data: &'a [u8],
     /// Where the padding starts.
     body: u32,
-    type_: u8,
-    count: u8,
 }
 
 impl RtcpPacket for Unknown<'_> {
@@ -344,20 +341,8 @@ impl<'a> RtcpPacketParser<'a> for Unknown<'a> {
         }
     }
 
-    fn bytes(&self) -> &'a [u8] {
-        self.data
-    }
-
-    fn padding_bytes(&self) -> &'a [u8] {
-        &self.data[self.body as usize..]
-    }
-
-    fn packet_type(&self) -> u8 {
-        self.type_
-    }
-
-    fn low_bits(&self) -> u8 {
-        self.count
+    fn header_data(&self) -> [u8; 4] {
+        header(self.data)
     }
 }
 
@@ -366,8 +351,6 @@ impl<'a> Unknown<'a> {
         Unknown {
             data,
             body: step.body as u32,
-            type_: step.packet_type as u8,
-            count: step.count as u8,
         }
     }
 
@@ -376,19 +359,24 @@ impl<'a> Unknown<'a> {
         self.data
     }
 
+    /// The same as [`data`](Self::data).
+    pub fn bytes(&self) -> &'a [u8] {
+        self.data
+    }
+
     /// The packet type.
     pub fn type_(&self) -> u8 {
-        self.type_
+        self.data[1]
     }
 
     /// The low 5 bits of the first byte.
     pub fn count(&self) -> u8 {
-        self.count
+        self.data[0] & Self::MAX_COUNT
     }
 
     /// The low 5 bits of the first byte.
     pub fn subtype(&self) -> u8 {
-        self.count
+        self.count()
     }
 
     /// The number of bytes.
@@ -408,7 +396,7 @@ impl<'a> Unknown<'a> {
 
     /// The padding, its count at the end; empty where the packet is not padded.
     pub fn padding_bytes(&self) -> &'a [u8] {
-        RtcpPacketParser::padding_bytes(self)
+        &self.data[self.body as usize..]
     }
 
     /// The packet as one of a kind or of a type of yours, or why its bytes cannot
@@ -425,6 +413,7 @@ impl<'a> Unknown<'a> {
 mod tests {
     use super::*;
     use crate::ffi::{rtcp_walk_open, rtcp_walk_step};
+    use crate::RtcpPacketParserExt;
 
     #[test]
     fn a_walk_starts_where_the_library_opens_it() {
@@ -458,7 +447,7 @@ mod tests {
             let read = compound.map(|packet| {
                 let packet = packet.expect("a packet");
                 assert_eq!(Packet::parse(packet.bytes()), Ok(packet));
-                (packet.packet_type(), packet.low_bits(), packet.bytes())
+                (packet.type_(), packet.count(), packet.bytes())
             });
             assert_eq!(read.collect::<Vec<_>>(), walked);
             datagram.extend([0x80, more, 0, 1, 0, 0, 0, 0]);
@@ -478,7 +467,7 @@ mod tests {
         let compound = Compound::parse(datagram).expect("a datagram");
         assert_eq!(compound.n_packets(), 6);
         let packets: Vec<Packet> = compound.map(|packet| packet.expect("a packet")).collect();
-        let kinds: Vec<u8> = packets.iter().map(|packet| packet.packet_type()).collect();
+        let kinds: Vec<u8> = packets.iter().map(|packet| packet.type_()).collect();
         assert_eq!(kinds, [200, 201, 202, 203, 203, 204]);
         for packet in packets {
             assert_eq!(Packet::parse(packet.bytes()), Ok(packet));

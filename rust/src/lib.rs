@@ -2,9 +2,8 @@
 //! written by the proved functions of `librtcp.a`.
 //!
 //! Names are those of the crate rtcp-types 0.3.0; README.md of this package says
-//! how a program moves from there. Nothing is decided in Rust: each answer and
-//! each refusal comes from a C function. Reading borrows the caller's bytes and
-//! takes no heap memory.
+//! how a program moves from there. What is read, refused and written is decided by
+//! the C functions. Reading borrows the caller's bytes and takes no heap memory.
 //!
 //! A datagram is read by [`Compound`], one packet by `parse` of its type:
 //!
@@ -148,53 +147,37 @@ pub trait RtcpPacketParser<'a>: RtcpPacket + Sized {
     /// Reads one packet that takes up all the bytes.
     fn parse(data: &'a [u8]) -> Result<Self, RtcpParseError>;
 
-    /// The packet's bytes, header and padding included.
-    fn bytes(&self) -> &'a [u8];
-
-    /// The padding, its count at the end; empty where the packet is not padded.
-    fn padding_bytes(&self) -> &'a [u8];
-
-    /// The packet type.
-    fn packet_type(&self) -> u8 {
-        Self::PACKET_TYPE
-    }
-
-    /// The low 5 bits of the first byte.
-    fn low_bits(&self) -> u8;
-
     /// The first four bytes.
-    fn header_data(&self) -> [u8; 4] {
-        let bytes = self.bytes();
-        [bytes[0], bytes[1], bytes[2], bytes[3]]
-    }
+    fn header_data(&self) -> [u8; 4];
 }
 
 /// The fields of a packet's header.
 pub trait RtcpPacketParserExt<'a>: RtcpPacketParser<'a> {
-    /// The version of the protocol. No other is read.
+    /// The version of the protocol.
     fn version(&self) -> u8 {
-        Self::VERSION
+        self.header_data()[0] >> 6
     }
 
     /// The packet type.
     fn type_(&self) -> u8 {
-        self.packet_type()
+        self.header_data()[1]
     }
 
     /// The subtype; the same bits as [`count`](Self::count).
     fn subtype(&self) -> u8 {
-        self.low_bits()
+        self.count()
     }
 
     /// The number of bytes.
     fn length(&self) -> usize {
-        self.bytes().len()
+        let [_, _, high, low] = self.header_data();
+        4 * (usize::from(u16::from_be_bytes([high, low])) + 1)
     }
 
     /// The number of blocks, chunks or sources; the same bits as
     /// [`subtype`](Self::subtype).
     fn count(&self) -> u8 {
-        self.low_bits()
+        self.header_data()[0] & Self::MAX_COUNT
     }
 }
 
@@ -247,6 +230,11 @@ mod sealed {
     impl Sealed for crate::ByeBuilder<'_> {}
     impl Sealed for crate::AppBuilder<'_> {}
     impl Sealed for crate::PacketBuilder<'_> {}
+}
+
+/// The header of a packet that was read.
+fn header(packet: &[u8]) -> [u8; 4] {
+    [packet[0], packet[1], packet[2], packet[3]]
 }
 
 /// The padding as the crate rtcp-types gives it: its count, or none.

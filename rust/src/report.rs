@@ -1,5 +1,5 @@
 use crate::ffi;
-use crate::{padding_count, RtcpPacket, RtcpPacketParser, RtcpParseError};
+use crate::{header, padding_count, RtcpPacket, RtcpPacketParser, RtcpParseError};
 use std::iter::FusedIterator;
 
 /// What the two kinds of report have in common.
@@ -28,20 +28,22 @@ macro_rules! read_report {
                 Ok(Self::of(report, &read))
             }
 
-            fn bytes(&self) -> &'a [u8] {
-                self.report.data
-            }
-
-            fn padding_bytes(&self) -> &'a [u8] {
-                &self.report.data[self.report.body as usize..]
-            }
-
-            fn low_bits(&self) -> u8 {
-                self.report.n_reports
+            fn header_data(&self) -> [u8; 4] {
+                header(self.report.data)
             }
         }
 
         impl<'a> $report<'a> {
+            /// The packet's bytes, header and padding included.
+            pub fn bytes(&self) -> &'a [u8] {
+                self.report.data
+            }
+
+            /// The padding, its count at the end; empty where the packet is not padded.
+            pub fn padding_bytes(&self) -> &'a [u8] {
+                &self.report.data[self.report.body as usize..]
+            }
+
             /// The number of padding bytes, if the packet is padded.
             pub fn padding(&self) -> Option<u8> {
                 padding_count(self.padding_bytes())
@@ -96,6 +98,7 @@ macro_rules! build_report {
             }
 
             /// Adds a report block.
+            #[inline]
             pub fn add_report_block(mut self, report_block: ReportBlockBuilder) -> Self {
                 self.blocks.push(&report_block);
                 self
@@ -409,12 +412,15 @@ struct BlockLists {
 
 impl BlockLists {
     /// There is room at once for as many as a report has.
+    #[inline]
     fn push(&mut self, block: &ReportBlockBuilder) {
         if self.fractions.is_empty() {
             let most = usize::from(SenderReport::MAX_COUNT);
-            self.fractions.reserve_exact(most);
-            self.losses.reserve_exact(most);
-            self.words.reserve_exact(most * block.words.len());
+            *self = BlockLists {
+                fractions: Vec::with_capacity(most),
+                losses: Vec::with_capacity(most),
+                words: Vec::with_capacity(most * block.words.len()),
+            };
         }
         self.fractions.push(block.fraction_lost);
         self.losses.push(block.cumulative_lost);

@@ -1,5 +1,7 @@
 use crate::ffi::{self, between, part};
-use crate::{padding_count, size, RtcpPacket, RtcpPacketParser, RtcpParseError, RtcpWriteError};
+use crate::{
+    header, padding_count, size, RtcpPacket, RtcpPacketParser, RtcpParseError, RtcpWriteError,
+};
 use std::borrow::Cow;
 use std::iter::FusedIterator;
 use std::marker::PhantomData;
@@ -36,17 +38,8 @@ impl<'a> RtcpPacketParser<'a> for Sdes<'a> {
         Ok(Sdes { data })
     }
 
-    fn bytes(&self) -> &'a [u8] {
-        self.data
-    }
-
-    fn padding_bytes(&self) -> &'a [u8] {
-        let sdes = ffi::rtcp_sdes_parse(self.data);
-        part(self.data, sdes.padding, sdes.padding_len)
-    }
-
-    fn low_bits(&self) -> u8 {
-        self.n_chunks()
+    fn header_data(&self) -> [u8; 4] {
+        header(self.data)
     }
 }
 
@@ -55,6 +48,17 @@ impl<'a> Sdes<'a> {
     #[inline]
     pub(crate) fn accepted(data: &'a [u8]) -> Self {
         Sdes { data }
+    }
+
+    /// The packet's bytes, header and padding included.
+    pub fn bytes(&self) -> &'a [u8] {
+        self.data
+    }
+
+    /// The padding, its count at the end; empty where the packet is not padded.
+    pub fn padding_bytes(&self) -> &'a [u8] {
+        let sdes = ffi::rtcp_sdes_parse(self.data);
+        part(self.data, sdes.padding, sdes.padding_len)
     }
 
     /// The number of padding bytes, if the packet is padded.
@@ -348,11 +352,17 @@ impl<'a> SdesBuilder<'a> {
         self
     }
 
-    /// Adds a chunk.
+    /// Adds a chunk. There is room at once for as many as a packet has.
     pub fn add_chunk(mut self, chunk: SdesChunkBuilder<'a>) -> Self {
+        if self.ssrcs.is_empty() {
+            let most = usize::from(Sdes::MAX_COUNT);
+            self.ssrcs = Vec::with_capacity(most);
+            self.counts = Vec::with_capacity(most);
+            self.items = ItemLists::with_room(most.max(chunk.items.len()));
+        }
         self.ssrcs.push(chunk.ssrc);
         self.counts.push(chunk.items.len() as u64);
-        self.items.extend(&chunk.items);
+        chunk.items.iter().for_each(|item| self.items.push(item));
         self
     }
 }
@@ -377,29 +387,28 @@ struct ItemLists {
 }
 
 impl ItemLists {
+    /// Empty lists with room for so many items, of 16 bytes each or less.
+    fn with_room(items: usize) -> Self {
+        ItemLists {
+            types: Vec::with_capacity(items),
+            prefixes: Vec::with_capacity(items),
+            values: Vec::with_capacity(items),
+            bytes: Vec::with_capacity(16 * items),
+        }
+    }
+
+    fn of(items: &[SdesItemBuilder]) -> Self {
+        let mut lists = Self::with_room(items.len());
+        items.iter().for_each(|item| lists.push(item));
+        lists
+    }
+
     fn push(&mut self, item: &SdesItemBuilder) {
         self.types.push(item.type_);
         self.prefixes.push(item.prefix.len() as u64);
         self.values.push(item.value.len() as u64);
         self.bytes.extend_from_slice(&item.prefix);
         self.bytes.extend_from_slice(&item.value);
-    }
-
-    fn of(items: &[SdesItemBuilder]) -> Self {
-        let mut lists = ItemLists::default();
-        lists.extend(items);
-        lists
-    }
-
-    fn extend(&mut self, items: &[SdesItemBuilder]) {
-        let lengths = items
-            .iter()
-            .map(|item| item.prefix.len() + item.value.len());
-        self.bytes.reserve(lengths.sum());
-        self.types.reserve(items.len());
-        self.prefixes.reserve(items.len());
-        self.values.reserve(items.len());
-        items.iter().for_each(|item| self.push(item));
     }
 }
 

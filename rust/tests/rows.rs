@@ -530,6 +530,58 @@ fn a_packet_of_another_type() {
     assert_eq!(packet.padding_bytes(), [0, 0, 0, 4]);
 }
 
+/// A packet of a program's own, made from those of other types.
+struct Nack(u32);
+
+impl RtcpPacket for Nack {
+    const MIN_PACKET_LEN: usize = 12;
+    const PACKET_TYPE: u8 = 205;
+}
+
+impl<'a> TryFrom<&'a Unknown<'a>> for Nack {
+    type Error = RtcpParseError;
+
+    fn try_from(packet: &'a Unknown<'a>) -> Result<Self, RtcpParseError> {
+        let expected = Self::MIN_PACKET_LEN;
+        let actual = packet.length();
+        let missing = RtcpParseError::Truncated { expected, actual };
+        let ssrc = packet.body().first_chunk().ok_or(missing)?;
+        Ok(Nack(u32::from_be_bytes(*ssrc)))
+    }
+}
+
+impl<'a> TryFrom<&'a Packet<'a>> for Nack {
+    type Error = RtcpParseError;
+
+    fn try_from(packet: &'a Packet<'a>) -> Result<Self, RtcpParseError> {
+        match packet {
+            Packet::Unknown(packet) => packet.try_as(),
+            _ => Err(RtcpParseError::PacketTypeMismatch {
+                actual: packet.type_(),
+                requested: Self::PACKET_TYPE,
+            }),
+        }
+    }
+}
+
+#[test]
+fn a_packet_as_one_of_a_programs_own() {
+    let nack = bytes("81 CD 00 02 00 00 00 07 00 00 00 08");
+    let packet = Packet::parse(&nack).expect("a packet");
+    assert_eq!(packet.try_as::<Nack>().map(|nack| nack.0), Ok(7));
+    let empty = Packet::parse(&[0x81, 205, 0, 0]).expect("a packet");
+    assert_eq!(
+        unread(empty.try_as::<Nack>().map(|nack| nack.0)),
+        (2, 12, 4)
+    );
+    let data = bytes(CNAME);
+    let sdes = Packet::parse(&data).expect("an SDES packet");
+    assert_eq!(
+        unread(sdes.try_as::<Nack>().map(|nack| nack.0)),
+        (6, 202, 205)
+    );
+}
+
 #[test]
 fn parts_are_the_callers_own_bytes() {
     let data = bytes("A1 CB 00 03 11 22 33 44 02 61 62 00 00 00 00 04");

@@ -18,3 +18,13 @@ pub mod sample;
 pub mod side;
 pub mod text;
 pub mod view;
+
+/// The next arguments of a command: how many, or so many, and the seed, or 1.
+pub fn count_and_seed(arguments: &mut impl Iterator<Item = String>, many: u64) -> (usize, u64) {
+    let mut number = |default| {
+        arguments.next().map_or(default, |text| {
+            text.parse().expect("how many and the seed are numbers")
+        })
+    };
+    (number(many) as usize, number(1))
+}

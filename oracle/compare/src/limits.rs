@@ -1,7 +1,7 @@
 //! Inputs by enumeration: short ones exhaustively, every length around each
 //! boundary, both sides of every limit.
 
-use crate::generate::{item_lists, lengths, sdes_lists, stale_lists, STALE};
+use crate::generate::{lengths, sdes_lists, stale_lists, STALE};
 use crate::operation::Operation;
 use model::*;
 
@@ -543,7 +543,7 @@ fn sdes_writes(visit: &mut dyn FnMut(Operation)) {
     let mut chunk = |items: &[Item]| {
         let lists = ChunkLists {
             ssrc: 0x0708_090A,
-            items: item_lists(items),
+            items: ItemLists::of(items),
         };
         let operations = writes(size_of_chunk(&lists), |buffer| {
             Operation::WriteChunk(lists.clone(), buffer)

@@ -34,12 +34,7 @@ const PER_LIST: usize = 100;
 
 fn main() -> ExitCode {
     let mut arguments = std::env::args().skip(1);
-    let mut number = |default: u64| {
-        arguments.next().map_or(default, |text| {
-            text.parse().expect("SIZE and SEED are numbers")
-        })
-    };
-    let (size, seed) = (number(40_000_000) as usize, number(1));
+    let (size, seed) = compare::count_and_seed(&mut arguments, 40_000_000);
     let files: Vec<String> = arguments.collect();
 
     println!("{}", about_library());

@@ -92,6 +92,28 @@ impl Operation {
         }
     }
 
+    /// The bytes that a reading, or a call that fills lists, is lent.
+    pub fn bytes_read(&self) -> Option<&[u8]> {
+        match self {
+            Operation::ReadAs(_, bytes)
+            | Operation::ReadBlock(bytes)
+            | Operation::ReadItem(bytes)
+            | Operation::ReadPrefix(bytes)
+            | Operation::ReadChunk(bytes)
+            | Operation::ReadBlockAt(_, bytes, _)
+            | Operation::ReadSourceAt(bytes, _)
+            | Operation::ReadCompound(bytes)
+            | Operation::Open(bytes)
+            | Operation::Step(bytes, _)
+            | Operation::OpenSdes(bytes)
+            | Operation::SdesStep(bytes, _)
+            | Operation::OpenItems(bytes)
+            | Operation::ItemStep(bytes, _)
+            | Operation::List(_, bytes, _) => Some(bytes),
+            _ => None,
+        }
+    }
+
     /// What the model gives.
     pub fn modelled(&self) -> Outcome {
         match self {

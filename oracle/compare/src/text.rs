@@ -8,36 +8,24 @@ use model::*;
 pub fn inputs(operation: &Operation) -> String {
     let mut line = operation.name().replace(' ', "_");
     let mut put = |name: &str, value: String| line += &format!(" {name}={value}");
+    if let Operation::ReadBlockAt(kind, ..) = operation {
+        put("requested", kind.packet_type().to_string());
+    }
+    if let Some(bytes) = operation.bytes_read() {
+        put("bytes", run(bytes));
+    }
     match operation {
-        Operation::ReadAs(_, bytes)
-        | Operation::ReadBlock(bytes)
-        | Operation::ReadItem(bytes)
-        | Operation::ReadPrefix(bytes)
-        | Operation::ReadChunk(bytes)
-        | Operation::ReadCompound(bytes)
-        | Operation::Open(bytes)
-        | Operation::OpenSdes(bytes)
-        | Operation::OpenItems(bytes) => put("bytes", run(bytes)),
-        Operation::ReadBlockAt(kind, bytes, index) => {
-            put("requested", kind.packet_type().to_string());
-            put("bytes", run(bytes));
+        Operation::ReadBlockAt(_, _, index) | Operation::ReadSourceAt(_, index) => {
             put("index", index.to_string());
         }
-        Operation::ReadSourceAt(bytes, index) => {
-            put("bytes", run(bytes));
-            put("index", index.to_string());
-        }
-        Operation::Step(bytes, position) | Operation::ItemStep(bytes, position) => {
-            put("bytes", run(bytes));
+        Operation::Step(_, position) | Operation::ItemStep(_, position) => {
             put("position", position.to_string());
         }
-        Operation::SdesStep(bytes, walk) => {
-            put("bytes", run(bytes));
+        Operation::SdesStep(_, walk) => {
             put("position", walk.position.to_string());
             put("end", walk.end.to_string());
         }
-        Operation::List(_, bytes, before) => {
-            put("bytes", run(bytes));
+        Operation::List(_, _, before) => {
             for numbers in before {
                 put("list", list(numbers, u64::to_string));
             }
@@ -79,6 +67,7 @@ pub fn inputs(operation: &Operation) -> String {
                 Call::Close => put("given", "-".to_string()),
             }
         }
+        _ => {}
     }
     line
 }

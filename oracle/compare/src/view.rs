@@ -210,7 +210,7 @@ fn packets(view: &mut View, packets: &[Packet]) {
 
 fn packet(view: &mut View, packet: &Packet) {
     view.number("type", packet.packet_type());
-    view.count("low", low(&packet.content));
+    view.count("low", packet.low_bits());
     view.count("length", layout(packet).len());
     match packet.padding.len() {
         0 => view.put("padding", Value::Nothing),
@@ -218,16 +218,6 @@ fn packet(view: &mut View, packet: &Packet) {
     }
     content(view, &packet.content);
     view.bytes("padding_bytes", &packet.padding);
-}
-
-fn low(content: &Content) -> usize {
-    match content {
-        Content::Report { blocks, .. } => blocks.len(),
-        Content::Sdes { chunks } => chunks.len(),
-        Content::Bye { sources, .. } => sources.len(),
-        Content::App { subtype, .. } => usize::from(*subtype),
-        Content::Unknown { low, .. } => usize::from(*low),
-    }
 }
 
 fn content(view: &mut View, content: &Content) {

@@ -3,7 +3,7 @@
 //! holds, the answers are equal.
 #![cfg(rtcp_types)]
 
-use compare::generate::{item_lists, operation, Sort, STALE};
+use compare::generate::{operation, Sort, STALE};
 use compare::limits;
 use compare::operation::Operation;
 use compare::rng::Rng;
@@ -137,7 +137,7 @@ fn write(text: &str) -> Operation {
             items.push(item(2, &[b'v'; 251]));
             let lists = ChunkLists {
                 ssrc: 1,
-                items: item_lists(&items),
+                items: ItemLists::of(&items),
             };
             Operation::WriteChunk(lists, vec![STALE; 262_144])
         }

@@ -4,11 +4,11 @@ use crate::packet::*;
 
 /// The bytes of a packet that is full words and whose fields fit.
 pub fn layout(packet: &Packet) -> Vec<u8> {
-    let (low, fields) = fields(&packet.content);
+    let fields = fields(&packet.content);
     let length = 4 + fields.len() + packet.padding.len();
     let p = !packet.padding.is_empty();
     let mut bytes = vec![
-        2 << 6 | u8::from(p) << 5 | low,
+        2 << 6 | u8::from(p) << 5 | packet.low_bits() as u8,
         packet.packet_type(),
         ((length / 4 - 1) >> 8) as u8,
         (length / 4 - 1) as u8,
@@ -18,7 +18,7 @@ pub fn layout(packet: &Packet) -> Vec<u8> {
     bytes
 }
 
-fn fields(content: &Content) -> (u8, Vec<u8>) {
+fn fields(content: &Content) -> Vec<u8> {
     match content {
         Content::Report {
             ssrc,
@@ -30,12 +30,9 @@ fn fields(content: &Content) -> (u8, Vec<u8>) {
             bytes.extend(sender.iter().flat_map(layout_sender));
             bytes.extend(blocks.iter().flat_map(layout_block));
             bytes.extend(extension);
-            (blocks.len() as u8, bytes)
+            bytes
         }
-        Content::Sdes { chunks } => (
-            chunks.len() as u8,
-            chunks.iter().flat_map(layout_chunk).collect(),
-        ),
+        Content::Sdes { chunks } => chunks.iter().flat_map(layout_chunk).collect(),
         Content::Bye {
             sources,
             reason,
@@ -46,18 +43,12 @@ fn fields(content: &Content) -> (u8, Vec<u8>) {
                 bytes = [bytes, vec![reason.len() as u8], reason.clone()].concat();
             }
             bytes.extend(tail);
-            (sources.len() as u8, bytes)
+            bytes
         }
         Content::App {
-            subtype,
-            ssrc,
-            name,
-            data,
-        } => (
-            *subtype,
-            [&ssrc.to_be_bytes()[..], &name[..], &data[..]].concat(),
-        ),
-        Content::Unknown { low, body, .. } => (*low, body.clone()),
+            ssrc, name, data, ..
+        } => [&ssrc.to_be_bytes()[..], &name[..], &data[..]].concat(),
+        Content::Unknown { body, .. } => body.clone(),
     }
 }
 

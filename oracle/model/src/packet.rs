@@ -163,6 +163,17 @@ impl Packet {
         }
     }
 
+    /// The low five bits of the first byte.
+    pub fn low_bits(&self) -> usize {
+        match &self.content {
+            Content::Report { blocks, .. } => blocks.len(),
+            Content::Sdes { chunks } => chunks.len(),
+            Content::Bye { sources, .. } => sources.len(),
+            Content::App { subtype, .. } => usize::from(*subtype),
+            Content::Unknown { low, .. } => usize::from(*low),
+        }
+    }
+
     pub fn has_cname(&self) -> bool {
         match &self.content {
             Content::Sdes { chunks } => chunks.iter().any(Chunk::has_cname),

@@ -252,6 +252,20 @@ fn sum(numbers: &[u64]) -> u128 {
     numbers.iter().map(|number| u128::from(*number)).sum()
 }
 
+impl ItemLists {
+    pub fn of(items: &[Item]) -> ItemLists {
+        ItemLists {
+            types: items.iter().map(|item| item.item_type).collect(),
+            prefix_lengths: items.iter().map(|item| item.prefix.len() as u64).collect(),
+            value_lengths: items.iter().map(|item| item.value.len() as u64).collect(),
+            bytes: items
+                .iter()
+                .flat_map(|item| [&item.prefix[..], &item.value].concat())
+                .collect(),
+        }
+    }
+}
+
 impl BlockLists {
     pub fn of(blocks: &[Block]) -> BlockLists {
         BlockLists {

@@ -169,7 +169,7 @@ fn item_bytes() {
 fn chunk_bytes_and_limit() {
     let chunk = |items: &[Item]| ChunkLists {
         ssrc: 1,
-        items: lists(items),
+        items: ItemLists::of(items),
     };
     let mut buffer = [0x5A; 14];
     assert_eq!(write_chunk(&chunk(&[item(1, b"ab")]), &mut buffer), Ok(12));

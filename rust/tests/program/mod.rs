@@ -7,6 +7,32 @@ use rtcp_types::{
     SdesItem, SenderReport,
 };
 
+/// A packet of the program's own.
+struct Nack<'a> {
+    data: &'a [u8],
+}
+
+impl RtcpPacket for Nack<'_> {
+    const MIN_PACKET_LEN: usize = 12;
+    const PACKET_TYPE: u8 = 205;
+}
+
+impl<'a> RtcpPacketParser<'a> for Nack<'a> {
+    fn parse(data: &'a [u8]) -> Result<Self, RtcpParseError> {
+        if data.len() < Self::MIN_PACKET_LEN {
+            return Err(RtcpParseError::Truncated {
+                expected: Self::MIN_PACKET_LEN,
+                actual: data.len(),
+            });
+        }
+        Ok(Nack { data })
+    }
+
+    fn header_data(&self) -> [u8; 4] {
+        [self.data[0], self.data[1], self.data[2], self.data[3]]
+    }
+}
+
 fn write(packet: impl RtcpPacketWriter) -> Result<Vec<u8>, RtcpWriteError> {
     let mut buf = vec![0; packet.calculate_size()?];
     let len = packet.write_into(&mut buf)?;
@@ -123,6 +149,11 @@ fn describe(data: &[u8]) -> Result<String, RtcpParseError> {
                 app.data()
             )
         }
+        Nack::PACKET_TYPE => {
+            let nack = Nack::parse(data)?;
+            let header = (nack.version(), nack.type_(), nack.subtype(), nack.count());
+            format!("NACK {header:?} {}", nack.length())
+        }
         other => format!("type {other}"),
     };
     Ok(reading)
@@ -142,6 +173,10 @@ pub fn run() {
         "APP 13 12 name [100, 97, 116, 97] Some(8)",
     ];
     assert_eq!(readings, expected);
+    let nack = [0x81, 205, 0, 2, 0, 0, 0, 1, 0, 0, 0, 2];
+    let reading = describe(&nack).expect("a packet of the program's own");
+    assert_eq!(reading, "NACK (2, 205, 1, 1) 12");
+    assert!(describe(&nack[..8]).is_err());
 
     let cut = ReceiverReport::parse(&packets[1][..28]).err();
     let truncated = RtcpParseError::Truncated {

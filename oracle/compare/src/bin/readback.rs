@@ -29,13 +29,7 @@ const SHOWN: usize = 20;
 const AFTER: [usize; 2] = [5, 1500];
 
 fn main() -> ExitCode {
-    let mut arguments = std::env::args().skip(1);
-    let mut number = |default: u64| {
-        arguments.next().map_or(default, |text| {
-            text.parse().expect("COUNT and SEED are numbers")
-        })
-    };
-    let (count, seed) = (number(100_000) as usize, number(1));
+    let (count, seed) = compare::count_and_seed(&mut std::env::args().skip(1), 100_000);
     println!("{}", about_library());
     if !library::present() {
         return ExitCode::SUCCESS;

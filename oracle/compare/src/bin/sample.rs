@@ -31,12 +31,7 @@ fn main() {
 fn main() {
     let mut arguments = std::env::args().skip(1);
     let form = arguments.next().unwrap_or_default();
-    let mut number = |default: u64| {
-        arguments.next().map_or(default, |text| {
-            text.parse().expect("COUNT and SEED are numbers")
-        })
-    };
-    let (count, seed) = (number(600) as usize, number(1));
+    let (count, seed) = compare::count_and_seed(&mut arguments, 600);
     let (sorts, form) = match form.strip_prefix("write-") {
         Some(form) => (&WRITING[..], form),
         None => (&READING[..], form.as_str()),

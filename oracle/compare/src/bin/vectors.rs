@@ -17,12 +17,7 @@ use compare::text::inputs;
 fn main() {
     let mut arguments = std::env::args().skip(1);
     let form = arguments.next().unwrap_or_else(|| "text".to_string());
-    let mut number = |default: u64| {
-        arguments.next().map_or(default, |text| {
-            text.parse().expect("COUNT and SEED are numbers")
-        })
-    };
-    let (count, seed) = (number(400) as usize, number(1));
+    let (count, seed) = compare::count_and_seed(&mut arguments, 400);
     let operations = operations(seed).take(count);
     match form.as_str() {
         "text" => operations.for_each(|operation| println!("{}", text(&operation))),

@@ -10,8 +10,8 @@ use model::*;
 pub use packets::packet;
 use packets::*;
 use readings::*;
+pub use writings::sdes_lists;
 use writings::*;
-pub use writings::{item_lists, sdes_lists};
 
 /// The byte that buffers and lists are filled with before a call.
 pub const STALE: u8 = 0x5A;

@@ -55,26 +55,13 @@ pub(super) fn given_item(rng: &mut Rng) -> Item {
     }
 }
 
-/// The flat lists of items.
-pub fn item_lists(items: &[Item]) -> ItemLists {
-    ItemLists {
-        types: items.iter().map(|item| item.item_type).collect(),
-        prefix_lengths: items.iter().map(|item| item.prefix.len() as u64).collect(),
-        value_lengths: items.iter().map(|item| item.value.len() as u64).collect(),
-        bytes: items
-            .iter()
-            .flat_map(|item| [&item.prefix[..], &item.value].concat())
-            .collect(),
-    }
-}
-
 /// The flat lists of chunks.
 pub fn sdes_lists(chunks: &[(u32, Vec<Item>)]) -> SdesLists {
     let items: Vec<Item> = chunks.iter().flat_map(|(_, items)| items.clone()).collect();
     SdesLists {
         ssrcs: chunks.iter().map(|(ssrc, _)| *ssrc).collect(),
         counts: chunks.iter().map(|(_, items)| items.len() as u64).collect(),
-        items: item_lists(&items),
+        items: ItemLists::of(&items),
     }
 }
 
@@ -133,7 +120,7 @@ pub(super) fn given_items(rng: &mut Rng) -> Vec<Item> {
 
 pub(super) fn given_chunk_lists(rng: &mut Rng) -> ChunkLists {
     let items = given_items(rng);
-    let mut items = item_lists(&items);
+    let mut items = ItemLists::of(&items);
     if rng.once_in(8) {
         disturb(rng, &mut items);
     }

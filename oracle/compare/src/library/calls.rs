@@ -1,85 +1,24 @@
 //! The compound writer's calls.
 
-use super::writing::{LentBlocks, LentItems};
+use super::writing::{call_with, LentBlocks, LentItems};
 use super::{broken, shown, Library};
 use crate::view::View;
 use library::*;
-use model::{Given, Writer};
+use model::{Given, SenderInfo, Writer};
 
 impl Library {
     /// An add as C answers it, on a buffer as it stands.
     pub fn add(&self, writer: &mut RtcpWriter, given: &Given, buf: &mut [u8]) -> Option<RtcpCall> {
-        match given {
-            Given::Report { .. } => self.add_report(writer, given, buf),
-            Given::Sdes { lists, padding } => {
-                let (ssrcs, counts) = (self.lend(&lists.ssrcs), self.lend(&lists.counts));
-                let LentItems {
-                    types,
-                    prefixes,
-                    values,
-                    bytes,
-                } = self.lend_items(&lists.items);
-                rtcp_writer_add_sdes(
-                    writer, buf, &ssrcs, &counts, &types, &prefixes, &values, &bytes, *padding,
-                )
-            }
-            Given::Bye {
-                sources,
-                reason,
-                padding,
-            } => {
-                let (sources, reason) = (self.lend(sources), self.lend(reason));
-                rtcp_writer_add_bye(writer, buf, &sources, &reason, *padding)
-            }
-            Given::App {
-                subtype,
-                ssrc,
-                name,
-                data,
-                padding,
-            } => {
-                let (name, data) = (self.lend(name), self.lend(data));
-                rtcp_writer_add_app(writer, buf, *subtype, *ssrc, &name, &data, *padding)
-            }
-        }
-    }
-
-    fn add_report(
-        &self,
-        writer: &mut RtcpWriter,
-        given: &Given,
-        buf: &mut [u8],
-    ) -> Option<RtcpCall> {
-        let Given::Report {
-            ssrc,
-            sender,
-            blocks,
-            padding,
-        } = given
-        else {
-            return None;
-        };
-        let LentBlocks {
-            fractions,
-            losses,
-            words,
-        } = self.lend_blocks(blocks);
-        match sender {
-            None => rtcp_writer_add_rr(writer, buf, *ssrc, &fractions, &losses, &words, *padding),
-            Some(sender) => rtcp_writer_add_sr(
-                writer,
-                buf,
-                *ssrc,
-                sender.ntp_time,
-                sender.rtp_time,
-                sender.packet_count,
-                sender.octet_count,
-                &fractions,
-                &losses,
-                &words,
-                *padding,
-            ),
-        }
+        call_with!(
+            self,
+            given,
+            [writer, buf],
+            rtcp_writer_add_rr,
+            rtcp_writer_add_sr,
+            rtcp_writer_add_sdes,
+            rtcp_writer_add_bye,
+            rtcp_writer_add_app
+        )
     }
 
     pub(super) fn added(&self, writer: Writer, given: &Given, before: &[u8]) -> Option<View> {

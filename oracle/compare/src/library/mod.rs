@@ -76,7 +76,7 @@ impl Side for Library {
             Operation::Add(writer, given, before) => self.added(*writer, given, before),
             Operation::Close(writer) => self.closed(*writer),
             _ => {
-                let bytes = bytes_read(operation)?;
+                let bytes = operation.bytes_read()?;
                 let s = Guarded::new(bytes, self.0);
                 let mut view = read(operation, &s)?;
                 kept(&mut view, &s, bytes);
@@ -90,26 +90,6 @@ impl Side for Library {
 fn kept(view: &mut View, s: &[u8], bytes: &[u8]) {
     if s != bytes {
         broken(view, "bytes that a reading changed");
-    }
-}
-
-fn bytes_read(operation: &Operation) -> Option<&[u8]> {
-    match operation {
-        Operation::ReadAs(_, bytes)
-        | Operation::ReadBlock(bytes)
-        | Operation::ReadItem(bytes)
-        | Operation::ReadPrefix(bytes)
-        | Operation::ReadChunk(bytes)
-        | Operation::ReadBlockAt(_, bytes, _)
-        | Operation::ReadSourceAt(bytes, _)
-        | Operation::ReadCompound(bytes)
-        | Operation::Open(bytes)
-        | Operation::Step(bytes, _)
-        | Operation::OpenSdes(bytes)
-        | Operation::SdesStep(bytes, _)
-        | Operation::OpenItems(bytes)
-        | Operation::ItemStep(bytes, _) => Some(bytes),
-        _ => None,
     }
 }
 

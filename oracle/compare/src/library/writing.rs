@@ -4,7 +4,7 @@ use super::{shown, Library};
 use crate::view::{Value, View};
 use library::guard::{Guarded, Number};
 use library::*;
-use model::{BlockLists, ChunkLists, Given, Item, ItemLists, Refusal, SdesLists, SenderInfo};
+use model::{BlockLists, ChunkLists, Given, Item, ItemLists, Refusal, SenderInfo};
 
 /// The lists of items in guarded memory.
 pub(super) struct LentItems {
@@ -21,8 +21,38 @@ pub(super) struct LentBlocks {
     pub words: Guarded<u32>,
 }
 
-/// What a write and its size answer.
-type Answers = (Option<RtcpWritten>, Option<RtcpWritten>);
+/// Calls the one of the functions that is for the packet given, with its fields in
+/// guarded memory behind the arguments that say where it is written.
+macro_rules! call_with {
+    ($lender:ident, $given:expr, [$($place:expr),*], $rr:ident, $sr:ident, $sdes:ident, $bye:ident, $app:ident) => {
+        match $given {
+            Given::Report { ssrc, sender, blocks, padding } => {
+                let LentBlocks { fractions, losses, words } = $lender.lend_blocks(blocks);
+                match sender {
+                    None => $rr($($place,)* *ssrc, &fractions, &losses, &words, *padding),
+                    Some(SenderInfo { ntp_time, rtp_time, packet_count, octet_count }) => $sr(
+                        $($place,)* *ssrc, *ntp_time, *rtp_time, *packet_count, *octet_count,
+                        &fractions, &losses, &words, *padding,
+                    ),
+                }
+            }
+            Given::Sdes { lists, padding } => {
+                let (ssrcs, counts) = ($lender.lend(&lists.ssrcs), $lender.lend(&lists.counts));
+                let LentItems { types, prefixes, values, bytes } = $lender.lend_items(&lists.items);
+                $sdes($($place,)* &ssrcs, &counts, &types, &prefixes, &values, &bytes, *padding)
+            }
+            Given::Bye { sources, reason, padding } => {
+                let (sources, reason) = ($lender.lend(sources), $lender.lend(reason));
+                $bye($($place,)* &sources, &reason, *padding)
+            }
+            Given::App { subtype, ssrc, name, data, padding } => {
+                let (name, data) = ($lender.lend(name), $lender.lend(data));
+                $app($($place,)* *subtype, *ssrc, &name, &data, *padding)
+            }
+        }
+    };
+}
+pub(super) use call_with;
 
 impl Library {
     pub(super) fn lend<T: Number>(&self, items: &[T]) -> Guarded<T> {
@@ -48,91 +78,36 @@ impl Library {
 
     pub(super) fn write(&self, given: &Given, before: &[u8]) -> Option<View> {
         let mut buf = self.lend(before);
-        let (written, size) = match given {
-            Given::Report {
-                ssrc,
-                sender,
-                blocks,
-                padding,
-            } => self.write_report(&mut buf, *ssrc, sender.as_ref(), blocks, *padding),
-            Given::Sdes { lists, padding } => self.write_sdes(&mut buf, lists, *padding),
-            Given::Bye {
-                sources,
-                reason,
-                padding,
-            } => {
-                let (sources, reason) = (self.lend(sources), self.lend(reason));
-                (
-                    rtcp_bye_write(&mut buf, &sources, &reason, *padding),
-                    rtcp_bye_size(&sources, &reason, *padding),
-                )
-            }
-            Given::App {
-                subtype,
-                ssrc,
-                name,
-                data,
-                padding,
-            } => {
-                let (name, data) = (self.lend(name), self.lend(data));
-                (
-                    rtcp_app_write(&mut buf, *subtype, *ssrc, &name, &data, *padding),
-                    rtcp_app_size(*subtype, &name, &data, *padding),
-                )
-            }
-        };
-        Some(show_written(written?, size, &buf))
-    }
-
-    fn write_report(
-        &self,
-        buf: &mut [u8],
-        ssrc: u32,
-        sender: Option<&SenderInfo>,
-        blocks: &BlockLists,
-        padding: u64,
-    ) -> Answers {
-        let LentBlocks {
-            fractions,
-            losses,
-            words,
-        } = self.lend_blocks(blocks);
-        let Some(sender) = sender else {
-            return (
-                rtcp_rr_write(buf, ssrc, &fractions, &losses, &words, padding),
-                rtcp_rr_size(&fractions, &losses, &words, padding),
-            );
-        };
-        let written = rtcp_sr_write(
-            buf,
-            ssrc,
-            sender.ntp_time,
-            sender.rtp_time,
-            sender.packet_count,
-            sender.octet_count,
-            &fractions,
-            &losses,
-            &words,
-            padding,
+        let written = call_with!(
+            self,
+            given,
+            [&mut buf],
+            rtcp_rr_write,
+            rtcp_sr_write,
+            rtcp_sdes_write,
+            rtcp_bye_write,
+            rtcp_app_write
         );
-        let size = rtcp_sr_size(&fractions, &losses, &words, padding);
-        (written, size)
-    }
-
-    fn write_sdes(&self, buf: &mut [u8], lists: &SdesLists, padding: u64) -> Answers {
-        let (ssrcs, counts) = (self.lend(&lists.ssrcs), self.lend(&lists.counts));
-        let LentItems {
-            types,
-            prefixes,
-            values,
-            bytes,
-        } = self.lend_items(&lists.items);
-        (
-            rtcp_sdes_write(
-                buf, &ssrcs, &counts, &types, &prefixes, &values, &bytes, padding,
-            ),
-            rtcp_sdes_size(&ssrcs, &counts, &types, &prefixes, &values, &bytes, padding),
-        )
+        // A size depends on no SSRC and on no sender's numbers.
+        let rr_size = |_, fractions: &_, losses: &_, words: &_, padding| {
+            rtcp_rr_size(fractions, losses, words, padding)
+        };
+        let sr_size = |_, _, _, _, _, fractions: &_, losses: &_, words: &_, padding| {
+            rtcp_sr_size(fractions, losses, words, padding)
+        };
+        let app_size =
+            |subtype, _, name: &_, data: &_, padding| rtcp_app_size(subtype, name, data, padding);
+        let size = call_with!(
+            self,
+            given,
+            [],
+            rr_size,
+            sr_size,
+            rtcp_sdes_size,
+            rtcp_bye_size,
+            app_size
+        );
+        Some(show_written(written?, size, &buf))
     }
 
     pub(super) fn write_chunk(&self, lists: &ChunkLists, before: &[u8]) -> Option<View> {

@@ -124,7 +124,7 @@ fn block(block: Block) -> Vec<u64> {
 
 /// The fields of a packet, each part as its place and its length.
 fn packet(packet: Packet) -> Vec<u64> {
-    let count = low(&packet);
+    let count = packet.low_bits() as u64;
     let (mut fields, end) = match packet.content {
         Content::Report {
             ssrc,
@@ -174,16 +174,6 @@ fn len_of<T>(list: &[T]) -> u64 {
 }
 
 /// The low five bits of a packet's first byte.
-fn low(packet: &Packet) -> u64 {
-    match &packet.content {
-        Content::Report { blocks, .. } => len_of(blocks),
-        Content::Sdes { chunks } => len_of(chunks),
-        Content::Bye { sources, .. } => len_of(sources),
-        Content::App { subtype, .. } => (*subtype).into(),
-        Content::Unknown { low, .. } => (*low).into(),
-    }
-}
-
 fn item_length(item: &Item) -> u64 {
     u64::from(item.item_type == PRIV) + len(&item.prefix) + len(&item.value)
 }
@@ -269,7 +259,7 @@ fn step_fields(packet: Packet, at: u64, size: u64) -> Vec<u64> {
     let head = vec![
         kind,
         packet_type.into(),
-        low(&packet),
+        packet.low_bits() as u64,
         at,
         size,
         body,

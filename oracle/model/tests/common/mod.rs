@@ -58,25 +58,13 @@ pub fn give_rr(blocks: Vec<Block>, padding: u64) -> Given {
     }
 }
 
-pub fn lists(items: &[Item]) -> ItemLists {
-    ItemLists {
-        types: items.iter().map(|item| item.item_type).collect(),
-        prefix_lengths: items.iter().map(|item| item.prefix.len() as u64).collect(),
-        value_lengths: items.iter().map(|item| item.value.len() as u64).collect(),
-        bytes: items
-            .iter()
-            .flat_map(|item| [&item.prefix[..], &item.value].concat())
-            .collect(),
-    }
-}
-
 /// An SDES of one chunk.
 pub fn give_sdes(items: &[Item], padding: u64) -> Given {
     Given::Sdes {
         lists: SdesLists {
             ssrcs: vec![0x1122_3344],
             counts: vec![items.len() as u64],
-            items: lists(items),
+            items: ItemLists::of(items),
         },
         padding,
     }

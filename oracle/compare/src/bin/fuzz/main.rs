@@ -122,25 +122,17 @@ fn first_cases(rng: &mut Rng) -> Vec<Case> {
     cases
 }
 
+/// The case of a reading.
 fn case_of(operation: Operation) -> Option<Case> {
-    Some(match operation {
-        Operation::ReadAs(_, bytes)
-        | Operation::ReadBlock(bytes)
-        | Operation::ReadItem(bytes)
-        | Operation::ReadPrefix(bytes)
-        | Operation::ReadChunk(bytes)
-        | Operation::ReadCompound(bytes)
-        | Operation::Open(bytes)
-        | Operation::OpenSdes(bytes)
-        | Operation::OpenItems(bytes)
-        | Operation::List(_, bytes, _) => Case::of(&bytes, 0, 0),
-        Operation::ReadBlockAt(_, bytes, at)
-        | Operation::ReadSourceAt(bytes, at)
-        | Operation::Step(bytes, at)
-        | Operation::ItemStep(bytes, at) => Case::of(&bytes, at, 0),
-        Operation::SdesStep(bytes, walk) => Case::of(&bytes, walk.position, walk.end),
-        _ => return None,
-    })
+    let (at, end) = match &operation {
+        Operation::ReadBlockAt(_, _, at)
+        | Operation::ReadSourceAt(_, at)
+        | Operation::Step(_, at)
+        | Operation::ItemStep(_, at) => (*at, 0),
+        Operation::SdesStep(_, walk) => (walk.position, walk.end),
+        _ => (0, 0),
+    };
+    Some(Case::of(operation.bytes_read()?, at, end))
 }
 
 #[derive(Default)]
