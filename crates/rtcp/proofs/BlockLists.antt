@@ -17,9 +17,9 @@ use Rattle.report.specs.Block.{fractionIn, lossIn, wordsIn, listOf, room, layIf
 use Rattle.report.specs.Report.{reportBlocks}
 use Rattle.rtcp.specs.Report.{blocksOut}
 use Rattle.rtcp.specs.declared.write_result.RtcpWritten.{RtcpWritten}
-use Rattle.rtcp.proofs.Injective.{Numbered}
-use Rattle.rtcp.proofs.Numbered.{read-numbered}
-use Rattle.rtcp.proofs.Lists.{map-numbered}
+use Rattle.rtcp.proofs.Injective.{Nonzero}
+use Rattle.rtcp.proofs.Nonzero.{read-nonzero}
+use Rattle.rtcp.proofs.Lists.{map-nonzero}
 
 -- ---- the three lists are the blocks' own
 
@@ -66,16 +66,16 @@ blocks-filled (refused r) n f l w f₁ l₁ w₁ e = absurd (refused≢ok (sym (
 
 -- ---- the C functions: number 0 says that the lists are filled, and the size is the number of blocks
 
-laid-numbered : (b : Bool) (bs : List Block) (f l w : List ℕ) → Numbered (layIf b bs f l w .0)
-laid-numbered true bs f l w = tt
-laid-numbered false bs f l w = omega arith
+laid-nonzero : (b : Bool) (bs : List Block) (f l w : List ℕ) → Nonzero (layIf b bs f l w .0)
+laid-nonzero true bs f l w = tt
+laid-nonzero false bs f l w = omega arith
 
-blocks-numbered : (a : Answer (List Block)) (f l w : List ℕ) → Numbered a → Numbered (layBlocks a f l w .0)
+blocks-nonzero : (a : Answer (List Block)) (f l w : List ℕ) → Nonzero a → Nonzero (layBlocks a f l w .0)
 unfolding layBlocks
-blocks-numbered (ok bs) f l w n = laid-numbered (room (length bs) f l w) bs f l w
-blocks-numbered (refused r) f l w n = n
+blocks-nonzero (ok bs) f l w n = laid-nonzero (room (length bs) f l w) bs f l w
+blocks-nonzero (refused r) f l w n = n
 
-handed-blocks : (x : Four) (r : RtcpWritten) (f₁ l₁ w₁ : List ℕ) → Numbered (x .0) → (r, f₁, l₁, w₁) ≡ blocksOut x → r .number ≡ 0 → _≡_ {A = Four} (ok (r .size), f₁, l₁, w₁) x
+handed-blocks : (x : Four) (r : RtcpWritten) (f₁ l₁ w₁ : List ℕ) → Nonzero (x .0) → (r, f₁, l₁, w₁) ≡ blocksOut x → r .number ≡ 0 → _≡_ {A = Four} (ok (r .size), f₁, l₁, w₁) x
 handed-blocks (ok n, f, l, w) r f₁ l₁ w₁ k m z = ap (λ (y : RtcpWritten × List ℕ × List ℕ × List ℕ). (ok (y .0 .size), y .1, y .2, y .3)) m
 handed-blocks (refused e, f, l, w) r f₁ l₁ w₁ k m z = absurd (let q = ap (λ (y : RtcpWritten × List ℕ × List ℕ × List ℕ). y .0 .number) m in omega arith)
 
@@ -84,6 +84,6 @@ pub blocks-listed : (k : Kind) (s : List ℕ) (r : RtcpWritten) (f l w f₁ l₁
     → (p : Read) × (readAs k s ≡ ok p) × (lentBlocks (take (r .size) f₁) (take (r .size) l₁) (take (r .size * 5) w₁) ≡ reportBlocks p)
 blocks-listed k s r f l w f₁ l₁ w₁ m z =
     let a : Answer (List Block) = mapOk reportBlocks (readAs k s) in
-    let g = blocks-filled a (r .size) f l w f₁ l₁ w₁ (handed-blocks (layBlocks a f l w) r f₁ l₁ w₁ (blocks-numbered a f l w (map-numbered reportBlocks (readAs k s) (read-numbered k s))) m z) in
+    let g = blocks-filled a (r .size) f l w f₁ l₁ w₁ (handed-blocks (layBlocks a f l w) r f₁ l₁ w₁ (blocks-nonzero a f l w (map-nonzero reportBlocks (readAs k s) (read-nonzero k s))) m z) in
     let o = mapOk-inv reportBlocks (readAs k s) (g .1) in
     (o .0, o .1, g .2 ∙ sym (o .2))

@@ -1,7 +1,7 @@
 -- BYE packets: what C gets, from what the readers answer.
 use mathlib.Core.Path.{_≡_, refl}
 use mathlib.Core.List.{List}
-use Prim.Native.Nat.{ℕ, _+_, _-_, _^_, _<_, _≤_}
+use Prim.Native.Nat.{ℕ, _+_, _^_, _<_, _≤_}
 use native.Mathlib.Omega.{arith}
 use borrow.Author.Needs.{needs}
 use lib.ListN.{take, drop}
@@ -13,10 +13,9 @@ use Rattle.bye.specs.declared.Bye.{Bye}
 use Rattle.bye.specs.declared.ParsedBye.{ParsedBye}
 use Rattle.bye.specs.declared.ParsedBye.the-variants as parsed
 use Rattle.bye.proofs.Byes.{parts}
-use Rattle.rtcp.specs.Result.{bit}
 use Rattle.rtcp.specs.Bye.{byeResult}
 use Rattle.rtcp.specs.declared.read_bye.RtcpBye.{RtcpBye}
-use Rattle.rtcp.proofs.Results.{handed, viewed}
+use Rattle.rtcp.proofs.Results.{viewed}
 
 module _ (o : ParsedBye) (b : Bye) (x : Answer Packet) (p : o ≡ parsed.Bye b) (q : parsedOf o ≡ mapOk byeView x) where
   pub bye-order : b .reason + b .«reason_len» ≤ b .body
@@ -24,22 +23,6 @@ module _ (o : ParsedBye) (b : Bye) (x : Answer Packet) (p : o ≡ parsed.Bye b) 
 
   pub bye-fits : b .body < 2 ^ 64 → b .reason + b .«reason_len» < 2 ^ 64
   bye-fits l = let m = bye-order in omega arith
-
-pub bye-read : (o : ParsedBye) (b : Bye) (x : Answer Bye) (n : ℕ) → n ≡ bit (b .«has_reason») → o ≡ parsed.Bye b → parsedOf o ≡ x
-    → record {
-      number = 0;
-      first = 0;
-      second = 0;
-      «n_sources» = b .«n_sources»;
-      «has_reason» = n;
-      reason = b .reason;
-      «reason_len» = b .«reason_len»;
-      tail = b .reason + b .«reason_len»;
-      «tail_len» = b .body - (b .reason + b .«reason_len»);
-      padding = b .body;
-      «padding_len» = b .«padding_len»;
-    } ≡ byeResult x
-bye-read o b x n h p q = rw h (handed byeResult parsedOf parsed.Bye (λ b. refl) o b x p q)
 
 -- the bytes at C's places are the packet's fields
 pub record Places (s : List ℕ) (p : Packet) (r : RtcpBye) : Type 0 where
@@ -51,4 +34,4 @@ pub places : (s : List ℕ) (p : Packet) → readAs BYE s ≡ ok p → Places s 
 unfolding mapOk
 places s p e = let h = parts s p e in rw e (record { because = h .because; tail = h .tail; padding = h .padding })
 
-pub ruleset byes = (needs, bye-order, bye-fits, bye-read)
+pub ruleset byes = (needs, bye-order, bye-fits)

@@ -12,7 +12,8 @@ use Rattle.rfc3550.specs.Read.{stated}
 use Rattle.rfc3550.specs.Compound.{readPacket}
 use Rattle.rfc3550.specs.Walk.{step}
 use Rattle.rfc3550.proofs.Answer.{ok-injective, need-inv, bind-elim}
-use Rattle.utils.specs.Error.{parseRefusal}
+use Rattle.utils.specs.Error.{parseRefusal, codeRefusal}
+use Rattle.utils.specs.declared.error.Code.{Code}
 use Rattle.utils.specs.declared.error.RtcpParseError.{RtcpParseError}
 use Rattle.compound.specs.Compound.{stepView, steppedOf}
 use Rattle.compound.specs.declared.packet.Packet.{Packet}
@@ -42,35 +43,11 @@ pub walk-order : (o : Stepped) (p : Packet) (w : Walk) (s : List ℕ) (at : ℕ)
 walk-order o p w s at e q =
     viewed steppedOf (λ (x : Packet × Walk). stepped.Packet (x .0) (x .1)) (λ x. refl) stepView (λ (x : Packet × Walk). at ≤ x .1 .at) (step s at) (λ y f. step-on s at f) o (p, w) e q
 
-pub packet-stepped : (at : ℕ) (o : Stepped) (p : Packet) (w : Walk) (x : Answer (Packet × Walk)) (n : PacketNumbers) → n ≡ numbersOf p → o ≡ stepped.Packet p w → steppedOf o ≡ x
-    → record {
-      number = 0;
-      first = 0;
-      second = 0;
-      kind = n .kind;
-      «packet_type» = n .«packet_type»;
-      count = n .count;
-      offset = at;
-      len = w .at - at;
-      body = n .body;
-      «padding_len» = n .«padding_len»;
-      ssrc = n .ssrc;
-      «ntp_timestamp» = n .«ntp_timestamp»;
-      «rtp_timestamp» = n .«rtp_timestamp»;
-      «packet_count» = n .«packet_count»;
-      «octet_count» = n .«octet_count»;
-      extension = n .extension;
-      «has_cname» = n .«has_cname»;
-      «has_reason» = n .«has_reason»;
-      reason = n .reason;
-      «reason_len» = n .«reason_len»;
-      at = w .at;
-    } ≡ stepResult at x
-packet-stepped at o p w x n h e q =
-    rw h (handed (stepResult at) steppedOf (λ (x : Packet × Walk). stepped.Packet (x .0) (x .1)) (λ x. refl) o (p, w) x e q)
+pub packet-stepped : (at : ℕ) (o : Stepped) (p : Packet) (w : Walk) (x : Answer (Packet × Walk)) → o ≡ stepped.Packet p w → steppedOf o ≡ x → stepResult at (ok (p, w)) ≡ stepResult at x
+packet-stepped at o p w x e q = handed (stepResult at) steppedOf (λ (x : Packet × Walk). stepped.Packet (x .0) (x .1)) (λ x. refl) o (p, w) x e q
 
-pub packet-turned : (at : ℕ) (o : Stepped) (e : RtcpParseError) (x : Answer (Packet × Walk)) (r : RtcpStep) → r ≡ stepResult at (refused (parseRefusal e))
-    → o ≡ stepped.Refused e → steppedOf o ≡ x → r ≡ stepResult at x
-packet-turned at = turned (stepResult at) steppedOf stepped.Refused (λ e. refl)
+pub packet-turned : (at : ℕ) (c : Code) (o : Stepped) (e : RtcpParseError) (x : Answer (Packet × Walk)) (r : RtcpStep) → r ≡ stepResult at (refused (codeRefusal c))
+    → codeRefusal c ≡ parseRefusal e → o ≡ stepped.Refused e → steppedOf o ≡ x → r ≡ stepResult at x
+packet-turned at c o e x r h k p q = h ∙ turned (stepResult at) steppedOf stepped.Refused (λ e. refl) c o e x k p q
 
-pub ruleset datagrams = (needs, numbers-known, walk-order, packet-stepped, packet-turned)
+pub ruleset datagrams = (needs, numbers-known, walk-order, packet-turned)

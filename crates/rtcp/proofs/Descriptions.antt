@@ -40,19 +40,6 @@ use Rattle.rtcp.specs.declared.read_sdes.RtcpChunkStep.{RtcpChunkStep}
 use Rattle.rtcp.specs.declared.read_sdes.RtcpItemStep.{RtcpItemStep}
 use Rattle.rtcp.proofs.Results.{handed, turned, viewed}
 
-pub sdes-read : (o : ParsedSdes) (p : Sdes) (x : Answer Sdes) (n : ℕ) → n ≡ bit (p .«has_cname») → o ≡ sdes.Sdes p → parsedSdesOf o ≡ x
-    → record {
-      number = 0;
-      first = 0;
-      second = 0;
-      «n_chunks» = p .«n_chunks»;
-      «has_cname» = n;
-      body = p .body;
-      padding = p .body;
-      «padding_len» = p .«padding_len»;
-    } ≡ sdesResult x
-sdes-read o p x n h e q = rw h (handed sdesResult parsedSdesOf sdes.Sdes (λ x. refl) o p x e q)
-
 -- ---- items
 
 pub start-priv : (i : SdesItem) → i .«type_» ≡ 8 → 3 ≡ prefixStart i
@@ -130,49 +117,14 @@ module _ (o : SteppedItem) (i : SdesItem) (w : ItemWalk) (s : List ℕ) (at : �
   pub step-fits : w .at < 2 ^ 64 → at + (2 + i .length) < 2 ^ 64
   step-fits l = let m = came (λ x. x .1 .at ≡ at + (2 + x .0 .length)) (λ y e. let g = step-read s at e .2 in omega arith) in omega arith
 
--- ---- what C gets of an item, with the parts that were computed
+-- ---- what C gets of a step
 
-pub item-read : (o : ParsedItem) (i : SdesItem) (x : Answer SdesItem) (p : ItemParts) → p ≡ itemParts 0 i → o ≡ parsed.Item i → parsedItemOf o ≡ x
-    → record {
-      number = 0;
-      first = 0;
-      second = 0;
-      «type_» = i .«type_»;
-      length = i .length;
-      prefix = p .prefix;
-      «prefix_len» = i .«prefix_len»;
-      value = p .value;
-      «value_len» = p .«value_len»;
-    } ≡ itemResult x
-item-read o i x p h e q = rw h (handed itemResult parsedItemOf parsed.Item (λ x. refl) o i x e q)
-
-pub item-stepped : (at : ℕ) (o : SteppedItem) (i : SdesItem) (w : ItemWalk) (x : Answer (SdesItem × ItemWalk)) (p : ItemParts) → p ≡ itemParts at i → o ≡ steppedItem.Item i w
-    → steppedItemOf o ≡ x
-    → record {
-      number = 0;
-      first = 0;
-      second = 0;
-      «type_» = i .«type_»;
-      length = i .length;
-      prefix = p .prefix;
-      «prefix_len» = i .«prefix_len»;
-      value = p .value;
-      «value_len» = p .«value_len»;
-      at = w .at;
-    } ≡ itemStepResult at x
-item-stepped at o i w x p h e q =
-    rw h (handed (itemStepResult at) steppedItemOf (λ (x : SdesItem × ItemWalk). steppedItem.Item (x .0) (x .1)) (λ x. refl) o (i, w) x e q)
+pub item-stepped : (at : ℕ) (o : SteppedItem) (i : SdesItem) (w : ItemWalk) (x : Answer (SdesItem × ItemWalk)) → o ≡ steppedItem.Item i w → steppedItemOf o ≡ x
+    → itemStepResult at (ok (i, w)) ≡ itemStepResult at x
+item-stepped at o i w x e q = handed (itemStepResult at) steppedItemOf (λ (x : SdesItem × ItemWalk). steppedItem.Item (x .0) (x .1)) (λ x. refl) o (i, w) x e q
 
 pub chunk-stepped : (at end : ℕ) (o : SteppedChunk) (c : SdesChunk) (w : ChunkWalk) (x : Answer (SdesChunk × ChunkWalk)) → o ≡ steppedChunk.Chunk c w → steppedChunkOf o ≡ x
     → chunkStepResult at end (ok (c, w)) ≡ chunkStepResult at end x
 chunk-stepped at end o c w x = handed (chunkStepResult at end) steppedChunkOf (λ (x : SdesChunk × ChunkWalk). steppedChunk.Chunk (x .0) (x .1)) (λ x. refl) o (c, w) x
 
-pub item-turned : (at : ℕ) (o : SteppedItem) (e : RtcpParseError) (x : Answer (SdesItem × ItemWalk)) (r : RtcpItemStep) → r ≡ itemStepResult at (refused (parseRefusal e))
-    → o ≡ steppedItem.Refused e → steppedItemOf o ≡ x → r ≡ itemStepResult at x
-item-turned at = turned (itemStepResult at) steppedItemOf steppedItem.Refused (λ e. refl)
-
-pub chunk-turned : (at end : ℕ) (o : SteppedChunk) (e : RtcpParseError) (x : Answer (SdesChunk × ChunkWalk)) (r : RtcpChunkStep)
-    → r ≡ chunkStepResult at end (refused (parseRefusal e)) → o ≡ steppedChunk.Refused e → steppedChunkOf o ≡ x → r ≡ chunkStepResult at end x
-chunk-turned at end = turned (chunkStepResult at end) steppedChunkOf steppedChunk.Refused (λ e. refl)
-
-pub ruleset descriptions = (needs, sdes-read, start-priv, start-plain, parts-of, item-order, item-fits, prefix-none, prefix-some, step-order, step-fits, item-read, item-stepped, chunk-stepped, item-turned, chunk-turned)
+pub ruleset descriptions = (needs, start-priv, start-plain, parts-of, item-order, item-fits, prefix-none, prefix-some, step-order, step-fits, chunk-stepped)

@@ -5,30 +5,22 @@ use mathlib.Core.Path.{_≡_, refl, sym, ap, _∙_}
 use native.Mathlib.Omega.{arith}
 use lib.Dec.{eqb}
 use borrow.Author.Tests.{ne-eqb}
-use Rattle.rfc3550.specs.Answer.{Refusal, refusal, Answer, ok, refused, pick}
+use Rattle.rfc3550.specs.Answer.{refusal, Answer, ok, refused, pick}
 use Rattle.rfc3550.specs.Writer.{Writer}
-use Rattle.utils.specs.Error.{parseRefusal}
+use Rattle.utils.specs.Error.{numberIn, parseRefusal, writeRefusal}
 use Rattle.utils.specs.declared.error.RtcpParseError.{RtcpParseError}
-use Rattle.utils.specs.declared.error.RtcpParseError.the-variants as parse
+use Rattle.utils.specs.declared.error.RtcpWriteError.{RtcpWriteError}
 use Rattle.utils.specs.List.{listedOf}
+use Rattle.utils.specs.Writer.{writtenOf}
 use Rattle.utils.specs.declared.list.Listed.{Listed}
 use Rattle.utils.specs.declared.list.Listed.the-variants as listed
-use Rattle.utils.proofs.Injective.{parseRefusal-injective}
-use Rattle.report.specs.declared.report_block.ReportBlock.{ReportBlock}
-use Rattle.report.specs.declared.receiver.ReceiverReport.{ReceiverReport}
-use Rattle.report.specs.declared.sender.SenderReport.{SenderReport}
-use Rattle.app.specs.declared.App.{App}
-use Rattle.bye.specs.declared.Bye.{Bye}
-use Rattle.sdes_chunk.specs.declared.item.SdesItem.{SdesItem}
-use Rattle.sdes_chunk.specs.declared.chunk.SdesChunk.{SdesChunk}
-use Rattle.sdes_chunk.specs.declared.chunk.ItemWalk.{ItemWalk}
-use Rattle.sdes.specs.declared.sdes.Sdes.{Sdes}
-use Rattle.sdes.specs.declared.sdes.ChunkWalk.{ChunkWalk}
+use Rattle.utils.specs.declared.writer.Written.{Written}
+use Rattle.utils.specs.declared.writer.Written.the-variants as written
+use Rattle.utils.proofs.Injective.{injective, no-number, parseError, parseRefusal-back, writeError, writeRefusal-back, writtenOf-injective}
 use Rattle.compound.specs.declared.packet.Packet.{Packet}
 use Rattle.compound.specs.declared.packet.Packet.the-variants as packet
-use Rattle.compound.specs.declared.compound.Compound.{Compound}
 use Rattle.compound.specs.declared.compound.Walk.{Walk}
-use Rattle.rtcp.specs.Result.{numberIn, numberOf, firstOf, secondOf, field, bit}
+use Rattle.rtcp.specs.Result.{numberOf, firstOf, secondOf, firstIn, bit}
 use Rattle.rtcp.specs.Report.{blockResult, rrResult, srResult}
 use Rattle.rtcp.specs.App.{appResult}
 use Rattle.rtcp.specs.Bye.{byeResult, sourceResult}
@@ -36,98 +28,34 @@ use Rattle.rtcp.specs.Sdes.{sdesResult, itemResult, prefixResult, chunkR
 use Rattle.rtcp.specs.Compound.{compoundResult, walkResult, stepResult}
 use Rattle.rtcp.specs.WriteResult.{writtenOut}
 use Rattle.rtcp.specs.WriteCompound.{writerIn, writerOut, callResult}
-use Rattle.rtcp.specs.declared.read_report.RtcpBlock.{RtcpBlock}
-use Rattle.rtcp.specs.declared.read_report.RtcpRr.{RtcpRr}
-use Rattle.rtcp.specs.declared.read_report.RtcpSr.{RtcpSr}
-use Rattle.rtcp.specs.declared.read_app.RtcpApp.{RtcpApp}
-use Rattle.rtcp.specs.declared.read_bye.RtcpBye.{RtcpBye}
-use Rattle.rtcp.specs.declared.read_bye.RtcpSource.{RtcpSource}
-use Rattle.rtcp.specs.declared.read_sdes.RtcpSdes.{RtcpSdes}
-use Rattle.rtcp.specs.declared.read_sdes.RtcpItem.{RtcpItem}
-use Rattle.rtcp.specs.declared.read_sdes.RtcpPart.{RtcpPart}
-use Rattle.rtcp.specs.declared.read_sdes.RtcpChunk.{RtcpChunk}
-use Rattle.rtcp.specs.declared.read_sdes.RtcpChunkWalk.{RtcpChunkWalk}
-use Rattle.rtcp.specs.declared.read_sdes.RtcpChunkStep.{RtcpChunkStep}
-use Rattle.rtcp.specs.declared.read_sdes.RtcpItemWalk.{RtcpItemWalk}
-use Rattle.rtcp.specs.declared.read_sdes.RtcpItemStep.{RtcpItemStep}
-use Rattle.rtcp.specs.declared.read_compound.RtcpCompound.{RtcpCompound}
-use Rattle.rtcp.specs.declared.read_compound.RtcpWalk.{RtcpWalk}
 use Rattle.rtcp.specs.declared.read_compound.RtcpStep.{RtcpStep}
-use Rattle.rtcp.specs.declared.write_result.RtcpWritten.{RtcpWritten}
-use Rattle.rtcp.specs.declared.write_compound.RtcpCall.{RtcpCall}
 use Rattle.rtcp.proofs.WriteCalls.{writerIn-writerOut}
 
--- ---- every refusal has a number above 0
+-- a refusal has a number above 0
+abbrev pub Nonzero : {A : Type 0} → Answer A → Type 0
+Nonzero (ok a) = Unit {0}
+Nonzero (refused r) = 0 < numberIn r
 
-pub parse-numbered : (e : RtcpParseError) → 0 < numberIn (parseRefusal e)
-parse-numbered (parse.UnsupportedVersion version) = omega arith
-parse-numbered (parse.Truncated expected actual) = omega arith
-parse-numbered (parse.TooLarge expected actual) = omega arith
-parse-numbered parse.InvalidPadding = omega arith
-parse-numbered (parse.SdesPrivPrefixTooLarge len available) = omega arith
-parse-numbered (parse.PacketTypeMismatch actual requested) = omega arith
-parse-numbered (parse.FirstPacketNoReport t) = omega arith
-parse-numbered parse.NoCname = omega arith
-parse-numbered parse.NonLastCompoundPacketPadding = omega arith
-parse-numbered parse.NothingLeft = omega arith
-parse-numbered (parse.NotPriv t) = omega arith
+abbrev pub Injective : {A R : Type 0} → (Answer A → R) → Type 0
+Injective {A} result = (a b : Answer A) → Nonzero a → Nonzero b → result a ≡ result b → a ≡ b
 
--- ---- a call that fills a list: no refusal of reading has the number of a list too short
-
-not-short : (e : RtcpParseError) → numberIn (parseRefusal e) ≡ 10 → ⊥
-not-short (parse.UnsupportedVersion version) h = omega arith
-not-short (parse.Truncated expected actual) h = omega arith
-not-short (parse.TooLarge expected actual) h = omega arith
-not-short parse.InvalidPadding h = omega arith
-not-short (parse.SdesPrivPrefixTooLarge len available) h = omega arith
-not-short (parse.PacketTypeMismatch actual requested) h = omega arith
-not-short (parse.FirstPacketNoReport t) h = omega arith
-not-short parse.NoCname h = omega arith
-not-short parse.NonLastCompoundPacketPadding h = omega arith
-not-short parse.NothingLeft h = omega arith
-not-short (parse.NotPriv t) h = omega arith
-
-abbrev written : RtcpWritten → Refusal
-written r = refusal (r .number) (r .first) (r .second)
-
-written-back : (x : Refusal) → written (writtenOut (refused x)) ≡ x
-written-back (refusal number first second) = refl
-
-pub listedOut-injective : (v w : Listed) → writtenOut (listedOf v) ≡ writtenOut (listedOf w) → v ≡ w
-listedOut-injective (listed.Len m) (listed.Len n) h = ap listed.Len (ap (λ (r : RtcpWritten). r .size) h)
-listedOut-injective (listed.Len m) (listed.TooShort n) h = let q = ap (λ (r : RtcpWritten). r .number) h in absurd (omega arith)
-listedOut-injective (listed.Len m) (listed.Refused e) h = let q = ap (λ (r : RtcpWritten). r .number) h in let p = parse-numbered e in absurd (omega arith)
-listedOut-injective (listed.TooShort m) (listed.Len n) h = let q = ap (λ (r : RtcpWritten). r .number) h in absurd (omega arith)
-listedOut-injective (listed.TooShort m) (listed.TooShort n) h = ap listed.TooShort (ap (λ (r : RtcpWritten). r .first) h)
-listedOut-injective (listed.TooShort m) (listed.Refused e) h = absurd (not-short e (sym (ap (λ (r : RtcpWritten). r .number) h)))
-listedOut-injective (listed.Refused e) (listed.Len n) h = let q = ap (λ (r : RtcpWritten). r .number) h in let p = parse-numbered e in absurd (omega arith)
-listedOut-injective (listed.Refused e) (listed.TooShort n) h = absurd (not-short e (ap (λ (r : RtcpWritten). r .number) h))
-listedOut-injective (listed.Refused e) (listed.Refused f) h =
-    ap listed.Refused (parseRefusal-injective e f (sym (written-back (parseRefusal e)) ∙ ap written h ∙ written-back (parseRefusal f)))
+-- ---- one law over the result: it is enough that the value comes back from the fields
 
 module _ {A : Type 0} where
-  abbrev pub Numbered : Answer A → Type 0
-  Numbered (ok a) = Unit {0}
-  Numbered (refused r) = 0 < numberIn r
+  abbrev answerFrom : ℕ × ℕ × ℕ → A → Answer A
+  answerFrom n a = pick (eqb (n .0) 0) (ok a) (refused (refusal (n .0) (n .1) (n .2)))
 
-  abbrev answerFrom : ℕ → ℕ → ℕ → A → Answer A
-  answerFrom number first second a = pick (eqb number 0) (ok a) (refused (refusal number first second))
-
-  answer-back : (a : Answer A) (value : A) → ((x : A) → a ≡ ok x → value ≡ x) → Numbered a → answerFrom (numberOf a) (firstOf a) (secondOf a) value ≡ a
+  answer-back : (a : Answer A) (value : A) → ((x : A) → a ≡ ok x → value ≡ x) → Nonzero a → answerFrom (numberOf a, firstOf a, secondOf a) value ≡ a
   answer-back (ok x) value h n = ap ok (h x refl)
   answer-back (refused (refusal number first second)) value h n = rw (ne-eqb number 0 (λ e. omega arith))
 
--- one law over the result: it is enough that the value comes back from the fields
 module _ {A R : Type 0} (result : Answer A → R) (value : R → A) (numbers : R → ℕ × ℕ × ℕ) (same : (a : Answer A) → numbers (result a) ≡ (numberOf a, firstOf a, secondOf a))
     (back : (x : A) → value (result (ok x)) ≡ x) where
-  abbrev from : R → Answer A
-  from r = answerFrom (numbers r .0) (numbers r .1) (numbers r .2) (value r)
-
-  from-back : (a : Answer A) → Numbered a → from (result a) ≡ a
+  from-back : (a : Answer A) → Nonzero a → answerFrom (numbers (result a)) (value (result a)) ≡ a
   from-back a n = rw (same a) (answer-back a (value (result a)) (λ x e. ap (λ (a : Answer A). value (result a)) e ∙ back x) n)
 
-  pub keeps : (a b : Answer A) → Numbered a → Numbered b → result a ≡ result b → a ≡ b
-  keeps a b n m e = sym (from-back a n) ∙ ap from e ∙ from-back b m
+  by-fields : Injective result
+  by-fields a b n m e = sym (from-back a n) ∙ ap (λ (r : R). answerFrom (numbers r) (value r)) e ∙ from-back b m
 
 bit-back : (b : Bool) → eqb (bit b) 1 ≡ b
 bit-back true = refl
@@ -135,133 +63,73 @@ bit-back false = refl
 
 -- ---- each result
 
-pub blockResult-injective : (a b : Answer ReportBlock) → Numbered a → Numbered b → blockResult a ≡ blockResult b → a ≡ b
+pub blockResult-injective : Injective blockResult
 blockResult-injective =
-    keeps blockResult
-    (λ (r : RtcpBlock). record { ssrc = r .ssrc; «fraction_lost» = r .«fraction_lost»; «cumulative_lost» = r .«cumulative_lost»; «extended_sequence_number» = r .«extended_sequence_number»; «interarrival_jitter» = r .«interarrival_jitter»; «last_sender_report_timestamp» = r .«last_sender_report_timestamp»; «delay_since_last_sender_report_timestamp» = r .«delay_since_last_sender_report_timestamp» })
-    (λ (r : RtcpBlock). (r .number, r .first, r .second))
-    (λ a. refl)
-    (λ x. refl)
+    by-fields blockResult
+    (λ r. record { ssrc = r .ssrc; «fraction_lost» = r .«fraction_lost»; «cumulative_lost» = r .«cumulative_lost»; «extended_sequence_number» = r .«extended_sequence_number»; «interarrival_jitter» = r .«interarrival_jitter»; «last_sender_report_timestamp» = r .«last_sender_report_timestamp»; «delay_since_last_sender_report_timestamp» = r .«delay_since_last_sender_report_timestamp» })
+    (λ r. (r .number, r .first, r .second)) (λ a. refl) (λ x. refl)
 
-pub rrResult-injective : (a b : Answer ReceiverReport) → Numbered a → Numbered b → rrResult a ≡ rrResult b → a ≡ b
+pub rrResult-injective : Injective rrResult
 rrResult-injective =
-    keeps rrResult
-    (λ (r : RtcpRr). record { ssrc = r .ssrc; «n_reports» = r .«n_reports»; extension = r .extension; body = r .padding; «padding_len» = r .«padding_len» })
-    (λ (r : RtcpRr). (r .number, r .first, r .second))
-    (λ a. refl)
-    (λ x. refl)
+    by-fields rrResult (λ r. record { ssrc = r .ssrc; «n_reports» = r .«n_reports»; extension = r .extension; body = r .padding; «padding_len» = r .«padding_len» })
+    (λ r. (r .number, r .first, r .second)) (λ a. refl) (λ x. refl)
 
-pub srResult-injective : (a b : Answer SenderReport) → Numbered a → Numbered b → srResult a ≡ srResult b → a ≡ b
+pub srResult-injective : Injective srResult
 srResult-injective =
-    keeps srResult
-    (λ (r : RtcpSr). record { ssrc = r .ssrc; «ntp_timestamp» = r .«ntp_timestamp»; «rtp_timestamp» = r .«rtp_timestamp»; «packet_count» = r .«packet_count»; «octet_count» = r .«octet_count»; «n_reports» = r .«n_reports»; extension = r .extension; body = r .padding; «padding_len» = r .«padding_len» })
-    (λ (r : RtcpSr). (r .number, r .first, r .second))
-    (λ a. refl)
-    (λ x. refl)
+    by-fields srResult
+    (λ r. record { ssrc = r .ssrc; «ntp_timestamp» = r .«ntp_timestamp»; «rtp_timestamp» = r .«rtp_timestamp»; «packet_count» = r .«packet_count»; «octet_count» = r .«octet_count»; «n_reports» = r .«n_reports»; extension = r .extension; body = r .padding; «padding_len» = r .«padding_len» })
+    (λ r. (r .number, r .first, r .second)) (λ a. refl) (λ x. refl)
 
-pub appResult-injective : (a b : Answer App) → Numbered a → Numbered b → appResult a ≡ appResult b → a ≡ b
+pub appResult-injective : Injective appResult
 appResult-injective =
-    keeps appResult
-    (λ (r : RtcpApp). record { ssrc = r .ssrc; subtype = r .subtype; body = r .padding; «padding_len» = r .«padding_len» })
-    (λ (r : RtcpApp). (r .number, r .first, r .second))
-    (λ a. refl)
-    (λ x. refl)
+    by-fields appResult (λ r. record { ssrc = r .ssrc; subtype = r .subtype; body = r .padding; «padding_len» = r .«padding_len» })
+    (λ r. (r .number, r .first, r .second)) (λ a. refl) (λ x. refl)
 
-pub byeResult-injective : (a b : Answer Bye) → Numbered a → Numbered b → byeResult a ≡ byeResult b → a ≡ b
+pub byeResult-injective : Injective byeResult
 byeResult-injective =
-    keeps byeResult
-    (λ (r : RtcpBye). record { «n_sources» = r .«n_sources»; «has_reason» = eqb (r .«has_reason») 1; reason = r .reason; «reason_len» = r .«reason_len»; body = r .padding; «padding_len» = r .«padding_len» })
-    (λ (r : RtcpBye). (r .number, r .first, r .second))
-    (λ a. refl)
-    (λ x. rw (bit-back (x .«has_reason»)))
+    by-fields byeResult
+    (λ r. record { «n_sources» = r .«n_sources»; «has_reason» = eqb (r .«has_reason») 1; reason = r .reason; «reason_len» = r .«reason_len»; body = r .padding; «padding_len» = r .«padding_len» })
+    (λ r. (r .number, r .first, r .second)) (λ a. refl) (λ x. rw (bit-back (x .«has_reason»)))
 
-pub sourceResult-injective : (a b : Answer ℕ) → Numbered a → Numbered b → sourceResult a ≡ sourceResult b → a ≡ b
-sourceResult-injective =
-    keeps sourceResult
-    (λ (r : RtcpSource). r .ssrc)
-    (λ (r : RtcpSource). (r .number, r .first, r .second))
-    (λ a. refl)
-    (λ x. refl)
+pub sourceResult-injective : Injective sourceResult
+sourceResult-injective = by-fields sourceResult (λ r. r .ssrc) (λ r. (r .number, r .first, r .second)) (λ a. refl) (λ x. refl)
 
-pub sdesResult-injective : (a b : Answer Sdes) → Numbered a → Numbered b → sdesResult a ≡ sdesResult b → a ≡ b
+pub sdesResult-injective : Injective sdesResult
 sdesResult-injective =
-    keeps sdesResult
-    (λ (r : RtcpSdes). record { «n_chunks» = r .«n_chunks»; «has_cname» = eqb (r .«has_cname») 1; body = r .body; «padding_len» = r .«padding_len» })
-    (λ (r : RtcpSdes). (r .number, r .first, r .second))
-    (λ a. refl)
-    (λ x. rw (bit-back (x .«has_cname»)))
+    by-fields sdesResult (λ r. record { «n_chunks» = r .«n_chunks»; «has_cname» = eqb (r .«has_cname») 1; body = r .body; «padding_len» = r .«padding_len» })
+    (λ r. (r .number, r .first, r .second)) (λ a. refl) (λ x. rw (bit-back (x .«has_cname»)))
 
-pub itemResult-injective : (a b : Answer SdesItem) → Numbered a → Numbered b → itemResult a ≡ itemResult b → a ≡ b
+pub itemResult-injective : Injective itemResult
 itemResult-injective =
-    keeps itemResult
-    (λ (r : RtcpItem). record { «type_» = r .«type_»; length = r .length; «prefix_len» = r .«prefix_len» })
-    (λ (r : RtcpItem). (r .number, r .first, r .second))
-    (λ a. refl)
-    (λ x. refl)
+    by-fields itemResult (λ r. record { «type_» = r .«type_»; length = r .length; «prefix_len» = r .«prefix_len» }) (λ r. (r .number, r .first, r .second)) (λ a. refl) (λ x. refl)
 
-pub prefixResult-injective : (a b : Answer ℕ) → Numbered a → Numbered b → prefixResult a ≡ prefixResult b → a ≡ b
-prefixResult-injective =
-    keeps prefixResult
-    (λ (r : RtcpPart). r .len)
-    (λ (r : RtcpPart). (r .number, r .first, r .second))
-    (λ a. refl)
-    (λ x. refl)
+pub prefixResult-injective : Injective prefixResult
+prefixResult-injective = by-fields prefixResult (λ r. r .len) (λ r. (r .number, r .first, r .second)) (λ a. refl) (λ x. refl)
 
-pub chunkResult-injective : (a b : Answer SdesChunk) → Numbered a → Numbered b → chunkResult a ≡ chunkResult b → a ≡ b
-chunkResult-injective =
-    keeps chunkResult
-    (λ (r : RtcpChunk). record { ssrc = r .ssrc; length = r .length; cname = r .cname })
-    (λ (r : RtcpChunk). (r .number, r .first, r .second))
-    (λ a. refl)
-    (λ x. refl)
+pub chunkResult-injective : Injective chunkResult
+chunkResult-injective = by-fields chunkResult (λ r. record { ssrc = r .ssrc; length = r .length; cname = r .cname }) (λ r. (r .number, r .first, r .second)) (λ a. refl) (λ x. refl)
 
-pub chunkWalkResult-injective : (a b : Answer ChunkWalk) → Numbered a → Numbered b → chunkWalkResult a ≡ chunkWalkResult b → a ≡ b
-chunkWalkResult-injective =
-    keeps chunkWalkResult
-    (λ (r : RtcpChunkWalk). record { at = r .at; end = r .end })
-    (λ (r : RtcpChunkWalk). (r .number, r .first, r .second))
-    (λ a. refl)
-    (λ x. refl)
+pub chunkWalkResult-injective : Injective chunkWalkResult
+chunkWalkResult-injective = by-fields chunkWalkResult (λ r. record { at = r .at; end = r .end }) (λ r. (r .number, r .first, r .second)) (λ a. refl) (λ x. refl)
 
-pub chunkStepResult-injective : (at end : ℕ) (a b : Answer (SdesChunk × ChunkWalk)) → Numbered a → Numbered b → (chunkStepResult at end) a ≡ (chunkStepResult at end) b → a ≡ b
+pub chunkStepResult-injective : (at end : ℕ) → Injective (chunkStepResult at end)
 chunkStepResult-injective at end =
-    keeps (chunkStepResult at end)
-    (λ (r : RtcpChunkStep). (record { ssrc = r .ssrc; length = r .length; cname = r .cname }, record { at = r .at; end = r .end }))
-    (λ (r : RtcpChunkStep). (r .number, r .first, r .second))
-    (λ a. refl)
-    (λ x. refl)
+    by-fields (chunkStepResult at end) (λ r. (record { ssrc = r .ssrc; length = r .length; cname = r .cname }, record { at = r .at; end = r .end }))
+    (λ r. (r .number, r .first, r .second)) (λ a. refl) (λ x. refl)
 
-pub itemWalkResult-injective : (a b : Answer ItemWalk) → Numbered a → Numbered b → itemWalkResult a ≡ itemWalkResult b → a ≡ b
-itemWalkResult-injective =
-    keeps itemWalkResult
-    (λ (r : RtcpItemWalk). record { at = r .at })
-    (λ (r : RtcpItemWalk). (r .number, r .first, r .second))
-    (λ a. refl)
-    (λ x. refl)
+pub itemWalkResult-injective : Injective itemWalkResult
+itemWalkResult-injective = by-fields itemWalkResult (λ r. record { at = r .at }) (λ r. (r .number, r .first, r .second)) (λ a. refl) (λ x. refl)
 
-pub itemStepResult-injective : (at : ℕ) (a b : Answer (SdesItem × ItemWalk)) → Numbered a → Numbered b → (itemStepResult at) a ≡ (itemStepResult at) b → a ≡ b
+pub itemStepResult-injective : (at : ℕ) → Injective (itemStepResult at)
 itemStepResult-injective at =
-    keeps (itemStepResult at)
-    (λ (r : RtcpItemStep). (record { «type_» = r .«type_»; length = r .length; «prefix_len» = r .«prefix_len» }, record { at = r .at }))
-    (λ (r : RtcpItemStep). (r .number, r .first, r .second))
-    (λ a. refl)
-    (λ x. refl)
+    by-fields (itemStepResult at) (λ r. (record { «type_» = r .«type_»; length = r .length; «prefix_len» = r .«prefix_len» }, record { at = r .at }))
+    (λ r. (r .number, r .first, r .second)) (λ a. refl) (λ x. refl)
 
-pub compoundResult-injective : (a b : Answer Compound) → Numbered a → Numbered b → compoundResult a ≡ compoundResult b → a ≡ b
-compoundResult-injective =
-    keeps compoundResult
-    (λ (r : RtcpCompound). record { «n_packets» = r .«n_packets» })
-    (λ (r : RtcpCompound). (r .number, r .first, r .second))
-    (λ a. refl)
-    (λ x. refl)
+pub compoundResult-injective : Injective compoundResult
+compoundResult-injective = by-fields compoundResult (λ r. record { «n_packets» = r .«n_packets» }) (λ r. (r .number, r .first, r .second)) (λ a. refl) (λ x. refl)
 
-pub walkResult-injective : (a b : Answer Walk) → Numbered a → Numbered b → walkResult a ≡ walkResult b → a ≡ b
-walkResult-injective =
-    keeps walkResult
-    (λ (r : RtcpWalk). record { at = r .at })
-    (λ (r : RtcpWalk). (r .number, r .first, r .second))
-    (λ a. refl)
-    (λ x. refl)
+pub walkResult-injective : Injective walkResult
+walkResult-injective = by-fields walkResult (λ r. record { at = r .at }) (λ r. (r .number, r .first, r .second)) (λ a. refl) (λ x. refl)
 
 -- the packet of a step, by its kind
 abbrev packetIn : RtcpStep → Packet
@@ -286,23 +154,46 @@ packet-back at (packet.Bye x) w = rw (bit-back (x .«has_reason»))
 packet-back at (packet.App x) w = refl
 packet-back at (packet.Unknown x) w = refl
 
-pub stepResult-injective : (at : ℕ) (a b : Answer (Packet × Walk)) → Numbered a → Numbered b → stepResult at a ≡ stepResult at b → a ≡ b
+pub stepResult-injective : (at : ℕ) → Injective (stepResult at)
 stepResult-injective at =
-    keeps (stepResult at)
-    (λ (r : RtcpStep). (packetIn r, record { at = r .at }))
-    (λ (r : RtcpStep). (r .number, r .first, r .second))
-    (λ a. refl)
+    by-fields (stepResult at) (λ r. (packetIn r, record { at = r .at })) (λ r. (r .number, r .first, r .second)) (λ a. refl)
     (λ x. ap (λ (p : Packet). (p, x .1)) (packet-back at (x .0) (x .1)))
 
--- ---- a writer and a call
+-- ---- a size, a list that is filled, a writer and a call
+
+pub parse-nonzero : (e : RtcpParseError) → 0 < numberIn (parseRefusal e)
+parse-nonzero e = let h = no-number parseRefusal parseError parseRefusal-back 0 (λ a b h. omega arith) e in omega arith
+
+write-nonzero : (e : RtcpWriteError) → 0 < numberIn (writeRefusal e)
+write-nonzero e = let h = no-number writeRefusal writeError writeRefusal-back 0 (λ a b h. omega arith) e in omega arith
+
+written-nonzero : (w : Written) → Nonzero (writtenOf w)
+written-nonzero = elim [ written.Size n ↦ tt | written.Refused e ↦ write-nonzero e ]
+
+listed-nonzero : (w : Listed) → Nonzero (listedOf w)
+listed-nonzero = elim [ listed.Len n ↦ tt | listed.TooShort n ↦ omega arith | listed.Refused e ↦ parse-nonzero e ]
+
+-- no refusal of reading has the number of a list too short
+abbrev listedFor : Answer ℕ → Listed
+listedFor (ok n) = listed.Len n
+listedFor (refused r) = pick (eqb (numberIn r) 10) (listed.TooShort (firstIn r)) (listed.Refused (parseError r))
+
+listed-back : (w : Listed) → listedFor (listedOf w) ≡ w
+listed-back (listed.Len n) = refl
+listed-back (listed.TooShort n) = refl
+listed-back (listed.Refused e) = rw (ne-eqb (numberIn (parseRefusal e)) 10 (no-number parseRefusal parseError parseRefusal-back 10 (λ a b h. omega arith) e), parseRefusal-back e)
+
+size-injective : Injective writtenOut
+size-injective = by-fields writtenOut (λ r. r .size) (λ r. (r .number, r .first, r .second)) (λ a. refl) (λ x. refl)
+
+pub writtenOut-injective : (v w : Written) → writtenOut (writtenOf v) ≡ writtenOut (writtenOf w) → v ≡ w
+writtenOut-injective v w h = writtenOf-injective v w (size-injective _ _ (written-nonzero v) (written-nonzero w) h)
+
+pub listedOut-injective : (v w : Listed) → writtenOut (listedOf v) ≡ writtenOut (listedOf w) → v ≡ w
+listedOut-injective v w h = injective listedOf listedFor listed-back v w (size-injective _ _ (listed-nonzero v) (listed-nonzero w) h)
 
 pub writerOut-injective : (v w : Writer) → writerOut v ≡ writerOut w → v ≡ w
-writerOut-injective v w e = sym (writerIn-writerOut v) ∙ ap writerIn e ∙ writerIn-writerOut w
+writerOut-injective = injective writerOut writerIn writerIn-writerOut
 
-pub callResult-injective : (a b : Answer (Unit {0})) → Numbered a → Numbered b → callResult a ≡ callResult b → a ≡ b
-callResult-injective =
-    keeps callResult
-    (λ (r : RtcpCall). tt)
-    (λ (r : RtcpCall). (r .number, r .first, r .second))
-    (λ a. refl)
-    (λ x. refl)
+pub callResult-injective : Injective callResult
+callResult-injective = by-fields callResult (λ r. tt) (λ r. (r .number, r .first, r .second)) (λ a. refl) (λ x. refl)

@@ -8,7 +8,7 @@ pub mod Datagrams
 pub mod WriteResults
 pub mod WriteReports
 pub mod WriteCalls
-pub mod Numbered
+pub mod Nonzero
 pub mod Returned
 pub mod Places
 pub mod Lists

@@ -19,25 +19,25 @@ use Rattle.compound.specs.Compound.{packetRows, rowParts, rowIs}
 use Rattle.compound.proofs.Rows as datagrams
 use Rattle.rtcp.specs.WriteResult.{handedOut}
 use Rattle.rtcp.specs.declared.write_result.RtcpWritten.{RtcpWritten}
-use Rattle.rtcp.proofs.Injective.{Numbered}
-use Rattle.rtcp.proofs.Numbered.{read-numbered, compound-numbered}
+use Rattle.rtcp.proofs.Injective.{Nonzero}
+use Rattle.rtcp.proofs.Nonzero.{read-nonzero, compound-nonzero}
 
-listed-numbered : (b : Bool) (xs l : List ℕ) → Numbered (layIf b xs l .0)
-listed-numbered true xs l = tt
-listed-numbered false xs l = omega arith
+listed-nonzero : (b : Bool) (xs l : List ℕ) → Nonzero (layIf b xs l .0)
+listed-nonzero true xs l = tt
+listed-nonzero false xs l = omega arith
 
-filled-numbered : (a : Answer (List ℕ)) (l : List ℕ) → Numbered a → Numbered (layList a l .0)
+filled-nonzero : (a : Answer (List ℕ)) (l : List ℕ) → Nonzero a → Nonzero (layList a l .0)
 unfolding layList
-filled-numbered (ok xs) l n = listed-numbered (leb (length xs) (length l)) xs l
-filled-numbered (refused r) l n = n
+filled-nonzero (ok xs) l n = listed-nonzero (leb (length xs) (length l)) xs l
+filled-nonzero (refused r) l n = n
 
-pub map-numbered : {A B : Type 0} (f : A → B) (a : Answer A) → Numbered a → Numbered (mapOk f a)
+pub map-nonzero : {A B : Type 0} (f : A → B) (a : Answer A) → Nonzero a → Nonzero (mapOk f a)
 unfolding mapOk
-map-numbered f (ok x) n = n
-map-numbered f (refused r) n = n
+map-nonzero f (ok x) n = n
+map-nonzero f (refused r) n = n
 
 -- number 0 says that the list is filled, with as many numbers as the size says
-filled-out : (x : Answer ℕ × List ℕ) (r : RtcpWritten) (l₁ : List ℕ) → Numbered (x .0) → (r, l₁) ≡ handedOut x → r .number ≡ 0 → (ok (r .size), l₁) ≡ x
+filled-out : (x : Answer ℕ × List ℕ) (r : RtcpWritten) (l₁ : List ℕ) → Nonzero (x .0) → (r, l₁) ≡ handedOut x → r .number ≡ 0 → (ok (r .size), l₁) ≡ x
 filled-out (ok n, l) r l₁ k m z = ap (λ (y : RtcpWritten × List ℕ). (ok (y .0 .size), y .1)) m
 filled-out (refused e, l) r l₁ k m z = absurd (let q = ap (λ (y : RtcpWritten × List ℕ). y .0 .number) m in omega arith)
 
@@ -47,11 +47,11 @@ module _ (s : List ℕ) (h : Bytes s) (r : RtcpWritten) (l l₁ : List ℕ) wher
       → (ps : List Read) × (readCompound s ≡ ok ps) × (rowParts s (take (r .size) l₁) ≡ map rowIs ps)
   packets-listed m z =
       datagrams.packets-listed s h (r .size) l l₁
-      (filled-out (layList (mapOk packetRows (readCompound s)) l) r l₁ (filled-numbered (mapOk packetRows (readCompound s)) l (map-numbered packetRows (readCompound s) (compound-numbered s))) m z)
+      (filled-out (layList (mapOk packetRows (readCompound s)) l) r l₁ (filled-nonzero (mapOk packetRows (readCompound s)) l (map-nonzero packetRows (readCompound s) (compound-nonzero s))) m z)
 
   -- what `rtcp_sdes_items` returned, and the list that it left
   pub items-listed : (r, l₁) ≡ handedOut (layList (mapOk sdesRows (readAs SDES s)) l) → r .number ≡ 0
       → (p : Read) × (readAs SDES s ≡ ok p) × (entriesIn s (take (r .size) l₁) ≡ chunkEntries (chunksOf (p .content)))
   items-listed m z =
       descriptions.items-listed s h (r .size) l l₁
-      (filled-out (layList (mapOk sdesRows (readAs SDES s)) l) r l₁ (filled-numbered (mapOk sdesRows (readAs SDES s)) l (map-numbered sdesRows (readAs SDES s) (read-numbered SDES s))) m z)
+      (filled-out (layList (mapOk sdesRows (readAs SDES s)) l) r l₁ (filled-nonzero (mapOk sdesRows (readAs SDES s)) l (map-nonzero sdesRows (readAs SDES s) (read-nonzero SDES s))) m z)

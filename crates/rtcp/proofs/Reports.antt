@@ -8,9 +8,11 @@ use lib.ListN.{length, take, drop}
 use Rattle.rfc3550.specs.Answer.{Answer, ok, refused, mapOk}
 use Rattle.rfc3550.specs.Packet.{Block, Reporter, Packet}
 use Rattle.rfc3550.specs.Read.{Kind, RR, SR, least, readBlocks, readAs}
-use Rattle.utils.specs.Error.{parseRefusal, refusalIn, valueOr}
+use Rattle.utils.specs.Error.{parseRefusal, codeRefusal, refusalIn, valueOr}
+use Rattle.utils.specs.declared.error.Code.{Code}
 use Rattle.utils.specs.declared.error.RtcpParseError.{RtcpParseError}
 use Rattle.utils.specs.declared.list.Listed.{Listed}
+use Rattle.utils.specs.declared.list.Listed.the-variants as listed
 use Rattle.utils.specs.List.{listedOf}
 use Rattle.utils.proofs.Reading.{parse-read}
 use Rattle.report.specs.Block.{layBlocks}
@@ -20,6 +22,7 @@ use Rattle.report.specs.declared.sender.SenderReport.{SenderReport}
 use Rattle.report.proofs.Reports.{Maker, receiver-maker, sender-maker, value-refused, value-blocks, value-within}
 use Rattle.rtcp.specs.Report.{rrResult, srResult, blocksOut, readOut, readBoth}
 use Rattle.rtcp.specs.WriteResult.{writtenOut}
+use Rattle.rtcp.proofs.Results.{coded}
 use Rattle.rtcp.specs.declared.read_report.RtcpRr.{RtcpRr}
 use Rattle.rtcp.specs.declared.read_report.RtcpSr.{RtcpSr}
 use Rattle.rtcp.specs.declared.write_result.RtcpWritten.{RtcpWritten}
@@ -28,6 +31,10 @@ use Rattle.rtcp.specs.declared.write_result.RtcpWritten.{RtcpWritten}
 pub out-known : {A R : Type 0} (result : Answer A → R) (a : Answer A) (q k : Listed) (r : R) → q ≡ k → r ≡ readOut result a (listedOf k) → r ≡ readOut result a (listedOf q)
 out-known result a q k r e p = p ∙ ap (λ (q : Listed). readOut result a (listedOf q)) (sym e)
 
+pub out-coded : {A R : Type 0} (result : Answer A → R) (a : Answer A) (q : Listed) (c : Code) (e : RtcpParseError) (r : R) → r ≡ result (refused (codeRefusal c)) → codeRefusal c ≡ parseRefusal e
+    → q ≡ listed.Refused e → r ≡ readOut result a (listedOf q)
+out-coded result a q c e r p h k = out-known result a q (listed.Refused e) r k (coded result c e r p h)
+
 pub lists-out : (q : Listed) (r : RtcpWritten) (f l w : List ℕ) (x : Answer ℕ × List ℕ × List ℕ × List ℕ) → r ≡ writtenOut (listedOf q) → (listedOf q, f, l, w) ≡ x → (r, f, l, w) ≡ blocksOut x
 lists-out q r f l w x h e = ap (λ (r : RtcpWritten). (r, f, l, w)) h ∙ ap blocksOut e
 
@@ -35,19 +42,19 @@ lists-out q r f l w x h e = ap (λ (r : RtcpWritten). (r, f, l, w)) h ∙ ap blo
 
 module _ {k : Kind} {ws : List ℕ} {who : List ℕ → Reporter} (m : Maker k ws who) {O R : Type 0} (none : O) (view : Packet → O) (bodyIn countIn : O → ℕ) (z : bodyIn none ≡ 0)
     (b : (p : Packet) → bodyIn (view p) ≡ reportBody p) (c : (p : Packet) → countIn (view p) ≡ length (reportBlocks p)) (result : Answer O → R) (s : List ℕ) (o : O) (h : o ≡ valueOr none view (readAs k s)) where
-  out-refused : (e : RtcpParseError) (r : R) → bodyIn o ≡ 0 → parseRefusal e ≡ refusalIn (readAs k (take (length s - 0) (drop 0 s))) → r ≡ result (refused (parseRefusal e)) → r ≡ result (mapOk view (readAs k s))
+  out-refused : (c : Code) (e : RtcpParseError) (r : R) → bodyIn o ≡ 0 → parseRefusal e ≡ refusalIn (readAs k (take (length s - 0) (drop 0 s))) → codeRefusal c ≡ parseRefusal e → r ≡ result (refused (codeRefusal c)) → r ≡ result (mapOk view (readAs k s))
   unfolding mapOk
-  out-refused e r n q p = p ∙ sym (ap (λ (a : Answer Packet). result (mapOk view a)) (value-refused m none view bodyIn countIn z b c s o h n (parseRefusal e) q))
+  out-refused v e r n q w p = coded result v e r p w ∙ sym (ap (λ (a : Answer Packet). result (mapOk view a)) (value-refused m none view bodyIn countIn z b c s o h n (parseRefusal e) q))
 
   out-read : (r : R) → (bodyIn o ≡ 0 → ⊥) → r ≡ result (ok o) → r ≡ result (mapOk view (readAs k s))
   out-read r n p = p ∙ ap result (parse-read k s none view bodyIn z o h n)
 
   module _ (f l w : List ℕ) where
-    both-refused : (e : RtcpParseError) (r : R) → bodyIn o ≡ 0 → parseRefusal e ≡ refusalIn (readAs k (take (length s - 0) (drop 0 s))) → r ≡ result (refused (parseRefusal e))
+    both-refused : (c : Code) (e : RtcpParseError) (r : R) → bodyIn o ≡ 0 → parseRefusal e ≡ refusalIn (readAs k (take (length s - 0) (drop 0 s))) → codeRefusal c ≡ parseRefusal e → r ≡ result (refused (codeRefusal c))
         → (r, f, l, w) ≡ readBoth result (mapOk view (readAs k s)) (layBlocks (mapOk reportBlocks (readAs k s)) f l w)
     unfolding mapOk layBlocks
-    both-refused e r n q p =
-        ap (λ (r : R). (r, f, l, w)) p
+    both-refused v e r n q i p =
+        ap (λ (r : R). (r, f, l, w)) (coded result v e r p i)
         ∙ sym (ap (λ (a : Answer Packet). readBoth result (mapOk view a) (layBlocks (mapOk reportBlocks a) f l w)) (value-refused m none view bodyIn countIn z b c s o h n (parseRefusal e) q))
 
     both-read : (q : Listed) (r : R) (f₁ l₁ w₁ : List ℕ) → (bodyIn o ≡ 0 → ⊥) → r ≡ readOut result (ok o) (listedOf q)
@@ -70,14 +77,14 @@ module _ (s : List ℕ) (o : ReceiverReport) (h : o ≡ valueOr noReceiver recei
   pub rr-within : (o .body ≡ 0 → ⊥) → 8 + o .«n_reports» * 24 ≤ length s
   rr-within = value-within receiver-maker noReceiver receiverView (λ o. o .body) (λ o. o .«n_reports») refl (λ p. refl) (λ p. refl) s o h
 
-  pub rr-refused : (e : RtcpParseError) (r : RtcpRr) → o .body ≡ 0 → parseRefusal e ≡ refusalIn (readAs RR (take (length s - 0) (drop 0 s))) → r ≡ rrResult (refused (parseRefusal e)) → r ≡ rrResult (mapOk receiverView (readAs RR s))
+  pub rr-refused : (c : Code) (e : RtcpParseError) (r : RtcpRr) → o .body ≡ 0 → parseRefusal e ≡ refusalIn (readAs RR (take (length s - 0) (drop 0 s))) → codeRefusal c ≡ parseRefusal e → r ≡ rrResult (refused (codeRefusal c)) → r ≡ rrResult (mapOk receiverView (readAs RR s))
   rr-refused = out-refused receiver-maker noReceiver receiverView (λ o. o .body) (λ o. o .«n_reports») refl (λ p. refl) (λ p. refl) rrResult s o h
 
   pub rr-read : (r : RtcpRr) → (o .body ≡ 0 → ⊥) → r ≡ rrResult (ok o) → r ≡ rrResult (mapOk receiverView (readAs RR s))
   rr-read = out-read receiver-maker noReceiver receiverView (λ o. o .body) (λ o. o .«n_reports») refl (λ p. refl) (λ p. refl) rrResult s o h
 
   module _ (f l w : List ℕ) where
-    pub rr-both-refused : (e : RtcpParseError) (r : RtcpRr) → o .body ≡ 0 → parseRefusal e ≡ refusalIn (readAs RR (take (length s - 0) (drop 0 s))) → r ≡ rrResult (refused (parseRefusal e))
+    pub rr-both-refused : (c : Code) (e : RtcpParseError) (r : RtcpRr) → o .body ≡ 0 → parseRefusal e ≡ refusalIn (readAs RR (take (length s - 0) (drop 0 s))) → codeRefusal c ≡ parseRefusal e → r ≡ rrResult (refused (codeRefusal c))
         → (r, f, l, w) ≡ readBoth rrResult (mapOk receiverView (readAs RR s)) (layBlocks (mapOk reportBlocks (readAs RR s)) f l w)
     rr-both-refused = both-refused receiver-maker noReceiver receiverView (λ o. o .body) (λ o. o .«n_reports») refl (λ p. refl) (λ p. refl) rrResult s o h f l w
 
@@ -97,14 +104,14 @@ module _ (s : List ℕ) (o : SenderReport) (h : o ≡ valueOr noSender senderVie
   pub sr-within : (o .body ≡ 0 → ⊥) → 28 + o .«n_reports» * 24 ≤ length s
   sr-within = value-within sender-maker noSender senderView (λ o. o .body) (λ o. o .«n_reports») refl (λ p. refl) (λ p. refl) s o h
 
-  pub sr-refused : (e : RtcpParseError) (r : RtcpSr) → o .body ≡ 0 → parseRefusal e ≡ refusalIn (readAs SR (take (length s - 0) (drop 0 s))) → r ≡ srResult (refused (parseRefusal e)) → r ≡ srResult (mapOk senderView (readAs SR s))
+  pub sr-refused : (c : Code) (e : RtcpParseError) (r : RtcpSr) → o .body ≡ 0 → parseRefusal e ≡ refusalIn (readAs SR (take (length s - 0) (drop 0 s))) → codeRefusal c ≡ parseRefusal e → r ≡ srResult (refused (codeRefusal c)) → r ≡ srResult (mapOk senderView (readAs SR s))
   sr-refused = out-refused sender-maker noSender senderView (λ o. o .body) (λ o. o .«n_reports») refl (λ p. refl) (λ p. refl) srResult s o h
 
   pub sr-read : (r : RtcpSr) → (o .body ≡ 0 → ⊥) → r ≡ srResult (ok o) → r ≡ srResult (mapOk senderView (readAs SR s))
   sr-read = out-read sender-maker noSender senderView (λ o. o .body) (λ o. o .«n_reports») refl (λ p. refl) (λ p. refl) srResult s o h
 
   module _ (f l w : List ℕ) where
-    pub sr-both-refused : (e : RtcpParseError) (r : RtcpSr) → o .body ≡ 0 → parseRefusal e ≡ refusalIn (readAs SR (take (length s - 0) (drop 0 s))) → r ≡ srResult (refused (parseRefusal e))
+    pub sr-both-refused : (c : Code) (e : RtcpParseError) (r : RtcpSr) → o .body ≡ 0 → parseRefusal e ≡ refusalIn (readAs SR (take (length s - 0) (drop 0 s))) → codeRefusal c ≡ parseRefusal e → r ≡ srResult (refused (codeRefusal c))
         → (r, f, l, w) ≡ readBoth srResult (mapOk senderView (readAs SR s)) (layBlocks (mapOk reportBlocks (readAs SR s)) f l w)
     sr-both-refused = both-refused sender-maker noSender senderView (λ o. o .body) (λ o. o .«n_reports») refl (λ p. refl) (λ p. refl) srResult s o h f l w
 

@@ -7,12 +7,8 @@ use Rattle.utils.specs.declared.error.RtcpParseError.{RtcpParseError}
 use Rattle.utils.specs.declared.error.Code.{Code}
 
 module _ {A R : Type 0} (result : Answer A → R) where
-  -- from the three numbers of the refusal
-  pub coded : (c : Code) (e : RtcpParseError) → codeRefusal c ≡ parseRefusal e → result (refused (codeRefusal c)) ≡ result (refused (parseRefusal e))
-  coded c e h = ap (λ (k : Refusal). result (refused k)) h
-
-  pub recoded : (c : Code) (e : RtcpParseError) (r : R) → r ≡ result (refused (codeRefusal c)) → codeRefusal c ≡ parseRefusal e → r ≡ result (refused (parseRefusal e))
-  recoded c e r p h = p ∙ coded c e h
+  pub coded : (c : Code) (e : RtcpParseError) (r : R) → r ≡ result (refused (codeRefusal c)) → codeRefusal c ≡ parseRefusal e → r ≡ result (refused (parseRefusal e))
+  coded c e r p h = p ∙ ap (λ (k : Refusal). result (refused k)) h
 
   module _ {O : Type 0} (of : O → Answer A) where
     pub passed : (o : O) (x : Answer A) (r : R) → r ≡ result (of o) → of o ≡ x → r ≡ result x
@@ -21,12 +17,10 @@ module _ {A R : Type 0} (result : Answer A → R) where
     pub handed : (value : A → O) → ((a : A) → of (value a) ≡ ok a) → (o : O) (a : A) (x : Answer A) → o ≡ value a → of o ≡ x → result (ok a) ≡ result x
     handed value h o a x p q = ap result (sym (h a) ∙ sym (ap of p) ∙ q)
 
-    pub given : (value : A → O) → ((a : A) → of (value a) ≡ ok a) → (o : O) (a : A) (x : Answer A) (r : R) → r ≡ result (ok a) → o ≡ value a → of o ≡ x → r ≡ result x
-    given value h o a x r k p q = k ∙ handed value h o a x p q
-
+    -- from the three numbers of the refusal
     pub turned : (refusing : RtcpParseError → O) → ((e : RtcpParseError) → of (refusing e) ≡ refused (parseRefusal e))
-        → (o : O) (e : RtcpParseError) (x : Answer A) (r : R) → r ≡ result (refused (parseRefusal e)) → o ≡ refusing e → of o ≡ x → r ≡ result x
-    turned refusing h o e x r k p q = k ∙ ap result (sym (h e) ∙ sym (ap of p) ∙ q)
+        → (c : Code) (o : O) (e : RtcpParseError) (x : Answer A) → codeRefusal c ≡ parseRefusal e → o ≡ refusing e → of o ≡ x → result (refused (codeRefusal c)) ≡ result x
+    turned refusing h c o e x k p q = ap result (ap refused k ∙ sym (h e) ∙ sym (ap of p) ∙ q)
 
 -- what holds of every view of what was read holds of the value handed over
 pub viewed : {A B O : Type 0} (of : O → Answer B) (value : B → O) → ((b : B) → of (value b) ≡ ok b) → (view : A → B) (P : B → Type 0) (x : Answer A)

@@ -41,8 +41,8 @@ use Rattle.rtcp.specs.declared.read_sdes.RtcpChunkStep.{RtcpChunkStep}
 use Rattle.rtcp.specs.declared.read_sdes.RtcpItemWalk.{RtcpItemWalk}
 use Rattle.rtcp.specs.declared.read_sdes.RtcpItemStep.{RtcpItemStep}
 use Rattle.rtcp.specs.declared.write_compound.RtcpCall.{RtcpCall}
-use Rattle.rtcp.proofs.Injective.{Numbered}
-use Rattle.rtcp.proofs.Numbered.{call-numbered, chunk-numbered, read-numbered, compound-numbered, accepted, opened-number}
+use Rattle.rtcp.proofs.Injective.{Nonzero}
+use Rattle.rtcp.proofs.Nonzero.{call-nonzero, chunk-nonzero, read-nonzero, compound-nonzero, accepted, opened-number}
 use Rattle.rtcp.proofs.WriteCalls.{writerIn-writerOut}
 
 -- ---- a datagram
@@ -62,7 +62,7 @@ module _ (s : List ℕ) (h : Bytes s) where
   pub packets-opened : (o : RtcpWalk) → o ≡ walkResult (mapOk walkAt (openWalk s)) → o .number ≡ 0 → (ps : List Read) × (readCompound s ≡ ok ps)
   unfolding openWalk
   packets-opened o q z =
-      accepted (readCompound s) (compound-numbered s) (sym (opened-number walkAt (λ (ps : List Read). 0) (readCompound s)) ∙ sym (ap (λ (o : RtcpWalk). o .number) q) ∙ z)
+      accepted (readCompound s) (compound-nonzero s) (sym (opened-number walkAt (λ (ps : List Read). 0) (readCompound s)) ∙ sym (ap (λ (o : RtcpWalk). o .number) q) ∙ z)
 
   -- from a walk that `rtcp_walk_open` returned on a datagram that is accepted
   pub packets-returned : (ps : List Read) → readCompound s ≡ ok ps → (o : RtcpWalk) → o ≡ walkResult (mapOk walkAt (openWalk s))
@@ -85,7 +85,7 @@ module _ (s : List ℕ) (h : Bytes s) where
 pub chunks-opened : (s : List ℕ) (o : RtcpChunkWalk) → o ≡ chunkWalkResult (mapOk chunkWalk (openSdes s)) → o .number ≡ 0 → (p : Read) × (readAs SDES s ≡ ok p)
 unfolding openSdes
 chunks-opened s o q z =
-    accepted (readAs SDES s) (read-numbered SDES s)
+    accepted (readAs SDES s) (read-nonzero SDES s)
     (sym (opened-number chunkWalk (λ (p : Read). record { at = 4; end = length s - length (p .padding) }) (readAs SDES s)) ∙ sym (ap (λ (o : RtcpChunkWalk). o .number) q) ∙ z)
 
 module _ (s : List ℕ) (h : Bytes s) (p : Read) (e : readAs SDES s ≡ ok p) where
@@ -156,7 +156,7 @@ module _ (s : List ℕ) (h : Bytes s) where
   pub items-opened : (o : RtcpItemWalk) → o ≡ itemWalkResult (mapOk itemWalk (openItems s)) → o .number ≡ 0 → (x : Chunk × List ℕ) × (readChunk s ≡ ok x)
   unfolding openItems
   items-opened o q z =
-      accepted (readChunk s) (chunk-numbered s) (sym (opened-number itemWalk (λ (x : Chunk × List ℕ). 4) (readChunk s)) ∙ sym (ap (λ (o : RtcpItemWalk). o .number) q) ∙ z)
+      accepted (readChunk s) (chunk-nonzero s) (sym (opened-number itemWalk (λ (x : Chunk × List ℕ). 4) (readChunk s)) ∙ sym (ap (λ (o : RtcpItemWalk). o .number) q) ∙ z)
 
   -- from a walk that `rtcp_item_walk_open` returned on a chunk that is accepted
   pub items-returned : (x : Chunk × List ℕ) → readChunk s ≡ ok x → (o : RtcpItemWalk) → o ≡ itemWalkResult (mapOk itemWalk (openItems s))
@@ -176,7 +176,7 @@ module _ (s : List ℕ) (h : Bytes s) where
 -- ---- the writer's calls
 
 -- what goes out to C and comes back in is the answer and the writer
-back-in : (w : List ℕ) (a : Answer (Unit {0})) (v : Writer) (l : List ℕ) → Numbered a → ((r : Refusal) → a ≡ refused r → v ≡ writerIn w)
+back-in : (w : List ℕ) (a : Answer (Unit {0})) (v : Writer) (l : List ℕ) → Nonzero a → ((r : Refusal) → a ≡ refused r → v ≡ writerIn w)
     → _≡_ {A = Answer (Unit {0}) × Writer × List ℕ} (answered (callResult a), writerIn (stateAfter w a v), l) (a, v, l)
 back-in w (ok u) v l n k = ap (λ (v : Writer). (ok tt, v, l)) (writerIn-writerOut v)
 back-in w (refused (refusal number first second)) v l n k =
@@ -186,7 +186,7 @@ called-in : (w : List ℕ) (q : Request) (l state out : List ℕ) (r : RtcpCall)
     → _≡_ {A = Answer (Unit {0}) × Writer × List ℕ} (answered r, writerIn state, out) (call q (writerIn w) l)
 called-in w q l state out r m =
     ap (λ (x : RtcpCall × List ℕ × List ℕ). (answered (x .0), writerIn (x .1), x .2)) m
-    ∙ back-in w (call q (writerIn w) l .0) (call q (writerIn w) l .1) (call q (writerIn w) l .2) (call-numbered q (writerIn w) l) (λ r e. refused-call q (writerIn w) l r e .0)
+    ∙ back-in w (call q (writerIn w) l .0) (call q (writerIn w) l .1) (call q (writerIn w) l .2) (call-nonzero q (writerIn w) l) (λ r e. refused-call q (writerIn w) l r e .0)
 
 calls : rfc.Calls writers
 calls w («rtcp_writer_add_rr» ssrc fractions losses words padding buf r state out) m = called-in w _ buf state out r m

@@ -1,11 +1,10 @@
 -- What C gets of a write and of a size, from what a kind's function answers. Stated once, over what is written.
-use Prim.Native.Nat.{ℕ, _<_}
+use Prim.Native.Nat.{ℕ}
 use mathlib.Core.Path.{_≡_, refl, sym, ap, _∙_}
 use mathlib.Core.List.{List}
-use native.Mathlib.Omega.{arith}
 use lib.ListN.{length, length-append}
 use borrow.Author.Needs.{needs}
-use Rattle.rfc3550.specs.Answer.{Refusal, refusal, Answer, refused}
+use Rattle.rfc3550.specs.Answer.{Refusal, Answer, refused}
 use Rattle.rfc3550.specs.Packet.{contentBytes, chunkBytes}
 use Rattle.rfc3550.specs.Write.{Given, giveApp, contentGiven, paddingGiven, packetGiven, ownTests, tests, sizeGiven, calculateSize, chunkSize}
 use Rattle.rfc3550.proofs.Bytes.{length-be}
@@ -15,14 +14,11 @@ use Rattle.utils.specs.List.{listedOf}
 use Rattle.utils.specs.Writer.{writtenOf}
 use Rattle.utils.specs.declared.error.RtcpParseError.{RtcpParseError}
 use Rattle.utils.specs.declared.error.RtcpWriteError.{RtcpWriteError}
-use Rattle.utils.specs.declared.error.RtcpWriteError.the-variants as write
 use Rattle.utils.specs.declared.error.Code.{Code}
 use Rattle.utils.specs.declared.list.Listed.{Listed}
 use Rattle.utils.specs.declared.list.Listed.the-variants as listed
 use Rattle.utils.specs.declared.writer.Written.{Written}
 use Rattle.utils.specs.declared.writer.Written.the-variants.{Size, Refused}
-use Rattle.utils.proofs.Injective.{writeRefusal-injective}
-use Rattle.rtcp.specs.Result.{numberIn}
 use Rattle.rtcp.specs.WriteResult.{writtenOut, handedOut}
 use Rattle.rtcp.specs.declared.write_result.RtcpWritten.{RtcpWritten}
 
@@ -82,38 +78,3 @@ module _ (w : Written) (r : RtcpWritten) (h : r ≡ writtenOut (writtenOf w)) wh
   out-chunk ts ps vs bs q ssrc = out-size w r h _ (q ∙ chunk-same 0 ssrc ts ps vs bs)
 
 pub ruleset outs = (needs, size-out, refused-out, listed-out, short-out, unlisted-out, out-listed, out-size, out-written, out-app, out-chunk)
-
--- ---- what C gets loses nothing
-
-pub write-numbered : (e : RtcpWriteError) → 0 < numberIn (writeRefusal e)
-write-numbered (write.OutputTooSmall size) = omega arith
-write-numbered (write.InvalidPadding padding) = omega arith
-write-numbered (write.AppSubtypeOutOfRange subtype max) = omega arith
-write-numbered write.InvalidName = omega arith
-write-numbered (write.DataLen32bitMultiple len) = omega arith
-write-numbered (write.TooManySources count max) = omega arith
-write-numbered (write.ReasonLenTooLarge len max) = omega arith
-write-numbered (write.CumulativeLostTooLarge value max) = omega arith
-write-numbered (write.TooManyReportBlocks count max) = omega arith
-write-numbered (write.TooManySdesChunks count max) = omega arith
-write-numbered (write.SdesValueTooLarge len max) = omega arith
-write-numbered (write.SdesPrivPrefixTooLarge len max) = omega arith
-write-numbered write.PacketTooLarge = omega arith
-write-numbered write.ItemTypeZero = omega arith
-write-numbered write.ListsDisagree = omega arith
-write-numbered write.WriterClosed = omega arith
-write-numbered write.FirstPacketNoReport = omega arith
-write-numbered write.NoCname = omega arith
-write-numbered write.AlreadyPadded = omega arith
-
-abbrev refusalBack : RtcpWritten → Refusal
-refusalBack r = refusal (r .number) (r .first) (r .second)
-
-refusal-back : (x : Refusal) → refusalBack (writtenOut (refused x)) ≡ x
-refusal-back (refusal number first second) = refl
-
-pub writtenOut-injective : (v w : Written) → writtenOut (writtenOf v) ≡ writtenOut (writtenOf w) → v ≡ w
-writtenOut-injective (Size m) (Size n) h = ap Size (ap (λ (r : RtcpWritten). r .size) h)
-writtenOut-injective (Size m) (Refused e) h = let q = ap (λ (r : RtcpWritten). r .number) h in let p = write-numbered e in absurd (omega arith)
-writtenOut-injective (Refused e) (Size n) h = let q = ap (λ (r : RtcpWritten). r .number) h in let p = write-numbered e in absurd (omega arith)
-writtenOut-injective (Refused e) (Refused f) h = ap Refused (writeRefusal-injective e f (sym (refusal-back (writeRefusal e)) ∙ ap refusalBack h ∙ refusal-back (writeRefusal f)))

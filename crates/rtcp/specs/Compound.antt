@@ -21,145 +21,50 @@ use Rattle.rtcp.specs.Result.{numberOf, firstOf, secondOf, field, bit}
 
 -- ---- a packet of each kind
 
-abbrev pub bareNumbers : ℕ → ℕ → ℕ → ℕ → ℕ → PacketNumbers
-bareNumbers kind type count body padding =
+-- kind, type, count, body, length of the padding; SSRC, NTP time, RTP time, packets, octets, extension; CNAME; whether there is a reason, its place, its length
+abbrev pub numbers : ℕ → ℕ → ℕ → ℕ → ℕ → ℕ → ℕ → ℕ → ℕ → ℕ → ℕ → ℕ → ℕ → ℕ → ℕ → PacketNumbers
+numbers kind type count body padding ssrc ntp rtp packets octets extension cname reasoned reason len =
     record {
       kind = kind;
       «packet_type» = type;
       count = count;
       body = body;
       «padding_len» = padding;
-      ssrc = 0;
-      «ntp_timestamp» = 0;
-      «rtp_timestamp» = 0;
-      «packet_count» = 0;
-      «octet_count» = 0;
-      extension = 0;
-      «has_cname» = 0;
-      «has_reason» = 0;
-      reason = 0;
-      «reason_len» = 0;
+      ssrc = ssrc;
+      «ntp_timestamp» = ntp;
+      «rtp_timestamp» = rtp;
+      «packet_count» = packets;
+      «octet_count» = octets;
+      extension = extension;
+      «has_cname» = cname;
+      «has_reason» = reasoned;
+      reason = reason;
+      «reason_len» = len;
     }
+
+-- what every kind has
+abbrev pub bareNumbers : ℕ → ℕ → ℕ → ℕ → PacketNumbers
+bareNumbers type count body padding = numbers type type count body padding 0 0 0 0 0 0 0 0 0 0
 
 abbrev pub srNumbers : SenderReport → PacketNumbers
 srNumbers x =
-    record {
-      kind = 200;
-      «packet_type» = 200;
-      count = x .«n_reports»;
-      body = x .body;
-      «padding_len» = x .«padding_len»;
-      ssrc = x .ssrc;
-      «ntp_timestamp» = x .«ntp_timestamp»;
-      «rtp_timestamp» = x .«rtp_timestamp»;
-      «packet_count» = x .«packet_count»;
-      «octet_count» = x .«octet_count»;
-      extension = x .extension;
-      «has_cname» = 0;
-      «has_reason» = 0;
-      reason = 0;
-      «reason_len» = 0;
-    }
+    numbers 200 200 (x .«n_reports») (x .body) (x .«padding_len»)
+    (x .ssrc) (x .«ntp_timestamp») (x .«rtp_timestamp») (x .«packet_count») (x .«octet_count») (x .extension) 0 0 0 0
 
 abbrev pub rrNumbers : ReceiverReport → PacketNumbers
-rrNumbers x =
-    record {
-      kind = 201;
-      «packet_type» = 201;
-      count = x .«n_reports»;
-      body = x .body;
-      «padding_len» = x .«padding_len»;
-      ssrc = x .ssrc;
-      «ntp_timestamp» = 0;
-      «rtp_timestamp» = 0;
-      «packet_count» = 0;
-      «octet_count» = 0;
-      extension = x .extension;
-      «has_cname» = 0;
-      «has_reason» = 0;
-      reason = 0;
-      «reason_len» = 0;
-    }
+rrNumbers x = numbers 201 201 (x .«n_reports») (x .body) (x .«padding_len») (x .ssrc) 0 0 0 0 (x .extension) 0 0 0 0
 
 abbrev pub sdesNumbers : Sdes → PacketNumbers
-sdesNumbers x =
-    record {
-      kind = 202;
-      «packet_type» = 202;
-      count = x .«n_chunks»;
-      body = x .body;
-      «padding_len» = x .«padding_len»;
-      ssrc = 0;
-      «ntp_timestamp» = 0;
-      «rtp_timestamp» = 0;
-      «packet_count» = 0;
-      «octet_count» = 0;
-      extension = 0;
-      «has_cname» = bit (x .«has_cname»);
-      «has_reason» = 0;
-      reason = 0;
-      «reason_len» = 0;
-    }
+sdesNumbers x = numbers 202 202 (x .«n_chunks») (x .body) (x .«padding_len») 0 0 0 0 0 0 (bit (x .«has_cname»)) 0 0 0
 
 abbrev pub byeNumbers : Bye → PacketNumbers
-byeNumbers x =
-    record {
-      kind = 203;
-      «packet_type» = 203;
-      count = x .«n_sources»;
-      body = x .body;
-      «padding_len» = x .«padding_len»;
-      ssrc = 0;
-      «ntp_timestamp» = 0;
-      «rtp_timestamp» = 0;
-      «packet_count» = 0;
-      «octet_count» = 0;
-      extension = 0;
-      «has_cname» = 0;
-      «has_reason» = bit (x .«has_reason»);
-      reason = x .reason;
-      «reason_len» = x .«reason_len»;
-    }
+byeNumbers x = numbers 203 203 (x .«n_sources») (x .body) (x .«padding_len») 0 0 0 0 0 0 0 (bit (x .«has_reason»)) (x .reason) (x .«reason_len»)
 
 abbrev pub appNumbers : App → PacketNumbers
-appNumbers x =
-    record {
-      kind = 204;
-      «packet_type» = 204;
-      count = x .subtype;
-      body = x .body;
-      «padding_len» = x .«padding_len»;
-      ssrc = x .ssrc;
-      «ntp_timestamp» = 0;
-      «rtp_timestamp» = 0;
-      «packet_count» = 0;
-      «octet_count» = 0;
-      extension = 0;
-      «has_cname» = 0;
-      «has_reason» = 0;
-      reason = 0;
-      «reason_len» = 0;
-    }
+appNumbers x = numbers 204 204 (x .subtype) (x .body) (x .«padding_len») (x .ssrc) 0 0 0 0 0 0 0 0 0
 
 abbrev pub unknownNumbers : Unknown → PacketNumbers
-unknownNumbers x =
-    record {
-      kind = 0;
-      «packet_type» = x .«packet_type»;
-      count = x .count;
-      body = x .body;
-      «padding_len» = x .«padding_len»;
-      ssrc = 0;
-      «ntp_timestamp» = 0;
-      «rtp_timestamp» = 0;
-      «packet_count» = 0;
-      «octet_count» = 0;
-      extension = 0;
-      «has_cname» = 0;
-      «has_reason» = 0;
-      reason = 0;
-      «reason_len» = 0;
-    }
+unknownNumbers x = numbers 0 (x .«packet_type») (x .count) (x .body) (x .«padding_len») 0 0 0 0 0 0 0 0 0 0
 
 abbrev pub numbersOf : Packet → PacketNumbers
 numbersOf (packet.Sr x) = srNumbers x

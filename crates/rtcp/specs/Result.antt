@@ -2,9 +2,7 @@
 use Prim.Native.Nat.{ℕ}
 use mathlib.Core.Bool.{Bool, true, false}
 use Rattle.rfc3550.specs.Answer.{Refusal, refusal, Answer, ok, refused}
-
-abbrev pub numberIn : Refusal → ℕ
-numberIn (refusal number first second) = number
+use Rattle.utils.specs.Error.{numberIn}
 
 abbrev pub firstIn : Refusal → ℕ
 firstIn (refusal number first second) = first

@@ -22,7 +22,7 @@ use Rattle.compound.specs.Packet.{packetView}
 use Rattle.compound.specs.Compound.{stepView}
 use Rattle.rtcp.specs.Result.{numberOf, firstOf, secondOf}
 use Rattle.rtcp.specs.Sdes.{chunkStepResult, itemStepResult}
-use Rattle.rtcp.specs.Compound.{bareNumbers, numbersOf, stepResult}
+use Rattle.rtcp.specs.Compound.{numbers, bareNumbers, numbersOf, stepResult}
 use Rattle.rtcp.specs.WriteCompound.{writerIn, calledOut}
 use Rattle.rtcp.specs.declared.read_compound.PacketNumbers.{PacketNumbers}
 use Rattle.rtcp.specs.declared.read_compound.RtcpStep.{RtcpStep}
@@ -44,23 +44,8 @@ packetSteps s = record { H = ℕ; R = RtcpStep; Meets = λ at r. r ≡ stepResul
 
 abbrev pub numbersIn : RtcpStep → PacketNumbers
 numbersIn r =
-    record {
-      kind = r .kind;
-      «packet_type» = r .«packet_type»;
-      count = r .count;
-      body = r .body;
-      «padding_len» = r .«padding_len»;
-      ssrc = r .ssrc;
-      «ntp_timestamp» = r .«ntp_timestamp»;
-      «rtp_timestamp» = r .«rtp_timestamp»;
-      «packet_count» = r .«packet_count»;
-      «octet_count» = r .«octet_count»;
-      extension = r .extension;
-      «has_cname» = r .«has_cname»;
-      «has_reason» = r .«has_reason»;
-      reason = r .reason;
-      «reason_len» = r .«reason_len»;
-    }
+    numbers (r .kind) (r .«packet_type») (r .count) (r .body) (r .«padding_len») (r .ssrc) (r .«ntp_timestamp») (r .«rtp_timestamp») (r .«packet_count»)
+    (r .«octet_count») (r .extension) (r .«has_cname») (r .«has_reason») (r .reason) (r .«reason_len»)
 
 abbrev pub packetSeen : List ℕ → ℕ → RtcpStep → Said × PacketNumbers × List ℕ
 packetSeen s at r = ((r .number, r .first, r .second), numbersIn r, take (r .len) (drop (r .offset) s))
@@ -68,7 +53,7 @@ packetSeen s at r = ((r .number, r .first, r .second), numbersIn r, take (r .len
 -- on a refusal all but its numbers is 0
 abbrev pub packetTold : Answer Read → Said × PacketNumbers × List ℕ
 packetTold (ok p) = ((0, 0, 0), numbersOf (packetView p), layout p)
-packetTold (refused r) = (said {A = Read} (refused r), bareNumbers 0 0 0 0 0, [])
+packetTold (refused r) = (said {A = Read} (refused r), bareNumbers 0 0 0 0, [])
 
 -- ---- rtcp_chunk_walk_step: SSRC, length, place of the first CNAME, and the bytes at the walk's place
 

@@ -1,11 +1,9 @@
 // APP packets.
 use app::App;
 use app::ParsedApp;
-use utils::error::RtcpParseError;
 ghost use mathlib.Core.Path.{_≡_};
-ghost use Rattle.rfc3550.specs.Answer.{mapOk, refused};
+ghost use Rattle.rfc3550.specs.Answer.{mapOk};
 ghost use Rattle.rfc3550.specs.Read.{APP, readAs};
-ghost use Rattle.utils.specs.Error.{parseRefusal};
 ghost use Rattle.app.specs.App.{appView};
 ghost use Rattle.rtcp.specs.App.{appResult};
 
@@ -22,27 +20,6 @@ pub struct RtcpApp {
     pub data_len: u64,
     pub padding: u64,
     pub padding_len: u64,
-}
-
-impl RtcpApp {
-    fn refused(e: RtcpParseError) -> RtcpApp
-        ensures { λ r. ⌜ r ≡ appResult (refused (parseRefusal e)) ⌝ }
-    {
-        let code = e.code();
-        RtcpApp {
-            number: code.number,
-            first: code.first,
-            second: code.second,
-            subtype: 0,
-            ssrc: 0,
-            name: 0,
-            name_len: 0,
-            data: 0,
-            data_len: 0,
-            padding: 0,
-            padding_len: 0,
-        }
-    }
 }
 
 #[no_mangle]
@@ -63,6 +40,21 @@ pub extern "C" fn rtcp_app_parse(s: &[u8]) -> RtcpApp
             padding: app.body as u64,
             padding_len: app.padding_len as u64,
         },
-        ParsedApp::Refused(e) => RtcpApp::refused(e),
+        ParsedApp::Refused(e) => {
+            let code = e.code();
+            RtcpApp {
+                number: code.number,
+                first: code.first,
+                second: code.second,
+                subtype: 0,
+                ssrc: 0,
+                name: 0,
+                name_len: 0,
+                data: 0,
+                data_len: 0,
+                padding: 0,
+                padding_len: 0,
+            }
+        }
     }
 }

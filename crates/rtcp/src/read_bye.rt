@@ -3,11 +3,9 @@ use super::result::bit;
 use bye::Bye;
 use bye::ParsedBye;
 use bye::ParsedSource;
-use utils::error::RtcpParseError;
 ghost use mathlib.Core.Path.{_≡_};
-ghost use Rattle.rfc3550.specs.Answer.{mapOk, refused};
+ghost use Rattle.rfc3550.specs.Answer.{mapOk};
 ghost use Rattle.rfc3550.specs.Read.{BYE, readAs, readSourceAt};
-ghost use Rattle.utils.specs.Error.{parseRefusal};
 ghost use Rattle.bye.specs.Bye.{byeView};
 ghost use Rattle.rtcp.specs.Bye.{byeResult, sourceResult};
 
@@ -34,41 +32,6 @@ pub struct RtcpSource {
     pub ssrc: u64,
 }
 
-impl RtcpBye {
-    fn refused(e: RtcpParseError) -> RtcpBye
-        ensures { λ r. ⌜ r ≡ byeResult (refused (parseRefusal e)) ⌝ }
-    {
-        let code = e.code();
-        RtcpBye {
-            number: code.number,
-            first: code.first,
-            second: code.second,
-            n_sources: 0,
-            has_reason: 0,
-            reason: 0,
-            reason_len: 0,
-            tail: 0,
-            tail_len: 0,
-            padding: 0,
-            padding_len: 0,
-        }
-    }
-}
-
-impl RtcpSource {
-    fn refused(e: RtcpParseError) -> RtcpSource
-        ensures { λ r. ⌜ r ≡ sourceResult (refused (parseRefusal e)) ⌝ }
-    {
-        let code = e.code();
-        RtcpSource {
-            number: code.number,
-            first: code.first,
-            second: code.second,
-            ssrc: 0,
-        }
-    }
-}
-
 #[no_mangle]
 pub extern "C" fn rtcp_bye_parse(s: &[u8]) -> RtcpBye
     ensures { λ r. ⌜ r ≡ byeResult (mapOk byeView (readAs BYE (now (s .entry)))) ⌝ }
@@ -87,7 +50,22 @@ pub extern "C" fn rtcp_bye_parse(s: &[u8]) -> RtcpBye
             padding: bye.body as u64,
             padding_len: bye.padding_len as u64,
         },
-        ParsedBye::Refused(e) => RtcpBye::refused(e),
+        ParsedBye::Refused(e) => {
+            let code = e.code();
+            RtcpBye {
+                number: code.number,
+                first: code.first,
+                second: code.second,
+                n_sources: 0,
+                has_reason: 0,
+                reason: 0,
+                reason_len: 0,
+                tail: 0,
+                tail_len: 0,
+                padding: 0,
+                padding_len: 0,
+            }
+        }
     }
 }
 
@@ -103,6 +81,14 @@ pub extern "C" fn rtcp_bye_source(s: &[u8], i: u64) -> RtcpSource
             second: 0,
             ssrc: ssrc as u64,
         },
-        ParsedSource::Refused(e) => RtcpSource::refused(e),
+        ParsedSource::Refused(e) => {
+            let code = e.code();
+            RtcpSource {
+                number: code.number,
+                first: code.first,
+                second: code.second,
+                ssrc: 0,
+            }
+        }
     }
 }

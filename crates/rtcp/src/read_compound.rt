@@ -13,12 +13,12 @@ use compound::unknown::Unknown;
 use report::receiver::ReceiverReport;
 use report::sender::SenderReport;
 use sdes::sdes::Sdes;
-use utils::error::RtcpParseError;
+use utils::error::Code;
 ghost use mathlib.Core.Path.{_≡_};
 ghost use Rattle.rfc3550.specs.Answer.{mapOk, refused};
 ghost use Rattle.rfc3550.specs.Compound.{readCompound};
 ghost use Rattle.rfc3550.specs.Walk.{openWalk, step};
-ghost use Rattle.utils.specs.Error.{parseRefusal};
+ghost use Rattle.utils.specs.Error.{codeRefusal};
 ghost use Rattle.utils.specs.List.{layList};
 ghost use Rattle.compound.specs.Compound.{compoundView, packetRows, walkAt, stepView};
 ghost use Rattle.rtcp.specs.Compound.{bareNumbers, srNumbers, rrNumbers, sdesNumbers, byeNumbers, appNumbers, unknownNumbers, numbersOf, compoundResult, walkResult, stepResult};
@@ -67,40 +67,11 @@ pub struct RtcpStep {
     pub at: u64,
 }
 
-impl RtcpCompound {
-    fn refused(e: RtcpParseError) -> RtcpCompound
-        ensures { λ r. ⌜ r ≡ compoundResult (refused (parseRefusal e)) ⌝ }
-    {
-        let code = e.code();
-        RtcpCompound {
-            number: code.number,
-            first: code.first,
-            second: code.second,
-            n_packets: 0,
-        }
-    }
-}
-
-impl RtcpWalk {
-    fn refused(e: RtcpParseError) -> RtcpWalk
-        ensures { λ r. ⌜ r ≡ walkResult (refused (parseRefusal e)) ⌝ }
-    {
-        let code = e.code();
-        RtcpWalk {
-            number: code.number,
-            first: code.first,
-            second: code.second,
-            at: 0,
-        }
-    }
-}
-
 impl RtcpStep {
-    // With the walk that went in.
-    fn refused(e: RtcpParseError, at: u64) -> RtcpStep
-        ensures { λ r. ⌜ r ≡ stepResult at (refused (parseRefusal e)) ⌝ }
+    // A refusal by its three numbers, with the walk that went in.
+    fn coded(code: Code, at: u64) -> RtcpStep
+        ensures { λ r. ⌜ r ≡ stepResult at (refused (codeRefusal code)) ⌝ }
     {
-        let code = e.code();
         RtcpStep {
             number: code.number,
             first: code.first,
@@ -148,15 +119,15 @@ struct PacketNumbers {
 
 impl PacketNumbers {
     // What every kind has.
-    fn bare(kind: u64, packet_type: u64, count: u64, body: usize, padding: usize) -> PacketNumbers
-        ensures { λ r. ⌜ r ≡ bareNumbers kind «packet_type» count body padding ⌝ }
+    fn bare(packet_type: u8, count: usize, body: usize, padding_len: usize) -> PacketNumbers
+        ensures { λ r. ⌜ r ≡ bareNumbers «packet_type» count body «padding_len» ⌝ }
     {
         PacketNumbers {
-            kind,
-            packet_type,
-            count,
+            kind: packet_type as u64,
+            packet_type: packet_type as u64,
+            count: count as u64,
             body: body as u64,
-            padding_len: padding as u64,
+            padding_len: padding_len as u64,
             ssrc: 0,
             ntp_timestamp: 0,
             rtp_timestamp: 0,
@@ -173,7 +144,12 @@ impl PacketNumbers {
     fn of_sr(sr: SenderReport) -> PacketNumbers
         ensures { λ r. ⌜ r ≡ srNumbers sr ⌝ }
     {
-        let mut n = PacketNumbers::bare(200, 200, sr.n_reports as u64, sr.body, sr.padding_len);
+        let mut n = Self::bare(
+            SenderReport::PACKET_TYPE,
+            sr.n_reports,
+            sr.body,
+            sr.padding_len,
+        );
         n.ssrc = sr.ssrc as u64;
         n.ntp_timestamp = sr.ntp_timestamp;
         n.rtp_timestamp = sr.rtp_timestamp as u64;
@@ -186,7 +162,12 @@ impl PacketNumbers {
     fn of_rr(rr: ReceiverReport) -> PacketNumbers
         ensures { λ r. ⌜ r ≡ rrNumbers rr ⌝ }
     {
-        let mut n = PacketNumbers::bare(201, 201, rr.n_reports as u64, rr.body, rr.padding_len);
+        let mut n = Self::bare(
+            ReceiverReport::PACKET_TYPE,
+            rr.n_reports,
+            rr.body,
+            rr.padding_len,
+        );
         n.ssrc = rr.ssrc as u64;
         n.extension = rr.extension as u64;
         n
@@ -195,10 +176,9 @@ impl PacketNumbers {
     fn of_sdes(sdes: Sdes) -> PacketNumbers
         ensures { λ r. ⌜ r ≡ sdesNumbers sdes ⌝ }
     {
-        let mut n = PacketNumbers::bare(
-            202,
-            202,
-            sdes.n_chunks as u64,
+        let mut n = Self::bare(
+            Sdes::PACKET_TYPE,
+            sdes.n_chunks,
             sdes.body,
             sdes.padding_len,
         );
@@ -209,7 +189,7 @@ impl PacketNumbers {
     fn of_bye(bye: Bye) -> PacketNumbers
         ensures { λ r. ⌜ r ≡ byeNumbers bye ⌝ }
     {
-        let mut n = PacketNumbers::bare(203, 203, bye.n_sources as u64, bye.body, bye.padding_len);
+        let mut n = Self::bare(Bye::PACKET_TYPE, bye.n_sources, bye.body, bye.padding_len);
         n.has_reason = bit(bye.has_reason);
         n.reason = bye.reason as u64;
         n.reason_len = bye.reason_len as u64;
@@ -219,7 +199,12 @@ impl PacketNumbers {
     fn of_app(app: App) -> PacketNumbers
         ensures { λ r. ⌜ r ≡ appNumbers app ⌝ }
     {
-        let mut n = PacketNumbers::bare(204, 204, app.subtype as u64, app.body, app.padding_len);
+        let mut n = Self::bare(
+            App::PACKET_TYPE,
+            app.subtype as usize,
+            app.body,
+            app.padding_len,
+        );
         n.ssrc = app.ssrc as u64;
         n
     }
@@ -227,25 +212,21 @@ impl PacketNumbers {
     fn of_unknown(u: Unknown) -> PacketNumbers
         ensures { λ r. ⌜ r ≡ unknownNumbers u ⌝ }
     {
-        PacketNumbers::bare(
-            0,
-            u.packet_type as u64,
-            u.count as u64,
-            u.body,
-            u.padding_len,
-        )
+        let mut n = Self::bare(u.packet_type, u.count as usize, u.body, u.padding_len);
+        n.kind = 0;
+        n
     }
 
     fn of(packet: Packet) -> PacketNumbers
         ensures { λ r. ⌜ r ≡ numbersOf packet ⌝ }
     {
         match packet {
-            Packet::Sr(sr) => PacketNumbers::of_sr(sr),
-            Packet::Rr(rr) => PacketNumbers::of_rr(rr),
-            Packet::Sdes(sdes) => PacketNumbers::of_sdes(sdes),
-            Packet::Bye(bye) => PacketNumbers::of_bye(bye),
-            Packet::App(app) => PacketNumbers::of_app(app),
-            Packet::Unknown(u) => PacketNumbers::of_unknown(u),
+            Packet::Sr(sr) => Self::of_sr(sr),
+            Packet::Rr(rr) => Self::of_rr(rr),
+            Packet::Sdes(sdes) => Self::of_sdes(sdes),
+            Packet::Bye(bye) => Self::of_bye(bye),
+            Packet::App(app) => Self::of_app(app),
+            Packet::Unknown(u) => Self::of_unknown(u),
         }
     }
 }
@@ -261,7 +242,15 @@ pub extern "C" fn rtcp_compound_parse(s: &[u8]) -> RtcpCompound
             second: 0,
             n_packets: compound.n_packets as u64,
         },
-        ParsedCompound::Refused(e) => RtcpCompound::refused(e),
+        ParsedCompound::Refused(e) => {
+            let code = e.code();
+            RtcpCompound {
+                number: code.number,
+                first: code.first,
+                second: code.second,
+                n_packets: 0,
+            }
+        }
     }
 }
 
@@ -284,7 +273,15 @@ pub extern "C" fn rtcp_walk_open(s: &[u8]) -> RtcpWalk
             second: 0,
             at: walk.at as u64,
         },
-        OpenedWalk::Refused(e) => RtcpWalk::refused(e),
+        OpenedWalk::Refused(e) => {
+            let code = e.code();
+            RtcpWalk {
+                number: code.number,
+                first: code.first,
+                second: code.second,
+                at: 0,
+            }
+        }
     }
 }
 
@@ -320,6 +317,6 @@ pub extern "C" fn rtcp_walk_step(s: &[u8], at: u64) -> RtcpStep
                 at: next.at as u64,
             }
         }
-        Stepped::Refused(e) => RtcpStep::refused(e, at),
+        Stepped::Refused(e) => RtcpStep::coded(e.code(), at),
     }
 }

@@ -6,13 +6,12 @@ use report::report_block::ReportBlock;
 use report::report_block::list_blocks_unchecked;
 use report::sender::SenderReport;
 use utils::error::Code;
-use utils::error::RtcpParseError;
 use utils::list::Listed;
 ghost use mathlib.Core.Path.{_≡_};
 ghost use Prim.Native.Nat.{_≤_};
 ghost use Rattle.rfc3550.specs.Answer.{ok, refused, mapOk};
 ghost use Rattle.rfc3550.specs.Read.{RR, SR, readAs, readBlock, readBlockAt};
-ghost use Rattle.utils.specs.Error.{parseRefusal, codeRefusal};
+ghost use Rattle.utils.specs.Error.{codeRefusal};
 ghost use Rattle.utils.specs.List.{listedOf};
 ghost use Rattle.report.specs.Block.{parsedBlockOf, blockView, layBlocks};
 ghost use Rattle.report.specs.Report.{receiverView, senderView, reportBlocks};
@@ -63,24 +62,6 @@ pub struct RtcpSr {
 }
 
 impl RtcpBlock {
-    fn refused(e: RtcpParseError) -> RtcpBlock
-        ensures { λ r. ⌜ r ≡ blockResult (refused (parseRefusal e)) ⌝ }
-    {
-        let code = e.code();
-        RtcpBlock {
-            number: code.number,
-            first: code.first,
-            second: code.second,
-            ssrc: 0,
-            fraction_lost: 0,
-            cumulative_lost: 0,
-            extended_sequence_number: 0,
-            interarrival_jitter: 0,
-            last_sender_report_timestamp: 0,
-            delay_since_last_sender_report_timestamp: 0,
-        }
-    }
-
     fn from_parsed(parsed: ParsedReportBlock) -> RtcpBlock
         ensures { λ r. ⌜ r ≡ blockResult (parsedBlockOf parsed) ⌝ }
     {
@@ -97,18 +78,26 @@ impl RtcpBlock {
                 last_sender_report_timestamp: block.last_sender_report_timestamp as u64,
                 delay_since_last_sender_report_timestamp: block.delay_since_last_sender_report_timestamp as u64,
             },
-            ParsedReportBlock::Refused(e) => RtcpBlock::refused(e),
+            ParsedReportBlock::Refused(e) => {
+                let code = e.code();
+                RtcpBlock {
+                    number: code.number,
+                    first: code.first,
+                    second: code.second,
+                    ssrc: 0,
+                    fraction_lost: 0,
+                    cumulative_lost: 0,
+                    extended_sequence_number: 0,
+                    interarrival_jitter: 0,
+                    last_sender_report_timestamp: 0,
+                    delay_since_last_sender_report_timestamp: 0,
+                }
+            }
         }
     }
 }
 
 impl RtcpRr {
-    fn refused(e: RtcpParseError) -> RtcpRr
-        ensures { λ r. ⌜ r ≡ rrResult (refused (parseRefusal e)) ⌝ }
-    {
-        RtcpRr::coded(e.code())
-    }
-
     // A refusal by its three numbers.
     fn coded(code: Code) -> RtcpRr
         ensures { λ r. ⌜ r ≡ rrResult (refused (codeRefusal code)) ⌝ }
@@ -155,7 +144,7 @@ impl RtcpRr {
                 first: needed as u64,
                 second: 0,
             }),
-            Listed::Refused(e) => RtcpRr::refused(e),
+            Listed::Refused(e) => RtcpRr::coded(e.code()),
         }
     }
 }
@@ -194,14 +183,8 @@ impl RtcpSr {
                 first: needed as u64,
                 second: 0,
             }),
-            Listed::Refused(e) => RtcpSr::refused(e),
+            Listed::Refused(e) => RtcpSr::coded(e.code()),
         }
-    }
-
-    fn refused(e: RtcpParseError) -> RtcpSr
-        ensures { λ r. ⌜ r ≡ srResult (refused (parseRefusal e)) ⌝ }
-    {
-        RtcpSr::coded(e.code())
     }
 
     // A refusal by its three numbers.
@@ -239,7 +222,8 @@ pub extern "C" fn rtcp_rr_parse(s: &[u8]) -> RtcpRr
 {
     let rr = ReceiverReport::read(s);
     if rr.body == 0 {
-        return RtcpRr::refused(ReceiverReport::why(&s[0..]));
+        let why = ReceiverReport::why(&s[0..]);
+        return RtcpRr::coded(why.code());
     }
     RtcpRr::from_report(rr)
 }
@@ -250,7 +234,8 @@ pub extern "C" fn rtcp_sr_parse(s: &[u8]) -> RtcpSr
 {
     let sr = SenderReport::read(s);
     if sr.body == 0 {
-        return RtcpSr::refused(SenderReport::why(&s[0..]));
+        let why = SenderReport::why(&s[0..]);
+        return RtcpSr::coded(why.code());
     }
     RtcpSr::from_report(sr)
 }
@@ -307,7 +292,8 @@ pub extern "C" fn rtcp_rr_read(
 {
     let rr = ReceiverReport::read(s);
     if rr.body == 0 {
-        return RtcpRr::refused(ReceiverReport::why(&s[0..]));
+        let why = ReceiverReport::why(&s[0..]);
+        return RtcpRr::coded(why.code());
     }
     let listed = list_blocks_unchecked(
         s,
@@ -331,7 +317,8 @@ pub extern "C" fn rtcp_sr_read(
 {
     let sr = SenderReport::read(s);
     if sr.body == 0 {
-        return RtcpSr::refused(SenderReport::why(&s[0..]));
+        let why = SenderReport::why(&s[0..]);
+        return RtcpSr::coded(why.code());
     }
     let listed = list_blocks_unchecked(
         s,

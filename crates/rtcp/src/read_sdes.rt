@@ -12,14 +12,12 @@ use sdes_chunk::chunk::SdesChunk;
 use sdes_chunk::chunk::SteppedItem;
 use sdes_chunk::item::ParsedItem;
 use sdes_chunk::item::SdesItem;
-use utils::error::RtcpParseError;
 ghost use mathlib.Core.Path.{_≡_};
 ghost use Prim.Native.Nat.{_+_, _^_, _<_, _≤_};
 ghost use lib.ListN.{length};
-ghost use Rattle.rfc3550.specs.Answer.{mapOk, refused};
+ghost use Rattle.rfc3550.specs.Answer.{mapOk};
 ghost use Rattle.rfc3550.specs.Read.{SDES, readAs, readItem, readPrefix, readChunk};
 ghost use Rattle.rfc3550.specs.Walk.{openSdes, sdesStep, openItems, itemStep};
-ghost use Rattle.utils.specs.Error.{parseRefusal};
 ghost use Rattle.sdes_chunk.specs.Item.{itemFirst};
 ghost use Rattle.sdes_chunk.specs.Chunk.{chunkFirst};
 ghost use Rattle.sdes_chunk.specs.Walk.{itemWalk, itemStepped};
@@ -114,128 +112,6 @@ pub struct RtcpItemStep {
     pub at: u64,
 }
 
-impl RtcpSdes {
-    fn refused(e: RtcpParseError) -> RtcpSdes
-        ensures { λ r. ⌜ r ≡ sdesResult (refused (parseRefusal e)) ⌝ }
-    {
-        let code = e.code();
-        RtcpSdes {
-            number: code.number,
-            first: code.first,
-            second: code.second,
-            n_chunks: 0,
-            has_cname: 0,
-            body: 0,
-            padding: 0,
-            padding_len: 0,
-        }
-    }
-}
-
-impl RtcpItem {
-    fn refused(e: RtcpParseError) -> RtcpItem
-        ensures { λ r. ⌜ r ≡ itemResult (refused (parseRefusal e)) ⌝ }
-    {
-        let code = e.code();
-        RtcpItem {
-            number: code.number,
-            first: code.first,
-            second: code.second,
-            type_: 0,
-            length: 0,
-            prefix: 0,
-            prefix_len: 0,
-            value: 0,
-            value_len: 0,
-        }
-    }
-}
-
-impl RtcpChunk {
-    fn refused(e: RtcpParseError) -> RtcpChunk
-        ensures { λ r. ⌜ r ≡ chunkResult (refused (parseRefusal e)) ⌝ }
-    {
-        let code = e.code();
-        RtcpChunk {
-            number: code.number,
-            first: code.first,
-            second: code.second,
-            ssrc: 0,
-            length: 0,
-            cname: 0,
-        }
-    }
-}
-
-impl RtcpChunkWalk {
-    fn refused(e: RtcpParseError) -> RtcpChunkWalk
-        ensures { λ r. ⌜ r ≡ chunkWalkResult (refused (parseRefusal e)) ⌝ }
-    {
-        let code = e.code();
-        RtcpChunkWalk {
-            number: code.number,
-            first: code.first,
-            second: code.second,
-            at: 0,
-            end: 0,
-        }
-    }
-}
-
-impl RtcpChunkStep {
-    // With the walk that went in.
-    fn refused(e: RtcpParseError, at: u64, end: u64) -> RtcpChunkStep
-        ensures { λ r. ⌜ r ≡ chunkStepResult at end (refused (parseRefusal e)) ⌝ }
-    {
-        let code = e.code();
-        RtcpChunkStep {
-            number: code.number,
-            first: code.first,
-            second: code.second,
-            ssrc: 0,
-            length: 0,
-            cname: 0,
-            at,
-            end,
-        }
-    }
-}
-
-impl RtcpItemWalk {
-    fn refused(e: RtcpParseError) -> RtcpItemWalk
-        ensures { λ r. ⌜ r ≡ itemWalkResult (refused (parseRefusal e)) ⌝ }
-    {
-        let code = e.code();
-        RtcpItemWalk {
-            number: code.number,
-            first: code.first,
-            second: code.second,
-            at: 0,
-        }
-    }
-}
-
-impl RtcpItemStep {
-    // With the walk that went in.
-    fn refused(e: RtcpParseError, at: u64) -> RtcpItemStep
-        ensures { λ r. ⌜ r ≡ itemStepResult at (refused (parseRefusal e)) ⌝ }
-    {
-        let code = e.code();
-        RtcpItemStep {
-            number: code.number,
-            first: code.first,
-            second: code.second,
-            type_: 0,
-            length: 0,
-            prefix: 0,
-            prefix_len: 0,
-            value: 0,
-            value_len: 0,
-            at,
-        }
-    }
-}
-
 // Where an item's prefix starts, counted from the item's start: in PRIV its length stands before it.
 fn prefix_start(item: SdesItem) -> usize
     ensures { λ r. ⌜ r ≡ prefixStart item ⌝ }
@@ -281,7 +157,19 @@ pub extern "C" fn rtcp_sdes_parse(s: &[u8]) -> RtcpSdes
             padding: sdes.body as u64,
             padding_len: sdes.padding_len as u64,
         },
-        ParsedSdes::Refused(e) => RtcpSdes::refused(e),
+        ParsedSdes::Refused(e) => {
+            let code = e.code();
+            RtcpSdes {
+                number: code.number,
+                first: code.first,
+                second: code.second,
+                n_chunks: 0,
+                has_cname: 0,
+                body: 0,
+                padding: 0,
+                padding_len: 0,
+            }
+        }
     }
 }
 
@@ -305,7 +193,20 @@ pub extern "C" fn rtcp_item_parse(s: &[u8]) -> RtcpItem
                 value_len: parts.value_len,
             }
         }
-        ParsedItem::Refused(e) => RtcpItem::refused(e),
+        ParsedItem::Refused(e) => {
+            let code = e.code();
+            RtcpItem {
+                number: code.number,
+                first: code.first,
+                second: code.second,
+                type_: 0,
+                length: 0,
+                prefix: 0,
+                prefix_len: 0,
+                value: 0,
+                value_len: 0,
+            }
+        }
     }
 }
 
@@ -349,7 +250,17 @@ pub extern "C" fn rtcp_chunk_parse(s: &[u8]) -> RtcpChunk
             length: chunk.length as u64,
             cname: chunk.cname as u64,
         },
-        ParsedChunk::Refused(e) => RtcpChunk::refused(e),
+        ParsedChunk::Refused(e) => {
+            let code = e.code();
+            RtcpChunk {
+                number: code.number,
+                first: code.first,
+                second: code.second,
+                ssrc: 0,
+                length: 0,
+                cname: 0,
+            }
+        }
     }
 }
 
@@ -365,7 +276,16 @@ pub extern "C" fn rtcp_chunk_walk_open(s: &[u8]) -> RtcpChunkWalk
             at: chunks.at as u64,
             end: chunks.end as u64,
         },
-        OpenedChunks::Refused(e) => RtcpChunkWalk::refused(e),
+        OpenedChunks::Refused(e) => {
+            let code = e.code();
+            RtcpChunkWalk {
+                number: code.number,
+                first: code.first,
+                second: code.second,
+                at: 0,
+                end: 0,
+            }
+        }
     }
 }
 
@@ -388,7 +308,19 @@ pub extern "C" fn rtcp_chunk_walk_step(s: &[u8], at: u64, end: u64) -> RtcpChunk
             at: next.at as u64,
             end: next.end as u64,
         },
-        SteppedChunk::Refused(e) => RtcpChunkStep::refused(e, at, end),
+        SteppedChunk::Refused(e) => {
+            let code = e.code();
+            RtcpChunkStep {
+                number: code.number,
+                first: code.first,
+                second: code.second,
+                ssrc: 0,
+                length: 0,
+                cname: 0,
+                at,
+                end,
+            }
+        }
     }
 }
 
@@ -403,7 +335,15 @@ pub extern "C" fn rtcp_item_walk_open(s: &[u8]) -> RtcpItemWalk
             second: 0,
             at: items.at as u64,
         },
-        OpenedItems::Refused(e) => RtcpItemWalk::refused(e),
+        OpenedItems::Refused(e) => {
+            let code = e.code();
+            RtcpItemWalk {
+                number: code.number,
+                first: code.first,
+                second: code.second,
+                at: 0,
+            }
+        }
     }
 }
 
@@ -429,6 +369,20 @@ pub extern "C" fn rtcp_item_walk_step(s: &[u8], at: u64) -> RtcpItemStep
                 at: next.at as u64,
             }
         }
-        SteppedItem::Refused(e) => RtcpItemStep::refused(e, at),
+        SteppedItem::Refused(e) => {
+            let code = e.code();
+            RtcpItemStep {
+                number: code.number,
+                first: code.first,
+                second: code.second,
+                type_: 0,
+                length: 0,
+                prefix: 0,
+                prefix_len: 0,
+                value: 0,
+                value_len: 0,
+                at,
+            }
+        }
     }
 }

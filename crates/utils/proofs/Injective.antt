@@ -2,16 +2,27 @@
 use mathlib.Core.Path.{_≡_, refl, ap, _∙_, sym}
 use Prim.Native.Nat.{ℕ}
 use lib.Dec.{eqb}
-use Rattle.rfc3550.specs.Answer.{Refusal, refusal, pick}
-use Rattle.utils.specs.Error.{parseRefusal, writeRefusal, codeRefusal}
+use Rattle.rfc3550.specs.Answer.{Refusal, refusal, Answer, ok, refused, pick}
+use Rattle.utils.specs.Error.{numberIn, parseRefusal, writeRefusal, codeRefusal}
 use Rattle.utils.specs.declared.error.RtcpParseError.{RtcpParseError}
 use Rattle.utils.specs.declared.error.RtcpParseError.the-variants as parse
 use Rattle.utils.specs.declared.error.RtcpWriteError.{RtcpWriteError}
 use Rattle.utils.specs.declared.error.RtcpWriteError.the-variants as write
 use Rattle.utils.specs.declared.error.Code.{Code}
+use Rattle.utils.specs.Writer.{writtenOf}
+use Rattle.utils.specs.declared.writer.Written.{Written}
+use Rattle.utils.specs.declared.writer.Written.the-variants as written
 
 pub injective : {A B : Type 0} (f : A → B) (g : B → A) → ((a : A) → g (f a) ≡ a) → (a b : A) → f a ≡ f b → a ≡ b
 injective f g h a b e = sym (h a) ∙ ap g e ∙ h b
+
+-- no error has a number that its inverse does not give back
+pub no-number : {E : Type 0} (refusalOf : E → Refusal) (errorOf : Refusal → E) → ((e : E) → errorOf (refusalOf e) ≡ e)
+    → (k : ℕ) → ((a b : ℕ) → numberIn (refusalOf (errorOf (refusal k a b))) ≡ k → ⊥) → (e : E) → numberIn (refusalOf e) ≡ k → ⊥
+no-number refusalOf errorOf back k h e = go (refusalOf e) (ap refusalOf (back e))
+  where
+    go : (r : Refusal) → refusalOf (errorOf r) ≡ r → numberIn r ≡ k → ⊥
+    go (refusal n a b) p q = h a b (ap (λ (m : ℕ). numberIn (refusalOf (errorOf (refusal m a b)))) (sym q) ∙ ap numberIn p ∙ q)
 
 abbrev pub parseError : Refusal → RtcpParseError
 parseError (refusal n a b) =
@@ -65,7 +76,7 @@ writeError (refusal n a b) =
     (pick (eqb n 28) write.NoCname
     write.AlreadyPadded)))))))))))))))))
 
-writeRefusal-back : (e : RtcpWriteError) → writeError (writeRefusal e) ≡ e
+pub writeRefusal-back : (e : RtcpWriteError) → writeError (writeRefusal e) ≡ e
 writeRefusal-back (write.OutputTooSmall size) = refl
 writeRefusal-back (write.InvalidPadding padding) = refl
 writeRefusal-back (write.AppSubtypeOutOfRange subtype max) = refl
@@ -88,6 +99,21 @@ writeRefusal-back write.AlreadyPadded = refl
 
 pub writeRefusal-injective : (e f : RtcpWriteError) → writeRefusal e ≡ writeRefusal f → e ≡ f
 writeRefusal-injective = injective writeRefusal writeError writeRefusal-back
+
+-- an enum of a value and a refusal, from the answer that it stands for: where that gives it back, nothing is lost
+abbrev pub fromAnswer : {A E O : Type 0} → (Refusal → E) → (A → O) → (E → O) → Answer A → O
+fromAnswer errorOf value refusing (ok a) = value a
+fromAnswer errorOf value refusing (refused r) = refusing (errorOf r)
+
+module _ {A O : Type 0} (of : O → Answer A) (value : A → O) where
+  pub parsed-injective : (refusing : RtcpParseError → O) → ((o : O) → fromAnswer parseError value refusing (of o) ≡ o) → (o p : O) → of o ≡ of p → o ≡ p
+  parsed-injective refusing back = injective of (fromAnswer parseError value refusing) back
+
+  pub written-injective : (refusing : RtcpWriteError → O) → ((o : O) → fromAnswer writeError value refusing (of o) ≡ o) → (o p : O) → of o ≡ of p → o ≡ p
+  written-injective refusing back = injective of (fromAnswer writeError value refusing) back
+
+pub writtenOf-injective : (r s : Written) → writtenOf r ≡ writtenOf s → r ≡ s
+writtenOf-injective = written-injective writtenOf written.Size written.Refused (elim [ written.Size n ↦ refl | written.Refused e ↦ ap written.Refused (writeRefusal-back e) ])
 
 abbrev codeFor : Refusal → Code
 codeFor (refusal n a b) = record { number = n; first = a; second = b }

@@ -9,6 +9,5 @@ pub mod Lists
 pub mod WriterStores
 pub mod WriterCases
 pub mod WriterPackets
-pub mod WriterInjective
 pub mod Sizes
 pub mod Filled

@@ -44,6 +44,9 @@ writeRefusal write.AlreadyPadded = refusal 29 0 0
 abbrev pub codeRefusal : Code → Refusal
 codeRefusal c = refusal (c .number) (c .first) (c .second)
 
+abbrev pub numberIn : Refusal → ℕ
+numberIn (refusal number first second) = number
+
 -- the refusal that an answer is; of a value, 25, which no caller asks for
 abbrev pub refusalIn : {A : Type 0} → Answer A → Refusal
 refusalIn (ok a) = refusal 25 0 0

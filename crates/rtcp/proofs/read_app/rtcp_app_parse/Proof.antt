@@ -11,7 +11,7 @@ returns : tie.Need-returns
 returns c = search (needs, handed appResult parsedOf parsed.App (λ x. refl))
 
 returns-2 : tie.Need-returns-2
-returns-2 c = search (needs, turned appResult parsedOf parsed.Refused (λ e. refl))
+returns-2 c = search (needs, turned appResult parsedOf parsed.Refused (λ e. refl) (c .code .result))
 
 pub rtcp-app-parse-spec : {M : Type 1} → Rattle.rtcp.proofs.read_app.rtcp_app_parse.Statement.statement M
 rtcp-app-parse-spec {M} =

@@ -10,7 +10,7 @@ returns : tie.Need-returns
 returns c = search (needs, handed sourceResult sourceOf parsed.Source (λ x. refl))
 
 returns-2 : tie.Need-returns-2
-returns-2 c = search (needs, turned sourceResult sourceOf parsed.Refused (λ e. refl))
+returns-2 c = search (needs, turned sourceResult sourceOf parsed.Refused (λ e. refl) (c .code .result))
 
 pub rtcp-bye-source-spec : {M : Type 1} → Rattle.rtcp.proofs.read_bye.rtcp_bye_source.Statement.statement M
 rtcp-bye-source-spec {M} =

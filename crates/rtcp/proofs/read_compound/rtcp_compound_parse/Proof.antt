@@ -10,7 +10,7 @@ returns : tie.Need-returns
 returns c = search (needs, handed compoundResult parsedCompoundOf parsed.Compound (λ x. refl))
 
 returns-2 : tie.Need-returns-2
-returns-2 c = search (needs, turned compoundResult parsedCompoundOf parsed.Refused (λ e. refl))
+returns-2 c = search (needs, turned compoundResult parsedCompoundOf parsed.Refused (λ e. refl) (c .code .result))
 
 pub rtcp-compound-parse-spec : {M : Type 1} → Rattle.rtcp.proofs.read_compound.rtcp_compound_parse.Statement.statement M
 rtcp-compound-parse-spec {M} =

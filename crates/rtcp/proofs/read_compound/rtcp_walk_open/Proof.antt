@@ -10,7 +10,7 @@ returns : tie.Need-returns
 returns c = search (needs, handed walkResult openedOf parsed.Walk (λ x. refl))
 
 returns-2 : tie.Need-returns-2
-returns-2 c = search (needs, turned walkResult openedOf parsed.Refused (λ e. refl))
+returns-2 c = search (needs, turned walkResult openedOf parsed.Refused (λ e. refl) (c .code .result))
 
 pub rtcp-walk-open-spec : {M : Type 1} → Rattle.rtcp.proofs.read_compound.rtcp_walk_open.Statement.statement M
 rtcp-walk-open-spec {M} =

@@ -10,7 +10,7 @@ returns : tie.Need-returns
 returns c = search (needs, handed chunkResult parsedChunkOf parsed.Chunk (λ x. refl))
 
 returns-2 : tie.Need-returns-2
-returns-2 c = search (needs, turned chunkResult parsedChunkOf parsed.Refused (λ e. refl))
+returns-2 c = search (needs, turned chunkResult parsedChunkOf parsed.Refused (λ e. refl) (c .code .result))
 
 pub rtcp-chunk-parse-spec : {M : Type 1} → Rattle.rtcp.proofs.read_sdes.rtcp_chunk_parse.Statement.statement M
 rtcp-chunk-parse-spec {M} =

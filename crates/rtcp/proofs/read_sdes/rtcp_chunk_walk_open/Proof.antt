@@ -10,7 +10,7 @@ returns : tie.Need-returns
 returns c = search (needs, handed chunkWalkResult openedChunksOf parsed.Walk (λ x. refl))
 
 returns-2 : tie.Need-returns-2
-returns-2 c = search (needs, turned chunkWalkResult openedChunksOf parsed.Refused (λ e. refl))
+returns-2 c = search (needs, turned chunkWalkResult openedChunksOf parsed.Refused (λ e. refl) (c .code .result))
 
 pub rtcp-chunk-walk-open-spec : {M : Type 1} → Rattle.rtcp.proofs.read_sdes.rtcp_chunk_walk_open.Statement.statement M
 rtcp-chunk-walk-open-spec {M} =

@@ -10,7 +10,7 @@ returns : tie.Need-returns
 returns c = search (needs, handed itemWalkResult openedItemsOf parsed.Walk (λ x. refl))
 
 returns-2 : tie.Need-returns-2
-returns-2 c = search (needs, turned itemWalkResult openedItemsOf parsed.Refused (λ e. refl))
+returns-2 c = search (needs, turned itemWalkResult openedItemsOf parsed.Refused (λ e. refl) (c .code .result))
 
 pub rtcp-item-walk-open-spec : {M : Type 1} → Rattle.rtcp.proofs.read_sdes.rtcp_item_walk_open.Statement.statement M
 rtcp-item-walk-open-spec {M} =

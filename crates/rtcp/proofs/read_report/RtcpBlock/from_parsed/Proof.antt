@@ -10,7 +10,7 @@ returns : tie.Need-returns
 returns c = search (needs, refl, handed blockResult parsedBlockOf parsed.Block (λ x. refl))
 
 returns-2 : tie.Need-returns-2
-returns-2 c = search (needs, refl, turned blockResult parsedBlockOf parsed.Refused (λ e. refl))
+returns-2 c = search (needs, refl, turned blockResult parsedBlockOf parsed.Refused (λ e. refl) (c .code .result))
 
 pub from-parsed-spec : {M : Type 1} → Rattle.rtcp.proofs.read_report.RtcpBlock.from_parsed.Statement.statement M
 from-parsed-spec {M} =

@@ -1,18 +1,10 @@
 use borrow.Author.Needs.{needs}
 use Rattle.rtcp.specs.Report.{srResult}
-use Rattle.rtcp.proofs.Reports.{reports, out-known}
+use Rattle.rtcp.proofs.Reports.{reports, out-known, out-coded}
 use Rattle.rtcp.proofs.read_report.RtcpSr.from_listed.Tie as tie
-
-returns : tie.Need-returns
-returns c = search (needs, out-known srResult)
-
-returns-2 : tie.Need-returns-2
-returns-2 c = search (needs, out-known srResult)
-
-returns-3 : tie.Need-returns-3
-returns-3 c = search (needs, out-known srResult)
 
 pub from-listed-spec : {M : Type 1} → Rattle.rtcp.proofs.read_report.RtcpSr.from_listed.Statement.statement M
 from-listed-spec {M} =
     let answers = tie.spec {M = M} (λ c. search reports) (λ c κs. search reports) (λ c. search reports) (λ c κs. search reports) (λ c. search reports)
-    (λ c κs. search reports) returns returns-2 returns-3 in tie.close answers
+    (λ c κs. search reports) (λ c κs. search reports) (λ c. search (needs, out-known srResult)) (λ c. search (needs, out-known srResult))
+    (λ c. search (needs, out-coded srResult)) in tie.close answers
