@@ -22,6 +22,6 @@ static inline void compare(const char *file, const char *name, const void *got, 
 
 /* A line where nothing differs; the exit status. */
 static inline int finish(const char *file) {
-    if (!failed) printf("%s: as document 01 says\n", file);
+    if (!failed) printf("%s: as docs/PROTOCOL.md says\n", file);
     return failed;
 }

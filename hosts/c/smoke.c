@@ -1,4 +1,4 @@
-/* Some of document 01's trial rows through the C functions. The exit status is 1 where an answer differs. */
+/* Worked examples of the rules in docs/PROTOCOL.md, through the C functions. The exit status is 1 where an answer differs. */
 #include "check.h"
 
 static const uint8_t rr[] = {0x80, 0xC9, 0x00, 0x01, 0x11, 0x22, 0x33, 0x44};

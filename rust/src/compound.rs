@@ -27,11 +27,15 @@ pub struct Compound<'a> {
     /// The type, the place and the length of each packet, where there is room.
     rows: [[u64; 3]; Compound::LISTED],
     next: usize,
-    /// The place of the packet after the rows.
+    /// The place of the packet that is stepped over next.
     at: u64,
 }
 
 impl<'a> Compound<'a> {
+    /// The packets of a datagram that are listed at once. Where there are more,
+    /// they are walked over.
+    const LISTED: usize = 3;
+
     /// Reads a datagram, or says why it cannot be read.
     #[inline]
     pub fn parse(data: &'a [u8]) -> Result<Self, RtcpParseError> {
@@ -51,10 +55,6 @@ impl<'a> Compound<'a> {
         compound.n_packets = numbers as usize / 3;
         Ok(compound)
     }
-
-    /// The packets of a datagram that are listed at once. Where there are more,
-    /// they are walked over.
-    const LISTED: usize = 3;
 
     /// The number of packets of the datagram.
     pub fn n_packets(&self) -> usize {

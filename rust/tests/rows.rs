@@ -1,5 +1,5 @@
-//! Document 01's trial rows, every refusal number that a call of this crate can
-//! get, and the empty cases.
+//! Worked examples of the rules in docs/PROTOCOL.md, every refusal number that a
+//! call of this crate can get, and the empty cases.
 
 use bokyjave::prelude::*;
 use bokyjave::{

@@ -1,4 +1,4 @@
-//! Operations of document 01 as data, inputs for them, the sides that answer
+//! Operations as data, inputs for them, the sides that answer
 //! them, and the rows where the Rust is overridden.
 
 pub mod antt;

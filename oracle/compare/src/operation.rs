@@ -1,4 +1,4 @@
-//! Every operation of document 01 with its input, and what it gives.
+//! Every operation with its input, and what it gives.
 
 use model::*;
 

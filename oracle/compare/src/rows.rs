@@ -1,6 +1,6 @@
 //! The nine rows of "Where the RFC overrides the Rust", each as a switch.
 //!
-//! With no row on, the readings and writings below are document 01's; with all
+//! With no row on, the readings and writings below are the model's; with all
 //! of them on they are the Rust's. A row explains a difference on an input where
 //! switching it on, alone or with others, gives what the Rust gives.
 
@@ -70,7 +70,7 @@ pub fn explain(operation: &Operation, rust: &View) -> Option<Rows> {
     })
 }
 
-/// Document 01 with some rows as in the Rust.
+/// The model with some rows as in the Rust.
 pub struct Switched(pub Rows);
 
 impl Side for Switched {

@@ -57,7 +57,7 @@ impl Side for Rust {
                 view.count("used", *used);
             }),
             Operation::ReadPrefix(bytes) => match parse_item(bytes) {
-                // `priv_prefix` panics on other types: 30 in document 01.
+                // `priv_prefix` panics on other types: 30 in the model.
                 Ok((item, _)) if item.type_() != SdesItem::PRIV => {
                     match panics(|| item.priv_prefix().len()) {
                         true => View::refused(Refusal::not_priv(item.type_())),
@@ -137,7 +137,7 @@ fn parse_refusal(error: RtcpParseError) -> Refusal {
         RtcpParseError::PacketTypeMismatch { actual, requested } => {
             Refusal::new(6, actual.into(), requested.into())
         }
-        other => panic!("an error that document 01 does not list: {other}"),
+        other => panic!("an error without a refusal number: {other}"),
     }
 }
 
@@ -165,7 +165,7 @@ fn write_refusal(error: RtcpWriteError) -> Refusal {
         RtcpWriteError::SdesPrivPrefixTooLarge { len, max } => {
             Refusal::new(21, len as u64, max.into())
         }
-        other => panic!("an error that document 01 does not list: {other}"),
+        other => panic!("an error without a refusal number: {other}"),
     }
 }
 
@@ -182,7 +182,7 @@ fn parsed<T>(parse: Result<T, RtcpParseError>, show: impl FnOnce(&mut View, &T))
     }
 }
 
-/// A part that an iterator may not have: 25 in document 01.
+/// A part that an iterator may not have: 25 in the model.
 fn parsed_part<T, P>(
     parse: Result<T, RtcpParseError>,
     part: impl FnOnce(&T, &mut dyn FnMut(Option<P>)),

@@ -189,7 +189,7 @@ fn input(function: &str, numbers: &[u64], bytes: &[u8]) -> String {
     Row::new(function, numbers, bytes).to_string()
 }
 
-/// What the Rust shows, with document 01's values where it shows none.
+/// What the Rust shows, with the model's values where it shows none.
 fn filled(rust: View, model: &View) -> View {
     let mut view = rust;
     for ((_, value), (_, other)) in view.fields.iter_mut().zip(&model.fields) {

@@ -1,5 +1,5 @@
 //! A side answers operations. The model is one, the Rust is one, and another
-//! implementation of document 01 becomes one by this trait alone.
+//! implementation of the rules becomes one by this trait alone.
 
 use crate::operation::Operation;
 use crate::view::View;

@@ -1,4 +1,4 @@
-//! What holds between the parts of document 01, on random inputs: the layout
+//! What holds between the parts of the model, on random inputs: the layout
 //! against reading, walks against reading, the writer against the book.
 
 use compare::generate::{calls, operation, packet, Sort};

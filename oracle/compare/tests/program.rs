@@ -1,4 +1,4 @@
-//! The rows of the program `rows`: what its files say is what document 01 says, and
+//! The rows of the program `rows`: what its files say is what the model says, and
 //! of rows that write what the static library says, where it is there.
 
 use compare::library::Library;

@@ -1,4 +1,4 @@
-//! "The book": what a list of writer calls is held against.
+//! The book (docs/PROTOCOL.md): what a list of writer calls is held against.
 //!
 //! It keeps packets where the writer keeps a length and three flags, and takes
 //! sizes from the layout where the writer takes them from its bytes.
@@ -131,8 +131,9 @@ fn faults(given: &Given) -> Vec<Refusal> {
     faults
 }
 
-/// The packet as given, with demand 3's three changes, no extension, a tail
-/// only of the zeros after a written reason, and padding zero but the count.
+/// The packet as given, with a short APP name filled up with zeros, no empty
+/// reason and a prefix on PRIV only; no extension, a tail only of the zeros after
+/// a written reason, and padding zero but the count.
 pub fn written_packet(given: &Given) -> Packet {
     let content = match given {
         Given::Report {

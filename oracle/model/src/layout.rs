@@ -1,4 +1,4 @@
-//! The layout of "What demand 3 compares": the bytes of a packet.
+//! The layout: the bytes of a packet.
 
 use crate::packet::*;
 

@@ -1,4 +1,5 @@
 //! Document 01 in Rust: what every operation answers, on every input.
+//! docs/PROTOCOL.md says the same in our own words.
 //!
 //! The text follows the document and nothing else. It is meant to be held
 //! beside the document, so it prefers the document's order and words to speed.

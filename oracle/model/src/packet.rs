@@ -1,4 +1,4 @@
-//! Packets as document 01 compares them: the kind, every field and the padding.
+//! Packets as they are compared: the kind, every field and the padding.
 
 pub const CNAME: u8 = 1;
 pub const PRIV: u8 = 8;

@@ -1,4 +1,4 @@
-//! "Trial rows" of document 01.
+//! The worked examples of document 01, its "Trial rows".
 
 mod common;
 use common::*;

@@ -72,7 +72,7 @@ fn the_captures() {
         11
     );
     assert!(page.contains("An SDES packet containing a CNAME item MUST be included"));
-    assert!(page.contains("ffmpeg:24021: 1"));
+    assert!(page.contains("ffmpeg:24021&nbsp;(1)"));
     assert_eq!((run.err.as_str(), run.status), ("", 0));
 }
 

@@ -1,4 +1,4 @@
-//! Prints document 01's answers to the rows of the program `rows`:
+//! Prints the model's answers to the rows of the program `rows`:
 //!
 //!     answers < crates/rows/stdin | diff - crates/rows/stdout
 

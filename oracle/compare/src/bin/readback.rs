@@ -5,7 +5,7 @@
 //!
 //! Every field, block, source, chunk and item read must be what was given, with a
 //! short APP name zero-filled, an empty reason read as none, a prefix kept on PRIV
-//! only, and the zeros after a reason and of the padding as document 01 has them.
+//! only, and the zeros after a reason and of the padding as docs/PROTOCOL.md has them.
 //! The bytes after what was written must be as they were. The exit status is 1
 //! where something differs.
 

@@ -9,9 +9,9 @@
 //!
 //! A name that starts with `rust` says that the answer is the Rust's; what the
 //! Rust has no accessor for (extension, tail and padding bytes, the size of a lone
-//! chunk or item) is document 01's.
+//! chunk or item) is the model's.
 //! A name that starts with `row` and numbers says that the Rust differs by these
-//! rows, and that the answer is document 01's.
+//! rows, and that the answer is the model's.
 //!
 //! Inputs are drawn at random and put into classes by function, refusal and rows.
 //! The classes are gone through in turn until the sample is full, so that rare

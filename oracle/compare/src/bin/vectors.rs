@@ -3,7 +3,7 @@
 //!     vectors [text|antt] [COUNT] [SEED]
 //!
 //! As text a vector is a line of three columns, parted by tabs: the operation
-//! with its inputs, what document 01 gives, and what the Rust gives: `same`, the
+//! with its inputs, what the model gives, and what the Rust gives: `same`, the
 //! rows by which it differs, or `-` where it cannot be asked. As antt the
 //! vectors are a module of equations between the project's definitions.
 

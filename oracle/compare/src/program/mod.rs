@@ -1,4 +1,4 @@
-//! The rows of the program `crates/rows`: their text, and what document 01 answers
+//! The rows of the program `crates/rows`: their text, and what the model answers
 //! to them.
 //!
 //! A row is `FUNCTION NUMBER.. BYTES`: a C function without `rtcp_`, a part of a
@@ -105,7 +105,7 @@ impl Default for Program {
 }
 
 impl Program {
-    /// Document 01's answer.
+    /// The model's answer.
     pub fn answer(&mut self, row: &Row) -> String {
         if let Some(function) = row.function.strip_suffix("_records") {
             return self.records(row, function);

@@ -235,7 +235,7 @@ fn blocks(row: &Row, from: u64, ends: usize) -> BlockLists {
     }
 }
 
-/// Document 01's answer to a row that writes.
+/// The model's answer to a row that writes.
 pub(super) fn expected(row: &Row) -> String {
     answer_of(&Model.view(&operation(row)).expect("the model"))
 }

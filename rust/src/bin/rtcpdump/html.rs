@@ -157,7 +157,7 @@ fn refusals(summary: &Summary) -> String {
         .to_string();
     for ((number, why), refused) in &summary.refusals {
         let senders = refused.by_sender.iter().take(MOST_SENDERS);
-        let senders = senders.map(|(sender, count)| format!("{}: {count}", marked(sender)));
+        let senders = senders.map(|(sender, count)| format!("{}&nbsp;({count})", marked(sender)));
         let mut senders: Vec<String> = senders.collect();
         if refused.by_sender.len() > MOST_SENDERS {
             senders.push(format!(

@@ -2,7 +2,7 @@
 //!
 //!     compounds [COUNT] [SEED]
 //!
-//! COUNT lists of writer calls against the book of document 01; the real
+//! COUNT lists of writer calls against the book; the real
 //! datagrams (`compare::captures`) with the answer that each must get; and long
 //! datagrams. The exit status is 1 where something differs.
 
