@@ -11,4 +11,5 @@ pub rtcp-chunk-walk-step-spec : {M : Type 1} → Rattle.rtcp.proofs.rea
 rtcp-chunk-walk-step-spec {M} =
     let answers = tie.spec {M = M} (λ c κs. search needs) (λ c. search needs) (λ c. search needs) (λ c. search needs) (λ c κs. search needs)
     (λ c. search descriptions)
-    (λ c. let a = c .before .before .before .before .before .before .args in search (needs, turned (chunkStepResult (a .at) (a .end)) steppedChunkOf stepped.Refused (λ e. refl) (c .code .result))) in tie.close answers
+    (λ c. let a = c .before .before .before .before .before .before .args in search (needs, turned (chunkStepResult (a .at) (a .end)) steppedChunkOf stepped.Refused (λ e. refl) (c .code .result)))
+    in tie.close answers

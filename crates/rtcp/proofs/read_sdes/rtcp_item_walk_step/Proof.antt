@@ -11,4 +11,5 @@ pub rtcp-item-walk-step-spec : {M : Type 1} → Rattle.rtcp.proofs.read
 rtcp-item-walk-step-spec {M} =
     let answers = tie.spec {M = M} (λ c κs. search needs) (λ c. search needs) (λ c κs. search descriptions) (λ c. search needs) (λ c. search needs)
     (λ c κs. search needs) (λ c. rw (c .before .of .ensures) (search (needs, item-stepped)))
-    (λ c. search (needs, turned (itemStepResult (c .before .before .before .before .before .before .args .at)) steppedItemOf stepped.Refused (λ e. refl) (c .code .result))) in tie.close answers
+    (λ c. search (needs, turned (itemStepResult (c .before .before .before .before .before .before .args .at)) steppedItemOf stepped.Refused (λ e. refl) (c .code .result)))
+    in tie.close answers
