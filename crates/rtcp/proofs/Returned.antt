@@ -33,7 +33,7 @@ use Rattle.compound.specs.Compound.{walkAt, stepView}
 use Rattle.rtcp.specs.Sdes.{chunkWalkResult, chunkStepResult, itemWalkResult, itemStepResult}
 use Rattle.rtcp.specs.Compound.{numbersOf, walkResult, stepResult}
 use Rattle.rtcp.specs.WriteCompound.{writerIn, writerOut, stateAfter, callResult, calledOut}
-use Rattle.rtcp.specs.Returned.{packetSteps, packetSeen, packetTold, chunkSteps, chunkSeen, chunkTold, itemSteps, itemSeen, itemTold, Result, «rtcp_writer_add_rr», «rtcp_writer_add_sr», «rtcp_writer_add_sdes», «rtcp_writer_add_bye», «rtcp_writer_add_app», «rtcp_writer_close», answered, writers}
+use Rattle.rtcp.specs.Returned.{packetSteps, packetSeen, packetTold, chunkSteps, chunkSeen, chunkTold, itemSteps, itemSeen, itemTold, Result, added, «rtcp_writer_close», answered, writers}
 use Rattle.rtcp.specs.declared.read_compound.RtcpWalk.{RtcpWalk}
 use Rattle.rtcp.specs.declared.read_compound.RtcpStep.{RtcpStep}
 use Rattle.rtcp.specs.declared.read_sdes.RtcpChunkWalk.{RtcpChunkWalk}
@@ -189,11 +189,7 @@ called-in w q l state out r m =
     ∙ back-in w (call q (writerIn w) l .0) (call q (writerIn w) l .1) (call q (writerIn w) l .2) (call-nonzero q (writerIn w) l) (λ r e. refused-call q (writerIn w) l r e .0)
 
 calls : rfc.Calls writers
-calls w («rtcp_writer_add_rr» ssrc fractions losses words padding buf r state out) m = called-in w _ buf state out r m
-calls w («rtcp_writer_add_sr» ssrc ntp rtp packets octets fractions losses words padding buf r state out) m = called-in w _ buf state out r m
-calls w («rtcp_writer_add_sdes» ssrcs counts types prefixes values bytes padding buf r state out) m = called-in w _ buf state out r m
-calls w («rtcp_writer_add_bye» sources reason padding buf r state out) m = called-in w _ buf state out r m
-calls w («rtcp_writer_add_app» subtype ssrc name d padding buf r state out) m = called-in w _ buf state out r m
+calls w (added g buf r state out) m = called-in w _ buf state out r m
 calls w («rtcp_writer_close» r state) m = called-in w _ [] state [] r m
 
 -- for every list of results of the C functions of the writer, from the state that `rtcp_writer_new` left: as for those of compound_write

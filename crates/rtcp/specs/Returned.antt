@@ -8,7 +8,7 @@ use Rattle.rfc3550.specs.Answer.{Answer, ok, refused, refuse, mapOk, pick}
 use Rattle.rfc3550.specs.Loss.{Loss}
 use Rattle.rfc3550.specs.Packet.{receiver, sender, Item, item, priv, itemType, itemRest, Chunk, chunkBytes, Packet as Read, layout}
 use Rattle.rfc3550.specs.Walk.{step, SdesWalk, sdesStep, itemStep}
-use Rattle.rfc3550.specs.Write.{giveReport, giveSdes, giveBye, giveApp}
+use Rattle.rfc3550.specs.Write.{Given, giveReport, giveSdes, giveBye, giveApp}
 use Rattle.rfc3550.specs.Writer.{Request, add, close, call}
 use Rattle.rfc3550.specs.Claim.{compounds}
 use Rattle.rfc3550.specs.Returned.{Stepper, Caller}
@@ -83,64 +83,51 @@ abbrev pub itemTold : Answer Item → Said × ℕ × ℕ × List ℕ × List ℕ
 itemTold (ok i) = ((0, 0, 0), itemType i, length (itemRest i), prefixBytes i, valueOf i)
 itemTold (refused r) = (said {A = Item} (refused r), 0, 0, [], [])
 
--- ---- the writer's functions: one constructor for each, with its arguments, the buffer at entry, what it returned, and the state and the buffer at exit
+-- ---- the writer's functions that add, each with its arguments
 
+pub data Adding : Type 0 where
+  «rtcp_writer_add_rr» : ℕ → List ℕ → List Loss → List ℕ → ℕ → Adding
+  «rtcp_writer_add_sr» : ℕ → ℕ → ℕ → ℕ → ℕ → List ℕ → List Loss → List ℕ → ℕ → Adding
+  «rtcp_writer_add_sdes» : List ℕ → List ℕ → List ℕ → List ℕ → List ℕ → List ℕ → ℕ → Adding
+  «rtcp_writer_add_bye» : List ℕ → List ℕ → ℕ → Adding
+  «rtcp_writer_add_app» : ℕ → ℕ → List ℕ → List ℕ → ℕ → Adding
+
+abbrev pub given : Adding → Given
+given («rtcp_writer_add_rr» ssrc fractions losses words padding) = giveReport (receiver ssrc) (blockLists fractions losses words) padding
+given («rtcp_writer_add_sr» ssrc ntp rtp packets octets fractions losses words padding) = giveReport (sender ssrc ntp rtp packets octets) (blockLists fractions losses words) padding
+given («rtcp_writer_add_sdes» ssrcs counts types prefixes values bytes padding) = giveSdes (lists ssrcs counts types prefixes values bytes) padding
+given («rtcp_writer_add_bye» sources reason padding) = giveBye sources reason padding
+given («rtcp_writer_add_app» subtype ssrc name d padding) = giveApp subtype ssrc name d padding
+
+-- what a call returned: for one that adds, its function and arguments, the buffer at entry, the answer, and the state and the buffer at exit
 pub data Result : Type 0 where
-  «rtcp_writer_add_rr» : ℕ → List ℕ → List Loss → List ℕ → ℕ → List ℕ → RtcpCall → List ℕ → List ℕ → Result
-  «rtcp_writer_add_sr» : ℕ → ℕ → ℕ → ℕ → ℕ → List ℕ → List Loss → List ℕ → ℕ → List ℕ → RtcpCall → List ℕ → List ℕ → Result
-  «rtcp_writer_add_sdes» : List ℕ → List ℕ → List ℕ → List ℕ → List ℕ → List ℕ → ℕ → List ℕ → RtcpCall → List ℕ → List ℕ → Result
-  «rtcp_writer_add_bye» : List ℕ → List ℕ → ℕ → List ℕ → RtcpCall → List ℕ → List ℕ → Result
-  «rtcp_writer_add_app» : ℕ → ℕ → List ℕ → List ℕ → ℕ → List ℕ → RtcpCall → List ℕ → List ℕ → Result
+  added : Adding → List ℕ → RtcpCall → List ℕ → List ℕ → Result
   «rtcp_writer_close» : RtcpCall → List ℕ → Result
 
 -- what was asked for, the buffer lent, what was returned, the state and the buffer left; a close is lent no buffer
 abbrev pub request : Result → Request
-request («rtcp_writer_add_rr» ssrc fractions losses words padding buf r state out) = add (giveReport (receiver ssrc) (blockLists fractions losses words) padding)
-request («rtcp_writer_add_sr» ssrc ntp rtp packets octets fractions losses words padding buf r state out) = add (giveReport (sender ssrc ntp rtp packets octets) (blockLists fractions losses words) padding)
-request («rtcp_writer_add_sdes» ssrcs counts types prefixes values bytes padding buf r state out) = add (giveSdes (lists ssrcs counts types prefixes values bytes) padding)
-request («rtcp_writer_add_bye» sources reason padding buf r state out) = add (giveBye sources reason padding)
-request («rtcp_writer_add_app» subtype ssrc name d padding buf r state out) = add (giveApp subtype ssrc name d padding)
+request (added g buf r state out) = add (given g)
 request («rtcp_writer_close» r state) = close
 
 abbrev pub lent : Result → List ℕ
-lent («rtcp_writer_add_rr» ssrc fractions losses words padding buf r state out) = buf
-lent («rtcp_writer_add_sr» ssrc ntp rtp packets octets fractions losses words padding buf r state out) = buf
-lent («rtcp_writer_add_sdes» ssrcs counts types prefixes values bytes padding buf r state out) = buf
-lent («rtcp_writer_add_bye» sources reason padding buf r state out) = buf
-lent («rtcp_writer_add_app» subtype ssrc name d padding buf r state out) = buf
+lent (added g buf r state out) = buf
 lent («rtcp_writer_close» r state) = []
 
 abbrev pub gave : Result → RtcpCall
-gave («rtcp_writer_add_rr» ssrc fractions losses words padding buf r state out) = r
-gave («rtcp_writer_add_sr» ssrc ntp rtp packets octets fractions losses words padding buf r state out) = r
-gave («rtcp_writer_add_sdes» ssrcs counts types prefixes values bytes padding buf r state out) = r
-gave («rtcp_writer_add_bye» sources reason padding buf r state out) = r
-gave («rtcp_writer_add_app» subtype ssrc name d padding buf r state out) = r
+gave (added g buf r state out) = r
 gave («rtcp_writer_close» r state) = r
 
 abbrev pub stateLeft : Result → List ℕ
-stateLeft («rtcp_writer_add_rr» ssrc fractions losses words padding buf r state out) = state
-stateLeft («rtcp_writer_add_sr» ssrc ntp rtp packets octets fractions losses words padding buf r state out) = state
-stateLeft («rtcp_writer_add_sdes» ssrcs counts types prefixes values bytes padding buf r state out) = state
-stateLeft («rtcp_writer_add_bye» sources reason padding buf r state out) = state
-stateLeft («rtcp_writer_add_app» subtype ssrc name d padding buf r state out) = state
+stateLeft (added g buf r state out) = state
 stateLeft («rtcp_writer_close» r state) = state
 
 abbrev pub left : Result → List ℕ
-left («rtcp_writer_add_rr» ssrc fractions losses words padding buf r state out) = out
-left («rtcp_writer_add_sr» ssrc ntp rtp packets octets fractions losses words padding buf r state out) = out
-left («rtcp_writer_add_sdes» ssrcs counts types prefixes values bytes padding buf r state out) = out
-left («rtcp_writer_add_bye» sources reason padding buf r state out) = out
-left («rtcp_writer_add_app» subtype ssrc name d padding buf r state out) = out
+left (added g buf r state out) = out
 left («rtcp_writer_close» r state) = []
 
 -- each function's own ensures, from the state that it was lent
 abbrev pub Meets : List ℕ → Result → Type 0
-Meets writer («rtcp_writer_add_rr» ssrc fractions losses words padding buf r state out) = (r, state, out) ≡ calledOut writer (call (add (giveReport (receiver ssrc) (blockLists fractions losses words) padding)) (writerIn writer) buf)
-Meets writer («rtcp_writer_add_sr» ssrc ntp rtp packets octets fractions losses words padding buf r state out) = (r, state, out) ≡ calledOut writer (call (add (giveReport (sender ssrc ntp rtp packets octets) (blockLists fractions losses words) padding)) (writerIn writer) buf)
-Meets writer («rtcp_writer_add_sdes» ssrcs counts types prefixes values bytes padding buf r state out) = (r, state, out) ≡ calledOut writer (call (add (giveSdes (lists ssrcs counts types prefixes values bytes) padding)) (writerIn writer) buf)
-Meets writer («rtcp_writer_add_bye» sources reason padding buf r state out) = (r, state, out) ≡ calledOut writer (call (add (giveBye sources reason padding)) (writerIn writer) buf)
-Meets writer («rtcp_writer_add_app» subtype ssrc name d padding buf r state out) = (r, state, out) ≡ calledOut writer (call (add (giveApp subtype ssrc name d padding)) (writerIn writer) buf)
+Meets writer (added g buf r state out) = (r, state, out) ≡ calledOut writer (call (add (given g)) (writerIn writer) buf)
 Meets writer («rtcp_writer_close» r state) = (r, state, []) ≡ calledOut writer (call close (writerIn writer) [])
 
 -- 0 is done
