@@ -27,9 +27,9 @@ use Rattle.report_write.proofs.Blocks.{length-blocks, losses-decided}
 
 -- ---- the size by what decides
 
-pub loss-told : (x : ℕ) → leb x 16777215 ≡ lossIn x
+pub loss-test : (x : ℕ) → leb x 16777215 ≡ lossIn x
 unfolding lossIn
-loss-told x = refl
+loss-test x = refl
 
 module _ (least n x k : ℕ) where
   pub over-count : 31 < n → refused (refusal 18 n 31) ≡ countedSize least n x k
@@ -72,7 +72,7 @@ module _ (n x k : ℕ) where
   pub counted-in : (least : ℕ) (t : Bool) → least < 256 → n ≤ 31 → t ≡ paddingOk k → t ≡ true → least + n * 24 + k < 2 ^ 64
   counted-in least t h f e q = let m = padding-most t k e q in omega arith
 
-pub ruleset counts = (needs, not-true, not-false, loss-told, count-none, padding-none, loss-none, counted-size, counted-in)
+pub ruleset counts = (needs, not-true, not-false, loss-test, count-none, padding-none, loss-none, counted-size, counted-in)
 
 pub ruleset whys = (not-true, not-false, why-of, over-count, bad-padding, counted-why)
 

@@ -47,41 +47,41 @@ numbersIn r =
     numbers (r .kind) (r .«packet_type») (r .count) (r .body) (r .«padding_len») (r .ssrc) (r .«ntp_timestamp») (r .«rtp_timestamp») (r .«packet_count»)
     (r .«octet_count») (r .extension) (r .«has_cname») (r .«has_reason») (r .reason) (r .«reason_len»)
 
-abbrev pub packetSeen : List ℕ → ℕ → RtcpStep → Said × PacketNumbers × List ℕ
-packetSeen s at r = ((r .number, r .first, r .second), numbersIn r, take (r .len) (drop (r .offset) s))
+abbrev pub packetShown : List ℕ → ℕ → RtcpStep → Said × PacketNumbers × List ℕ
+packetShown s at r = ((r .number, r .first, r .second), numbersIn r, take (r .len) (drop (r .offset) s))
 
 -- on a refusal all but its numbers is 0
-abbrev pub packetTold : Answer Read → Said × PacketNumbers × List ℕ
-packetTold (ok p) = ((0, 0, 0), numbersOf (packetView p), layout p)
-packetTold (refused r) = (said {A = Read} (refused r), bareNumbers 0 0 0 0, [])
+abbrev pub packetDue : Answer Read → Said × PacketNumbers × List ℕ
+packetDue (ok p) = ((0, 0, 0), numbersOf (packetView p), layout p)
+packetDue (refused r) = (said {A = Read} (refused r), bareNumbers 0 0 0 0, [])
 
 -- ---- rtcp_chunk_walk_step: SSRC, length, place of the first CNAME, and the bytes at the walk's place
 
 abbrev pub chunkSteps : List ℕ → Stepper
 chunkSteps s = record { H = SdesWalk; R = RtcpChunkStep; Meets = λ w r. r ≡ chunkStepResult (w .at) (w .end) (mapOk chunkStepped (sdesStep s w)); next = λ w r. record { at = r .at; end = r .end } }
 
-abbrev pub chunkSeen : List ℕ → SdesWalk → RtcpChunkStep → Said × Said × List ℕ
-chunkSeen s w r = ((r .number, r .first, r .second), (r .ssrc, r .length, r .cname), take (r .length) (drop (w .at) s))
+abbrev pub chunkShown : List ℕ → SdesWalk → RtcpChunkStep → Said × Said × List ℕ
+chunkShown s w r = ((r .number, r .first, r .second), (r .ssrc, r .length, r .cname), take (r .length) (drop (w .at) s))
 
-abbrev pub chunkTold : Answer Chunk → Said × Said × List ℕ
-chunkTold (ok c) = ((0, 0, 0), (c .ssrc, length (chunkBytes c), cnamePlace 4 (c .items)), chunkBytes c)
-chunkTold (refused r) = (said {A = Chunk} (refused r), (0, 0, 0), [])
+abbrev pub chunkDue : Answer Chunk → Said × Said × List ℕ
+chunkDue (ok c) = ((0, 0, 0), (c .ssrc, length (chunkBytes c), cnamePlace 4 (c .items)), chunkBytes c)
+chunkDue (refused r) = (said {A = Chunk} (refused r), (0, 0, 0), [])
 
 -- ---- rtcp_item_walk_step: type, length, and the bytes at the places of prefix and value
 
 abbrev pub itemSteps : List ℕ → Stepper
 itemSteps s = record { H = ℕ; R = RtcpItemStep; Meets = λ at r. r ≡ itemStepResult at (mapOk itemStepped (itemStep s at)); next = λ at r. r .at }
 
-abbrev pub itemSeen : List ℕ → ℕ → RtcpItemStep → Said × ℕ × ℕ × List ℕ × List ℕ
-itemSeen s at r = ((r .number, r .first, r .second), r .«type_», r .length, take (r .«prefix_len») (drop (r .prefix) s), take (r .«value_len») (drop (r .value) s))
+abbrev pub itemShown : List ℕ → ℕ → RtcpItemStep → Said × ℕ × ℕ × List ℕ × List ℕ
+itemShown s at r = ((r .number, r .first, r .second), r .«type_», r .length, take (r .«prefix_len») (drop (r .prefix) s), take (r .«value_len») (drop (r .value) s))
 
 abbrev pub prefixBytes : Item → List ℕ
 prefixBytes (item t v) = []
 prefixBytes (priv p v) = p
 
-abbrev pub itemTold : Answer Item → Said × ℕ × ℕ × List ℕ × List ℕ
-itemTold (ok i) = ((0, 0, 0), itemType i, length (itemRest i), prefixBytes i, valueOf i)
-itemTold (refused r) = (said {A = Item} (refused r), 0, 0, [], [])
+abbrev pub itemDue : Answer Item → Said × ℕ × ℕ × List ℕ × List ℕ
+itemDue (ok i) = ((0, 0, 0), itemType i, length (itemRest i), prefixBytes i, valueOf i)
+itemDue (refused r) = (said {A = Item} (refused r), 0, 0, [], [])
 
 -- ---- the writer's functions that add, each with its arguments
 
