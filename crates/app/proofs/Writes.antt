@@ -50,48 +50,36 @@ module _ (subtype ssrc : ℕ) (name d : List ℕ) (k : ℕ) where
   abbrev given : Given
   given = giveApp subtype ssrc name d k
 
-  subtype-over : 31 < subtype → refused (refusal 12 subtype 31) ≡ calculateSize given
+  pub subtype-over : 31 < subtype → refused (refusal 12 subtype 31) ≡ calculateSize given
   unfolding ownTests need _>>_
   subtype-over h = size-refused given (simp (lt-leb _ _ h))
 
   pub none-subtype : 31 < subtype → 0 ≡ orZero (calculateSize given)
   none-subtype h = none-of _ (subtype-over h)
 
-  pub why-subtype : 31 < subtype → refusal 12 subtype 31 ≡ sizeRefusal (calculateSize given)
-  why-subtype h = why-of _ (subtype-over h)
-
   module _ (h : subtype ≤ 31) (s : Bool) (es : s ≡ nameOk name) where
-    name-bad : s ≡ false → refused (refusal 13 0 0) ≡ calculateSize given
+    pub name-bad : s ≡ false → refused (refusal 13 0 0) ≡ calculateSize given
     unfolding ownTests need _>>_
     name-bad q = size-refused given (simp (le-leb _ _ h, ← es, q))
 
     pub none-name : s ≡ false → 0 ≡ orZero (calculateSize given)
     none-name q = none-of _ (name-bad q)
 
-    pub why-name : s ≡ false → refusal 13 0 0 ≡ sizeRefusal (calculateSize given)
-    why-name q = why-of _ (name-bad q)
-
     module _ (qs : s ≡ true) where
-      data-odd : (length d % 4 ≡ 0 → ⊥) → refused (refusal 14 (length d) 0) ≡ calculateSize given
+      pub data-odd : (length d % 4 ≡ 0 → ⊥) → refused (refusal 14 (length d) 0) ≡ calculateSize given
       unfolding ownTests need _>>_
       data-odd f = size-refused given (simp (le-leb _ _ h, ← es, qs, ne-eqb _ _ f))
 
       pub none-data : (length d % 4 ≡ 0 → ⊥) → 0 ≡ orZero (calculateSize given)
       none-data f = none-of _ (data-odd f)
 
-      pub why-data : (length d % 4 ≡ 0 → ⊥) → refusal 14 (length d) 0 ≡ sizeRefusal (calculateSize given)
-      why-data f = why-of _ (data-odd f)
-
       module _ (f : length d % 4 ≡ 0) (t : Bool) (e : t ≡ paddingOk k) where
-        bad-padding : t ≡ false → refused (refusal 11 k 0) ≡ calculateSize given
+        pub bad-padding : t ≡ false → refused (refusal 11 k 0) ≡ calculateSize given
         unfolding ownTests need _>>_
         bad-padding q = size-refused given (simp (le-leb _ _ h, ← es, qs, eq-eqb _ _ f, ← e, q))
 
         pub none-padding : t ≡ false → 0 ≡ orZero (calculateSize given)
         none-padding q = none-of _ (bad-padding q)
-
-        pub why-padding : t ≡ false → refusal 11 k 0 ≡ sizeRefusal (calculateSize given)
-        why-padding q = why-of _ (bad-padding q)
 
         own-passed : t ≡ true → ownTests given ≡ ok tt
         unfolding ownTests need _>>_
@@ -171,4 +159,4 @@ module _ (subtype ssrc : ℕ) (name d : List ℕ) (k : ℕ) where
       let p₃ = parts-laid 4 8 (be 4 ssrc) (nameGiven name ++ d) l₁ l₂ l₅ e₂ p₂ (omega arith) (omega arith) in
       packet-laid (app subtype ssrc (nameGiven name) d) k size (size - k) l l₁ l₅ l₆ (omega arith) m (omega arith) e₁ p₃ e₆
 
-pub ruleset writes = (writer, sizes, not-true, not-false, ascii-start, ascii-above, ascii-again, ascii-done, name-long, name-short, none-subtype, why-subtype, none-name, why-name, none-data, why-data, none-padding, why-padding, why-over, app-over, app-size, app-fits, app-refused, app-not-written, app-laid)
+pub ruleset writes = (writer, sizes, not-true, not-false, why-of, subtype-over, name-bad, data-odd, bad-padding, ascii-start, ascii-above, ascii-again, ascii-done, name-long, name-short, none-subtype, none-name, none-data, none-padding, why-over, app-over, app-size, app-fits, app-refused, app-not-written, app-laid)

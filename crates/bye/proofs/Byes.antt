@@ -111,11 +111,11 @@ view-there s b l q =
       m,
     )
 
-seen-none : (m : Answer Packet) (k : Refusal) → m ≡ refused k → (noBye ≡ valueOr noBye byeView m) × (k ≡ refusalIn m)
-seen-none m k e = (sym (ap (valueOr noBye byeView) e), sym (ap refusalIn e))
+answer-none : (m : Answer Packet) (k : Refusal) → m ≡ refused k → (noBye ≡ valueOr noBye byeView m) × (k ≡ refusalIn m)
+answer-none m k e = (sym (ap (valueOr noBye byeView) e), sym (ap refusalIn e))
 
-seen-read : (m : Answer Packet) (p : Packet) (b : Bye) → m ≡ ok p → byeView p ≡ b → (b ≡ valueOr noBye byeView m) × (refusal 25 0 0 ≡ refusalIn m)
-seen-read m p b e v = (sym (ap (valueOr noBye byeView) e ∙ v), sym (ap refusalIn e))
+answer-read : (m : Answer Packet) (p : Packet) (b : Bye) → m ≡ ok p → byeView p ≡ b → (b ≡ valueOr noBye byeView m) × (refusal 25 0 0 ≡ refusalIn m)
+answer-read m p b e v = (sym (ap (valueOr noBye byeView) e ∙ v), sym (ap refusalIn e))
 
 pub none-header : (s : List ℕ) (b : ℕ) (r : Bye) → b ≡ orZero (checkPacket BYE s) → b ≡ 0 → r ≡ noBye → r ≡ valueOr noBye byeView (readAs BYE s)
 none-header s b r h z q = q ∙ none-at-header BYE s b h noBye byeView z
@@ -146,15 +146,15 @@ module _ (s : List ℕ) (b : ℕ) (h : b ≡ orZero (checkPacket BYE s)) (y : b 
     cut q = content-refused _ (rw c (short s b (body .enough) (body .within) (omega arith)))
 
     pub none-cut : (r : Bye) → r ≡ noBye → b < 4 + 4 * n → r ≡ valueOr noBye byeView (readAs BYE s)
-    none-cut r e q = e ∙ seen-none (readAs BYE s) _ (cut q) .0
+    none-cut r e q = e ∙ answer-none (readAs BYE s) _ (cut q) .0
 
     pub why-cut : b < 4 + 4 * n → refusal 2 (4 + 4 * n) b ≡ refusalIn (readAs BYE s)
-    why-cut q = seen-none (readAs BYE s) _ (cut q) .1
+    why-cut q = answer-none (readAs BYE s) _ (cut q) .1
 
     bare : b ≡ 4 + 4 * n → (viewNone s b ≡ valueOr noBye byeView (readAs BYE s)) × (refusal 25 0 0 ≡ refusalIn (readAs BYE s))
     bare q =
         let f : b ≡ end s = omega arith in
-        seen-read (readAs BYE s) _ _ (content-read _ (none s b (body .enough) (body .within) f)) (view-none s b f)
+        answer-read (readAs BYE s) _ _ (content-read _ (none s b (body .enough) (body .within) f)) (view-none s b f)
 
     pub reason-none : b ≡ 4 + 4 * n → record { «n_sources» = n; «has_reason» = false; reason = 4 + 4 * n; «reason_len» = 0; body = b; «padding_len» = length s - b } ≡ valueOr noBye byeView (readAs BYE s)
     reason-none q = rw c (bare q .0)
@@ -174,16 +174,16 @@ module _ (s : List ℕ) (b : ℕ) (h : b ≡ orZero (checkPacket BYE s)) (y : b 
       over z = let w = len-is in content-refused _ (rw (w, c) (past s b (body .enough) (body .within) (omega arith) (omega arith)))
 
       pub none-over : (r : Bye) → r ≡ noBye → b < 4 + 4 * n + 1 + x → r ≡ valueOr noBye byeView (readAs BYE s)
-      none-over r e z = e ∙ seen-none (readAs BYE s) _ (over z) .0
+      none-over r e z = e ∙ answer-none (readAs BYE s) _ (over z) .0
 
       pub why-over : b < 4 + 4 * n + 1 + x → refusal 2 (4 + 4 * n + 1 + x) b ≡ refusalIn (readAs BYE s)
-      why-over z = seen-none (readAs BYE s) _ (over z) .1
+      why-over z = answer-none (readAs BYE s) _ (over z) .1
 
       said : 4 + 4 * n + 1 + x ≤ b → (viewThere s b ≡ valueOr noBye byeView (readAs BYE s)) × (refusal 25 0 0 ≡ refusalIn (readAs BYE s))
       said z =
           let w = len-is in
           let r : end s + 1 + len s ≤ b = omega arith in
-          seen-read (readAs BYE s) _ _ (content-read _ (there s b (body .enough) (body .within) (omega arith) r)) (view-there s b (body .within) r)
+          answer-read (readAs BYE s) _ _ (content-read _ (there s b (body .enough) (body .within) (omega arith) r)) (view-there s b (body .within) r)
 
       pub reason-there : 4 + 4 * n + 1 + x ≤ b
           → record { «n_sources» = n; «has_reason» = true; reason = 4 + 4 * n + 1; «reason_len» = x; body = b; «padding_len» = length s - b } ≡ valueOr noBye byeView (readAs BYE s)
@@ -200,7 +200,7 @@ pub record Parts (s : List ℕ) (p : Packet) (a : Bye) : Type 0 where
   pub tail : take (a .body - (a .reason + a .«reason_len»)) (drop (a .reason + a .«reason_len») s) ≡ tailBytes (leaving (p .content))
   pub padding : take (a .«padding_len») (drop (a .body) s) ≡ p .padding
 
-record Held (s : List ℕ) (p : Packet) (a : Bye) : Type 0 where
+record ByeFacts (s : List ℕ) (p : Packet) (a : Bye) : Type 0 where
   few : a .«n_sources» < 32
   sources : 4 + 4 * a .«n_sources» ≤ a .body
   within : a .body ≤ length s
@@ -224,8 +224,8 @@ module _ (s : List ℕ) (b : ℕ) (l : b ≤ length s) where
   padding-there : take (length s - b) (drop b s) ≡ drop b s
   padding-there = take-all (length s - b) (drop b s) (rw length-drop (omega arith))
 
-  held-none : b ≡ end s → readAs BYE s ≡ ok (packetOf s b (bye (sources s) no-reason)) → Held s (packetOf s b (bye (sources s) no-reason)) (viewNone s b)
-  held-none q e =
+  facts-none : b ≡ end s → readAs BYE s ≡ ok (packetOf s b (bye (sources s) no-reason)) → ByeFacts s (packetOf s b (bye (sources s) no-reason)) (viewNone s b)
+  facts-none q e =
       let z : b - (end s + 0) ≡ 0 = omega arith in
       record {
         few = few-sources s;
@@ -236,8 +236,8 @@ module _ (s : List ℕ) (b : ℕ) (l : b ≤ length s) where
         none = source-past s b no-reason e;
       }
 
-  held-there : end s + 1 + len s ≤ b → readAs BYE s ≡ ok (packetOf s b (bye (sources s) (left s b))) → Held s (packetOf s b (bye (sources s) (left s b))) (viewThere s b)
-  held-there q e =
+  facts-there : end s + 1 + len s ≤ b → readAs BYE s ≡ ok (packetOf s b (bye (sources s) (left s b))) → ByeFacts s (packetOf s b (bye (sources s) (left s b))) (viewThere s b)
+  facts-there q e =
       record {
         few = few-sources s;
         sources = omega arith;
@@ -247,8 +247,8 @@ module _ (s : List ℕ) (b : ℕ) (l : b ≤ length s) where
         none = source-past s b (left s b) e;
       }
 
-held : (s : List ℕ) (p : Packet) → readAs BYE s ≡ ok p → Held s p (byeView p)
-held s p e =
+facts : (s : List ℕ) (p : Packet) → readAs BYE s ≡ ok p → ByeFacts s p (byeView p)
+facts s p e =
     let g = got BYE s p e in
     let b = g .body in
     let h = g .enough in
@@ -262,12 +262,12 @@ held s p e =
     (λ y. absurd (refused≢ok (sym (past s b h l z y) ∙ g .content)))
     (λ y.
     let w = got-is BYE s p g (bye (sources s) (left s b)) (there s b h l z y) in
-    subst (λ (p : Packet). Held s p (byeView p)) w (subst (Held s _) (sym (view-there s b l y)) (held-there s b l y (e ∙ ap ok (sym w)))))
+    subst (λ (p : Packet). ByeFacts s p (byeView p)) w (subst (ByeFacts s _) (sym (view-there s b l y)) (facts-there s b l y (e ∙ ap ok (sym w)))))
     (split b (end s + 1 + len s)))
     (λ z.
     let f : b ≡ end s = omega arith in
     let w = got-is BYE s p g (bye (sources s) no-reason) (none s b h l f) in
-    subst (λ (p : Packet). Held s p (byeView p)) w (subst (Held s _) (sym (view-none s b f)) (held-none s b l f (e ∙ ap ok (sym w)))))
+    subst (λ (p : Packet). ByeFacts s p (byeView p)) w (subst (ByeFacts s _) (sym (view-none s b f)) (facts-none s b l f (e ∙ ap ok (sym w)))))
     (split (end s) b))
     (split b (end s))
 
@@ -289,29 +289,29 @@ module _ (s : List ℕ) (o : Bye) (h : o ≡ valueOr noBye byeView (readAs BYE s
     pub bye-parsed : ok o ≡ mapOk byeView (readAs BYE s)
     bye-parsed = value-is noBye byeView (λ o. o .body) refl (readAs BYE s) o h y
 
-    bye-held : (p : Packet) × Held s p o
-    bye-held = let m = value-came noBye byeView (λ o. o .body) refl (readAs BYE s) o h y in (m .0, subst (Held s (m .0)) (m .2) (held s (m .0) (m .1)))
+    bye-facts : (p : Packet) × ByeFacts s p o
+    bye-facts = let m = value-came noBye byeView (λ o. o .body) refl (readAs BYE s) o h y in (m .0, subst (ByeFacts s (m .0)) (m .2) (facts s (m .0) (m .1)))
 
     module _ (i : ℕ) where
       pub source-none : o .«n_sources» ≤ i → refuse 25 0 0 ≡ readSourceAt s i
-      source-none l = sym (bye-held .1 .none i l)
+      source-none l = sym (bye-facts .1 .none i l)
 
       pub source-there : (x : ℕ) → i < o .«n_sources» → x ≡ val (take 4 (drop (4 + 4 * i) s)) → ok x ≡ readSourceAt s i
-      source-there x l q = ap ok q ∙ sym (bye-held .1 .source i l)
+      source-there x l q = ap ok q ∙ sym (bye-facts .1 .source i l)
 
       pub source-scaled : i < o .«n_sources» → 4 * i < 2 ^ 64
-      source-scaled l = let w = bye-held .1 in omega arith
+      source-scaled l = let w = bye-facts .1 in omega arith
 
       pub source-fits : i < o .«n_sources» → 4 + 4 * i < 2 ^ 64
-      source-fits l = let w = bye-held .1 in omega arith
+      source-fits l = let w = bye-facts .1 in omega arith
 
       pub source-within : i < o .«n_sources» → 4 + 4 * i + 4 ≤ length s
-      source-within l = let w = bye-held .1 in omega arith
+      source-within l = let w = bye-facts .1 in omega arith
 
 -- ---- parts
 
 pub parts : (s : List ℕ) (p : Packet) → readAs BYE s ≡ ok p → Parts s p (byeView p)
-parts s p e = held s p e .parts
+parts s p e = facts s p e .parts
 
 -- where the body ends ahead of the reason's end there is no tail
 module _ (b r n : ℕ) (s : List ℕ) where

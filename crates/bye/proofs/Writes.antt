@@ -98,41 +98,32 @@ module _ (ss r : List ℕ) (k : ℕ) where
   abbrev given : Given
   given = giveBye ss r k
 
-  too-many : 31 < length ss → refused (refusal 15 (length ss) 31) ≡ calculateSize given
+  pub too-many : 31 < length ss → refused (refusal 15 (length ss) 31) ≡ calculateSize given
   unfolding ownTests need _>>_
   too-many h = size-refused given (simp (lt-leb _ _ h))
 
   pub none-sources : 31 < length ss → 0 ≡ orZero (calculateSize given)
   none-sources h = none-of _ (too-many h)
 
-  pub why-sources : 31 < length ss → refusal 15 (length ss) 31 ≡ sizeRefusal (calculateSize given)
-  why-sources h = why-of _ (too-many h)
-
   content-length : length (contentBytes (bye ss (leavingOf r))) ≡ length ss * 4 + length (leavingBytes (leavingOf r))
   unfolding contentBytes sourcesBytes
   content-length = length-append (put (replicate (length ss) 4) ss) (leavingBytes (leavingOf r)) ∙ ap (λ (n : ℕ). n + length (leavingBytes (leavingOf r))) (length-sources ss)
 
   module _ (t : Bool) (h : length ss ≤ 31) (e : t ≡ paddingOk k) where
-    bad-padding : t ≡ false → refused (refusal 11 k 0) ≡ calculateSize given
+    pub bad-padding : t ≡ false → refused (refusal 11 k 0) ≡ calculateSize given
     unfolding ownTests need _>>_
     bad-padding q = size-refused given (simp (le-leb _ _ h, ← e, q))
 
     pub none-padding : t ≡ false → 0 ≡ orZero (calculateSize given)
     none-padding q = none-of _ (bad-padding q)
 
-    pub why-padding : t ≡ false → refusal 11 k 0 ≡ sizeRefusal (calculateSize given)
-    why-padding q = why-of _ (bad-padding q)
-
     module _ (q : t ≡ true) where
-      too-long : 255 < length r → refused (refusal 16 (length r) 255) ≡ calculateSize given
+      pub too-long : 255 < length r → refused (refusal 16 (length r) 255) ≡ calculateSize given
       unfolding ownTests need _>>_
       too-long f = size-refused given (simp (le-leb _ _ h, ← e, q, lt-leb _ _ f))
 
       pub none-reason : 255 < length r → 0 ≡ orZero (calculateSize given)
       none-reason f = none-of _ (too-long f)
-
-      pub why-reason : 255 < length r → refusal 16 (length r) 255 ≡ sizeRefusal (calculateSize given)
-      why-reason f = why-of _ (too-long f)
 
       module _ (f : length r ≤ 255) where
         own-passed : ownTests given ≡ ok tt
@@ -195,4 +186,4 @@ module _ (ss r : List ℕ) (k : ℕ) where
       let p = parts-laid 4 (4 + length ss * 4) (sourcesBytes ss) (leavingBytes (leavingOf r)) l₁ l₂ l₃ e₂ e₃ (omega arith) (omega arith) in
       packet-laid (bye ss (leavingOf r)) k size (size - k) l l₁ l₃ l₄ (omega arith) m (omega arith) e₁ p e₄
 
-pub ruleset writes = (writer, sizes, not-true, not-false, sources-start, sources-again, sources-done, reason-none, reason-long, reason-not-laid, reason-laid, none-sources, why-sources, none-padding, why-padding, none-reason, why-reason, why-none, bye-size, bye-fits, bye-refused, bye-not-written, bye-laid)
+pub ruleset writes = (writer, sizes, not-true, not-false, why-of, too-many, bad-padding, too-long, sources-start, sources-again, sources-done, reason-none, reason-long, reason-not-laid, reason-laid, none-sources, none-padding, none-reason, why-none, bye-size, bye-fits, bye-refused, bye-not-written, bye-laid)

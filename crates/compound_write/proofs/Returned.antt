@@ -9,7 +9,7 @@ use Rattle.rfc3550.specs.Claim.{answers, fed, booked, compounds}
 use Rattle.rfc3550.specs.Returned.{Called, events}
 use Rattle.rfc3550.proofs.Returned as law
 use Rattle.compound_write.specs.Writer.{writerOf, callOf}
-use Rattle.compound_write.specs.Returned.{Result, «add_rr», «add_sr», «add_sdes», «add_bye», «add_app», closed, writers}
+use Rattle.compound_write.specs.Returned.{Result, added, closed, writers}
 use Rattle.compound_write.specs.declared.writer.Writer.{Writer}
 use Rattle.compound_write.specs.declared.writer.Call.{Call}
 use Rattle.compound_write.specs.declared.writer.Outcome.{Outcome}
@@ -22,11 +22,7 @@ callOf-injective r s e =
     ∙ ap (λ (w : Writer). record { answer = s .answer; writer = w }) (writerOf-injective (r .writer) (s .writer) (ap (λ (x : Answer (Unit {0}) × rfc.Writer). x .1) e))
 
 calls : law.Calls writers
-calls w («add_rr» ssrc fractions losses words padding buf r out) m = m
-calls w («add_sr» info fractions losses words padding buf r out) m = m
-calls w («add_sdes» ssrcs counts types prefixes values bytes padding buf r out) m = m
-calls w («add_bye» sources reason padding buf r out) m = m
-calls w («add_app» subtype ssrc name d padding buf r out) m = m
+calls w (added g buf r out) m = m
 calls w (closed r) m = m
 
 -- for every list of results of the writer's functions, from a writer as `new` returns it, each of which got the writer that the last returned and

@@ -4,7 +4,7 @@ use mathlib.Core.Path.{_≡_}
 use mathlib.Core.List.{List, []}
 use Rattle.rfc3550.specs.Loss.{Loss}
 use Rattle.rfc3550.specs.Packet.{receiver}
-use Rattle.rfc3550.specs.Write.{giveReport, giveSdes, giveBye, giveApp}
+use Rattle.rfc3550.specs.Write.{Given, giveReport, giveSdes, giveBye, giveApp}
 use Rattle.rfc3550.specs.Writer.{Request, add, close, call}
 use Rattle.rfc3550.specs.Claim.{compounds}
 use Rattle.rfc3550.specs.Returned.{Caller}
@@ -15,55 +15,46 @@ use Rattle.compound_write.specs.Writer.{writerOf, outcomeOf}
 use Rattle.compound_write.specs.declared.writer.Writer.{Writer}
 use Rattle.compound_write.specs.declared.writer.Call.{Call}
 
--- one constructor for each function
+-- the functions that add, each with its arguments
+pub data Adding : Type 0 where
+  «add_rr» : ℕ → List ℕ → List Loss → List ℕ → ℕ → Adding
+  «add_sr» : SenderInfo → List ℕ → List Loss → List ℕ → ℕ → Adding
+  «add_sdes» : List ℕ → List ℕ → List ℕ → List ℕ → List ℕ → List ℕ → ℕ → Adding
+  «add_bye» : List ℕ → List ℕ → ℕ → Adding
+  «add_app» : ℕ → ℕ → List ℕ → List ℕ → ℕ → Adding
+
+abbrev pub given : Adding → Given
+given («add_rr» ssrc fractions losses words padding) = giveReport (receiver ssrc) (blockLists fractions losses words) padding
+given («add_sr» info fractions losses words padding) = giveReport (senderOf info) (blockLists fractions losses words) padding
+given («add_sdes» ssrcs counts types prefixes values bytes padding) = giveSdes (lists ssrcs counts types prefixes values bytes) padding
+given («add_bye» sources reason padding) = giveBye sources reason padding
+given («add_app» subtype ssrc name d padding) = giveApp subtype ssrc name d padding
+
+-- what a call returned: for one that adds, its function and arguments, the buffer at entry, the answer and the buffer at exit
 pub data Result : Type 0 where
-  «add_rr» : ℕ → List ℕ → List Loss → List ℕ → ℕ → List ℕ → Call → List ℕ → Result
-  «add_sr» : SenderInfo → List ℕ → List Loss → List ℕ → ℕ → List ℕ → Call → List ℕ → Result
-  «add_sdes» : List ℕ → List ℕ → List ℕ → List ℕ → List ℕ → List ℕ → ℕ → List ℕ → Call → List ℕ → Result
-  «add_bye» : List ℕ → List ℕ → ℕ → List ℕ → Call → List ℕ → Result
-  «add_app» : ℕ → ℕ → List ℕ → List ℕ → ℕ → List ℕ → Call → List ℕ → Result
+  added : Adding → List ℕ → Call → List ℕ → Result
   closed : Call → Result
 
 -- what was asked for, the buffer lent, what was returned and the buffer left; a close is lent none
 abbrev pub request : Result → Request
-request («add_rr» ssrc fractions losses words padding buf r out) = add (giveReport (receiver ssrc) (blockLists fractions losses words) padding)
-request («add_sr» info fractions losses words padding buf r out) = add (giveReport (senderOf info) (blockLists fractions losses words) padding)
-request («add_sdes» ssrcs counts types prefixes values bytes padding buf r out) = add (giveSdes (lists ssrcs counts types prefixes values bytes) padding)
-request («add_bye» sources reason padding buf r out) = add (giveBye sources reason padding)
-request («add_app» subtype ssrc name d padding buf r out) = add (giveApp subtype ssrc name d padding)
+request (added g buf r out) = add (given g)
 request (closed r) = close
 
 abbrev pub lent : Result → List ℕ
-lent («add_rr» ssrc fractions losses words padding buf r out) = buf
-lent («add_sr» info fractions losses words padding buf r out) = buf
-lent («add_sdes» ssrcs counts types prefixes values bytes padding buf r out) = buf
-lent («add_bye» sources reason padding buf r out) = buf
-lent («add_app» subtype ssrc name d padding buf r out) = buf
+lent (added g buf r out) = buf
 lent (closed r) = []
 
 abbrev pub gave : Result → Call
-gave («add_rr» ssrc fractions losses words padding buf r out) = r
-gave («add_sr» info fractions losses words padding buf r out) = r
-gave («add_sdes» ssrcs counts types prefixes values bytes padding buf r out) = r
-gave («add_bye» sources reason padding buf r out) = r
-gave («add_app» subtype ssrc name d padding buf r out) = r
+gave (added g buf r out) = r
 gave (closed r) = r
 
 abbrev pub left : Result → List ℕ
-left («add_rr» ssrc fractions losses words padding buf r out) = out
-left («add_sr» info fractions losses words padding buf r out) = out
-left («add_sdes» ssrcs counts types prefixes values bytes padding buf r out) = out
-left («add_bye» sources reason padding buf r out) = out
-left («add_app» subtype ssrc name d padding buf r out) = out
+left (added g buf r out) = out
 left (closed r) = []
 
 -- each function's own ensures
 abbrev pub Meets : Writer → Result → Type 0
-Meets self («add_rr» ssrc fractions losses words padding buf r out) = (outcomeOf (r .answer), writerOf (r .writer), out) ≡ call (add (giveReport (receiver ssrc) (blockLists fractions losses words) padding)) (writerOf self) buf
-Meets self («add_sr» info fractions losses words padding buf r out) = (outcomeOf (r .answer), writerOf (r .writer), out) ≡ call (add (giveReport (senderOf info) (blockLists fractions losses words) padding)) (writerOf self) buf
-Meets self («add_sdes» ssrcs counts types prefixes values bytes padding buf r out) = (outcomeOf (r .answer), writerOf (r .writer), out) ≡ call (add (giveSdes (lists ssrcs counts types prefixes values bytes) padding)) (writerOf self) buf
-Meets self («add_bye» sources reason padding buf r out) = (outcomeOf (r .answer), writerOf (r .writer), out) ≡ call (add (giveBye sources reason padding)) (writerOf self) buf
-Meets self («add_app» subtype ssrc name d padding buf r out) = (outcomeOf (r .answer), writerOf (r .writer), out) ≡ call (add (giveApp subtype ssrc name d padding)) (writerOf self) buf
+Meets self (added g buf r out) = (outcomeOf (r .answer), writerOf (r .writer), out) ≡ call (add (given g)) (writerOf self) buf
 Meets self (closed r) = (outcomeOf (r .answer), writerOf (r .writer), []) ≡ call close (writerOf self) []
 
 abbrev pub writers : Caller compounds

@@ -14,12 +14,11 @@ use Rattle.rfc3550.specs.Loss.{lossIn, lossShown, lossMost}
 use Rattle.rfc3550.specs.Packet.{Block, Reporter, receiver, sender, report, blocksBytes, senderWidths, reporterWidths, reporterFields, contentBytes, type, layout}
 use Rattle.rfc3550.specs.Write.{BlockLists, blocksLent, giveReport, blocksAgree, packetGiven, paddingBytes, paddingOk, lossTests, ownTests, calculateSize, write}
 use Rattle.rfc3550.proofs.Answer.{need-inv}
-use Rattle.rfc3550.proofs.Bytes.{length-be, length-store}
 use Rattle.rfc3550.proofs.Write.{length-lentBlocks}
 use Rattle.utils.specs.Error.{orZero}
 use Rattle.utils.specs.Writer.{header, sizeRefusal}
 use Rattle.utils.proofs.Parts.{lent-again}
-use Rattle.utils.proofs.Sizes.{size-why, write-why, size-came, size-is, write-room, write-laid}
+use Rattle.utils.proofs.Sizes.{why-of, size-why, write-why, size-came, size-is, write-room, write-laid}
 use Rattle.utils.proofs.WriterStores.{stores}
 use Rattle.utils.proofs.WriterPackets.{writes, padding-most, sized, size-ok, size-refused, parts-laid, header-long, packet-laid}
 use Rattle.report_write.specs.declared.sender.SenderInfo.{SenderInfo}
@@ -28,22 +27,22 @@ use Rattle.report_write.proofs.Blocks.{length-blocks, losses-decided}
 
 -- ---- the size by what decides
 
-pub loss-told : (x : ℕ) → leb x 16777215 ≡ lossIn x
+pub loss-test : (x : ℕ) → leb x 16777215 ≡ lossIn x
 unfolding lossIn
-loss-told x = refl
+loss-test x = refl
 
 module _ (least n x k : ℕ) where
-  over-count : 31 < n → refused (refusal 18 n 31) ≡ countedSize least n x k
+  pub over-count : 31 < n → refused (refusal 18 n 31) ≡ countedSize least n x k
   unfolding countedSize need _>>_
   over-count h = simp (lt-leb _ _ h)
 
   module _ (h : n ≤ 31) (t : Bool) (e : t ≡ paddingOk k) where
-    bad-padding : t ≡ false → refused (refusal 11 k 0) ≡ countedSize least n x k
+    pub bad-padding : t ≡ false → refused (refusal 11 k 0) ≡ countedSize least n x k
     unfolding countedSize need _>>_
     bad-padding q = simp (le-leb _ _ h, ← e, q)
 
     module _ (q : t ≡ true) (u : Bool) (f : u ≡ lossIn x) where
-      over-loss : u ≡ false → refused (refusal 17 x 16777215) ≡ countedSize least n x k
+      pub over-loss : u ≡ false → refused (refusal 17 x 16777215) ≡ countedSize least n x k
       unfolding countedSize lossShown need _>>_
       over-loss z = simp (le-leb _ _ h, ← e, q, ← f, z)
 
@@ -56,22 +55,13 @@ module _ (n x k : ℕ) where
   pub count-none : (least : ℕ) → 31 < n → 0 ≡ orZero (countedSize least n x k)
   count-none least h = ap orZero (over-count least n x k h)
 
-  pub count-why : 31 < n → refusal 18 n 31 ≡ sizeRefusal (countedSize 0 n x k)
-  count-why h = ap sizeRefusal (over-count 0 n x k h)
-
   module _ (h : n ≤ 31) (t : Bool) (e : t ≡ paddingOk k) where
     pub padding-none : (least : ℕ) → t ≡ false → 0 ≡ orZero (countedSize least n x k)
     padding-none least q = ap orZero (bad-padding least n x k h t e q)
 
-    pub padding-why : t ≡ false → refusal 11 k 0 ≡ sizeRefusal (countedSize 0 n x k)
-    padding-why q = ap sizeRefusal (bad-padding 0 n x k h t e q)
-
     module _ (q : t ≡ true) (u : Bool) (f : u ≡ lossIn x) where
       pub loss-none : (least : ℕ) → u ≡ false → 0 ≡ orZero (countedSize least n x k)
       loss-none least z = ap orZero (over-loss least n x k h t e q u f z)
-
-      pub loss-why : u ≡ false → refusal 17 x 16777215 ≡ sizeRefusal (countedSize 0 n x k)
-      loss-why z = ap sizeRefusal (over-loss 0 n x k h t e q u f z)
 
       pub counted-size : (least : ℕ) → u ≡ true → least + n * 24 + k ≡ orZero (countedSize least n x k)
       counted-size least z = ap orZero (counted least n x k h t e q u f z)
@@ -82,9 +72,9 @@ module _ (n x k : ℕ) where
   pub counted-in : (least : ℕ) (t : Bool) → least < 256 → n ≤ 31 → t ≡ paddingOk k → t ≡ true → least + n * 24 + k < 2 ^ 64
   counted-in least t h f e q = let m = padding-most t k e q in omega arith
 
-pub ruleset counts = (needs, not-true, not-false, loss-told, count-none, padding-none, loss-none, counted-size, counted-in)
+pub ruleset counts = (needs, not-true, not-false, loss-test, count-none, padding-none, loss-none, counted-size, counted-in)
 
-pub ruleset whys = (not-true, not-false, count-why, padding-why, loss-why, counted-why)
+pub ruleset whys = (not-true, not-false, why-of, over-count, bad-padding, counted-why)
 
 -- ---- of lent lists
 

@@ -13,8 +13,6 @@ use Rattle.rfc3550.specs.Packet.{Item, item, priv, itemRest, itemBytes}
 use Rattle.rfc3550.specs.Read.{readItem, readPrefix}
 use Rattle.rfc3550.specs.Walk.{itemStep}
 use Rattle.rfc3550.proofs.Answer.{ok-injective, need-inv, bind-elim}
-use Rattle.utils.specs.Error.{parseRefusal}
-use Rattle.utils.specs.declared.error.RtcpParseError.{RtcpParseError}
 use Rattle.sdes_chunk.specs.Item.{itemView, itemFirst, prefixLength, valueStart, prefixIn, answerOf, parsedItemOf}
 use Rattle.sdes_chunk.specs.Walk.{itemStepped, steppedItemOf}
 use Rattle.sdes_chunk.proofs.Readings.{item-placed, Numbered, prefix-numbered}
@@ -25,20 +23,12 @@ use Rattle.sdes_chunk.specs.declared.chunk.ItemWalk.{ItemWalk}
 use Rattle.sdes_chunk.specs.declared.chunk.SdesChunk.{SdesChunk}
 use Rattle.sdes_chunk.specs.declared.chunk.SteppedItem.{SteppedItem}
 use Rattle.sdes_chunk.specs.declared.chunk.SteppedItem.the-variants as steppedItem
-use Rattle.sdes.specs.Sdes.{parsedSdesOf}
-use Rattle.sdes.specs.declared.sdes.Sdes.{Sdes}
-use Rattle.sdes.specs.declared.sdes.ParsedSdes.{ParsedSdes}
-use Rattle.sdes.specs.declared.sdes.ParsedSdes.the-variants as sdes
 use Rattle.sdes.specs.Walk.{steppedChunkOf}
 use Rattle.sdes.specs.declared.sdes.ChunkWalk.{ChunkWalk}
 use Rattle.sdes.specs.declared.sdes.SteppedChunk.{SteppedChunk}
 use Rattle.sdes.specs.declared.sdes.SteppedChunk.the-variants as steppedChunk
-use Rattle.rtcp.specs.Result.{bit}
-use Rattle.rtcp.specs.Sdes.{sdesResult, prefixStart, itemParts, itemResult, prefixResult, chunkStepResult, itemStepResult}
-use Rattle.rtcp.specs.declared.read_sdes.ItemParts.{ItemParts}
-use Rattle.rtcp.specs.declared.read_sdes.RtcpChunkStep.{RtcpChunkStep}
-use Rattle.rtcp.specs.declared.read_sdes.RtcpItemStep.{RtcpItemStep}
-use Rattle.rtcp.proofs.Results.{handed, turned, viewed}
+use Rattle.rtcp.specs.Sdes.{prefixStart, itemParts, prefixResult, chunkStepResult, itemStepResult}
+use Rattle.rtcp.proofs.Results.{handed, viewed}
 
 -- ---- items
 

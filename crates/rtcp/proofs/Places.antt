@@ -7,7 +7,6 @@ use native.Mathlib.Omega.{arith}
 use borrow.Author.Tests.{ne-eqb}
 use lib.ListN.{length, take, drop, replicate, length-append}
 use lib.Seq.{drop-at}
-use lib.Dec.{eqb}
 use Rattle.rfc3550.specs.Packet.{Item, itemType, itemRest, itemBytes, itemsBytes, isCname, fill, Chunk, chunkBytes, All, ItemValid, ChunkValid, receiver, sender, no-reason, reason, Content, report, sdes, bye, app, unknown, Packet as Read, contentBytes, layout, ContentValid, Valid}
 use Rattle.rfc3550.specs.Read.{Kind, least, kindFor, readItem, readAs}
 use Rattle.rfc3550.proofs.Places.{padding-at, report-body, extension-at, leaving-body, reason-at, tail-at, silent-body, app-body, name-at, data-at, body-at}

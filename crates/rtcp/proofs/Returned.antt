@@ -33,7 +33,7 @@ use Rattle.compound.specs.Compound.{walkAt, stepView}
 use Rattle.rtcp.specs.Sdes.{chunkWalkResult, chunkStepResult, itemWalkResult, itemStepResult}
 use Rattle.rtcp.specs.Compound.{numbersOf, walkResult, stepResult}
 use Rattle.rtcp.specs.WriteCompound.{writerIn, writerOut, stateAfter, callResult, calledOut}
-use Rattle.rtcp.specs.Returned.{packetSteps, packetSeen, packetTold, chunkSteps, chunkSeen, chunkTold, itemSteps, itemSeen, itemTold, Result, «rtcp_writer_add_rr», «rtcp_writer_add_sr», «rtcp_writer_add_sdes», «rtcp_writer_add_bye», «rtcp_writer_add_app», «rtcp_writer_close», answered, writers}
+use Rattle.rtcp.specs.Returned.{packetSteps, packetShown, packetDue, chunkSteps, chunkShown, chunkDue, itemSteps, itemShown, itemDue, Result, added, «rtcp_writer_close», answered, writers}
 use Rattle.rtcp.specs.declared.read_compound.RtcpWalk.{RtcpWalk}
 use Rattle.rtcp.specs.declared.read_compound.RtcpStep.{RtcpStep}
 use Rattle.rtcp.specs.declared.read_sdes.RtcpChunkWalk.{RtcpChunkWalk}
@@ -48,7 +48,7 @@ use Rattle.rtcp.proofs.WriteCalls.{writerIn-writerOut}
 -- ---- a datagram
 
 module _ (s : List ℕ) (h : Bytes s) where
-  packet-shown : (at : ℕ) (a : Answer (Read × ℕ)) → step s at ≡ a → packetSeen s at (stepResult at (mapOk stepView a)) ≡ packetTold (gave a)
+  packet-shown : (at : ℕ) (a : Answer (Read × ℕ)) → step s at ≡ a → packetShown s at (stepResult at (mapOk stepView a)) ≡ packetDue (gave a)
   unfolding mapOk
   packet-shown at (ok x) e = ap (λ (b : List ℕ). ((0, 0, 0), numbersOf (packetView (x .0)), b)) (packet-at s at h x e)
   packet-shown at (refused r) e = refl
@@ -66,15 +66,15 @@ module _ (s : List ℕ) (h : Bytes s) where
 
   -- from a walk that `rtcp_walk_open` returned on a datagram that is accepted
   pub packets-returned : (ps : List Read) → readCompound s ≡ ok ps → (o : RtcpWalk) → o ≡ walkResult (mapOk walkAt (openWalk s))
-      → (o .number ≡ 0) × ((rs : List RtcpStep) → Ran (packetSteps s) rs (o .at) → seenOf (packetSteps s) (packetSeen s) rs (o .at) ≡ firsts (length rs) (λ (i : ℕ). packetTold (nth i ps)))
+      → (o .number ≡ 0) × ((rs : List RtcpStep) → Ran (packetSteps s) rs (o .at) → seenOf (packetSteps s) (packetShown s) rs (o .at) ≡ firsts (length rs) (λ (i : ℕ). packetDue (nth i ps)))
   unfolding mapOk
   packets-returned ps e o q =
       let g = walking s ps h e in
       let z : o ≡ walkResult (ok (walkAt 0)) = q ∙ ap (λ (a : Answer ℕ). walkResult (mapOk walkAt a)) (g .0) in (
         ap (λ (o : RtcpWalk). o .number) z,
-        runs (packetSteps s) (λ at. Unit {0}) (step s) (λ at. at) (packetSeen s) packetTold
+        runs (packetSteps s) (λ at. Unit {0}) (step s) (λ at. at) (packetShown s) packetDue
             (record {
-              shows = λ at r u m. ap (packetSeen s at) m ∙ packet-shown at (step s at) refl;
+              shows = λ at r u m. ap (packetShown s at) m ∙ packet-shown at (step s at) refl;
               moves = λ at r u m. (tt, ap (λ (r : RtcpStep). r .at) m ∙ packet-moved at (step s at));
             }) (o .at) ps tt (λ i. ap (λ (n : ℕ). gave (step s (walked (step s) n i))) (ap (λ (o : RtcpWalk). o .at) z) ∙ g .1 i),
       )
@@ -89,7 +89,7 @@ chunks-opened s o q z =
     (sym (opened-number chunkWalk (λ (p : Read). record { at = 4; end = length s - length (p .padding) }) (readAs SDES s)) ∙ sym (ap (λ (o : RtcpChunkWalk). o .number) q) ∙ z)
 
 module _ (s : List ℕ) (h : Bytes s) (p : Read) (e : readAs SDES s ≡ ok p) where
-  chunk-shown : (w : SdesWalk) (a : Answer (Chunk × SdesWalk)) → sdesStep s w ≡ a → chunkSeen s w (chunkStepResult (w .at) (w .end) (mapOk chunkStepped a)) ≡ chunkTold (gave a)
+  chunk-shown : (w : SdesWalk) (a : Answer (Chunk × SdesWalk)) → sdesStep s w ≡ a → chunkShown s w (chunkStepResult (w .at) (w .end) (mapOk chunkStepped a)) ≡ chunkDue (gave a)
   unfolding mapOk
   chunk-shown w (ok x) q =
       ap (λ (b : List ℕ). ((0, 0, 0), (x .0 .ssrc, length (chunkBytes (x .0)), cnamePlace 4 (x .0 .items)), b))
@@ -105,15 +105,15 @@ module _ (s : List ℕ) (h : Bytes s) (p : Read) (e : readAs SDES s ≡ ok p) wh
   pub chunks-returned : (o : RtcpChunkWalk) → o ≡ chunkWalkResult (mapOk chunkWalk (openSdes s))
       → (o .number ≡ 0)
       × ((rs : List RtcpChunkStep) → Ran (chunkSteps s) rs (record { at = o .at; end = o .end })
-      → seenOf (chunkSteps s) (chunkSeen s) rs (record { at = o .at; end = o .end }) ≡ firsts (length rs) (λ (i : ℕ). chunkTold (nth i (chunksOf (p .content)))))
+      → seenOf (chunkSteps s) (chunkShown s) rs (record { at = o .at; end = o .end }) ≡ firsts (length rs) (λ (i : ℕ). chunkDue (nth i (chunksOf (p .content)))))
   unfolding mapOk
   chunks-returned o q =
       let g = walking-chunks s p h e in
       let z : o ≡ chunkWalkResult (ok (chunkWalk (g .0))) = q ∙ ap (λ (a : Answer SdesWalk). chunkWalkResult (mapOk chunkWalk a)) (g .1) in (
         ap (λ (o : RtcpChunkWalk). o .number) z,
-        runs (chunkSteps s) (λ w. Unit {0}) (sdesStep s) (λ w. w) (chunkSeen s) chunkTold
+        runs (chunkSteps s) (λ w. Unit {0}) (sdesStep s) (λ w. w) (chunkShown s) chunkDue
             (record {
-              shows = λ w r u m. ap (chunkSeen s w) m ∙ chunk-shown w (sdesStep s w) refl;
+              shows = λ w r u m. ap (chunkShown s w) m ∙ chunk-shown w (sdesStep s w) refl;
               moves = λ w r u m. (tt, ap (λ (r : RtcpChunkStep). record { at = r .at; end = r .end }) m ∙ chunk-moved w (sdesStep s w));
             }) (record { at = o .at; end = o .end }) (chunksOf (p .content)) tt
             (λ i. ap (λ (w : SdesWalk). gave (sdesStep s (walked (sdesStep s) w i))) (ap (λ (o : RtcpChunkWalk). record { at = o .at; end = o .end }) z) ∙ g .2 i),
@@ -122,19 +122,19 @@ module _ (s : List ℕ) (h : Bytes s) (p : Read) (e : readAs SDES s ≡ ok p) wh
 -- ---- a chunk's items
 
 -- the places of an item that stands at `at`
-item-told : (s pre r : List ℕ) (at to : ℕ) (i : Item) → length pre ≡ at → pre ++ (itemBytes i ++ r) ≡ s → isPriv i ≡ eqb (itemType i) 8
-    → itemSeen s at (itemStepResult at (ok (itemView i, itemWalk to))) ≡ itemTold (ok i)
-item-told s pre r at to (item t v) n e k =
+item-fields : (s pre r : List ℕ) (at to : ℕ) (i : Item) → length pre ≡ at → pre ++ (itemBytes i ++ r) ≡ s → isPriv i ≡ eqb (itemType i) 8
+    → itemShown s at (itemStepResult at (ok (itemView i, itemWalk to))) ≡ itemDue (ok i)
+item-fields s pre r at to (item t v) n e k =
     let a : at + (2 + 0) ≡ at + 2 = refl in
     let m : 2 + length v - 2 ≡ length v = omega arith in
     rw (sym k, m, value-at pre at n v r t e)
-item-told s pre r at to (priv p v) n e k =
+item-fields s pre r at to (priv p v) n e k =
     let a : at + (3 + length p) ≡ at + 3 + length p = omega arith in
     let m : 2 + suc (length (p ++ v)) - (3 + length p) ≡ length v = rw (length-append p v) (omega arith) in
     rw (a, m, prefix-at pre at n v r p e, priv-value-at pre at n v r p e)
 
 module _ (s : List ℕ) (h : Bytes s) where
-  item-shown : (at : ℕ) (a : Answer (Item × ℕ)) → itemStep s at ≡ a → itemSeen s at (itemStepResult at (mapOk itemStepped a)) ≡ itemTold (gave a)
+  item-shown : (at : ℕ) (a : Answer (Item × ℕ)) → itemStep s at ≡ a → itemShown s at (itemStepResult at (mapOk itemStepped a)) ≡ itemDue (gave a)
   unfolding mapOk itemStep
   item-shown at (refused r) e = refl
   item-shown at (ok x) e =
@@ -144,8 +144,8 @@ module _ (s : List ℕ) (h : Bytes s) where
       bind-elim (readItem (drop at s)) _ (b .1) (λ y q e₁.
       let z : y .0 ≡ x .0 = ap (λ (x : Item × ℕ). x .0) (ok-injective e₁) in
       let g = item-in (drop at s) q in
-      subst (λ (i : Item). itemSeen s at (itemStepResult at (ok (itemView i, itemWalk (x .1)))) ≡ itemTold (ok i)) z
-      (item-told s (take at s) (y .1) at (x .1) (y .0) (length-take-le at s (omega arith)) (ap (λ (l : List ℕ). take at s ++ l) (g .bytes) ∙ take-append-drop at s) (g .kind)))
+      subst (λ (i : Item). itemShown s at (itemStepResult at (ok (itemView i, itemWalk (x .1)))) ≡ itemDue (ok i)) z
+      (item-fields s (take at s) (y .1) at (x .1) (y .0) (length-take-le at s (omega arith)) (ap (λ (l : List ℕ). take at s ++ l) (g .bytes) ∙ take-append-drop at s) (g .kind)))
 
   item-moved : (at : ℕ) (a : Answer (Item × ℕ)) → itemStepResult at (mapOk itemStepped a) .at ≡ moved at a
   unfolding mapOk
@@ -160,15 +160,15 @@ module _ (s : List ℕ) (h : Bytes s) where
 
   -- from a walk that `rtcp_item_walk_open` returned on a chunk that is accepted
   pub items-returned : (x : Chunk × List ℕ) → readChunk s ≡ ok x → (o : RtcpItemWalk) → o ≡ itemWalkResult (mapOk itemWalk (openItems s))
-      → (o .number ≡ 0) × ((rs : List RtcpItemStep) → Ran (itemSteps s) rs (o .at) → seenOf (itemSteps s) (itemSeen s) rs (o .at) ≡ firsts (length rs) (λ (i : ℕ). itemTold (nth i (x .0 .items))))
+      → (o .number ≡ 0) × ((rs : List RtcpItemStep) → Ran (itemSteps s) rs (o .at) → seenOf (itemSteps s) (itemShown s) rs (o .at) ≡ firsts (length rs) (λ (i : ℕ). itemDue (nth i (x .0 .items))))
   unfolding mapOk
   items-returned x e o q =
       let g = walking-items s x h e in
       let z : o ≡ itemWalkResult (ok (itemWalk 4)) = q ∙ ap (λ (a : Answer ℕ). itemWalkResult (mapOk itemWalk a)) (g .0) in (
         ap (λ (o : RtcpItemWalk). o .number) z,
-        runs (itemSteps s) (λ at. Unit {0}) (itemStep s) (λ at. at) (itemSeen s) itemTold
+        runs (itemSteps s) (λ at. Unit {0}) (itemStep s) (λ at. at) (itemShown s) itemDue
             (record {
-              shows = λ at r u m. ap (itemSeen s at) m ∙ item-shown at (itemStep s at) refl;
+              shows = λ at r u m. ap (itemShown s at) m ∙ item-shown at (itemStep s at) refl;
               moves = λ at r u m. (tt, ap (λ (r : RtcpItemStep). r .at) m ∙ item-moved at (itemStep s at));
             }) (o .at) (x .0 .items) tt (λ i. ap (λ (n : ℕ). gave (itemStep s (walked (itemStep s) n i))) (ap (λ (o : RtcpItemWalk). o .at) z) ∙ g .1 i),
       )
@@ -189,11 +189,7 @@ called-in w q l state out r m =
     ∙ back-in w (call q (writerIn w) l .0) (call q (writerIn w) l .1) (call q (writerIn w) l .2) (call-nonzero q (writerIn w) l) (λ r e. refused-call q (writerIn w) l r e .0)
 
 calls : rfc.Calls writers
-calls w («rtcp_writer_add_rr» ssrc fractions losses words padding buf r state out) m = called-in w _ buf state out r m
-calls w («rtcp_writer_add_sr» ssrc ntp rtp packets octets fractions losses words padding buf r state out) m = called-in w _ buf state out r m
-calls w («rtcp_writer_add_sdes» ssrcs counts types prefixes values bytes padding buf r state out) m = called-in w _ buf state out r m
-calls w («rtcp_writer_add_bye» sources reason padding buf r state out) m = called-in w _ buf state out r m
-calls w («rtcp_writer_add_app» subtype ssrc name d padding buf r state out) m = called-in w _ buf state out r m
+calls w (added g buf r state out) m = called-in w _ buf state out r m
 calls w («rtcp_writer_close» r state) m = called-in w _ [] state [] r m
 
 -- for every list of results of the C functions of the writer, from the state that `rtcp_writer_new` left: as for those of compound_write

@@ -23,10 +23,4 @@ byeResult a =
     }
 
 abbrev pub sourceResult : Answer ℕ → RtcpSource
-sourceResult a =
-    record {
-      number = numberOf a;
-      first = firstOf a;
-      second = secondOf a;
-      ssrc = field (λ x. x) a;
-    }
+sourceResult a = record { number = numberOf a; first = firstOf a; second = secondOf a; ssrc = field (λ x. x) a }

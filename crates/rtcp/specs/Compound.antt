@@ -77,22 +77,10 @@ numbersOf (packet.Unknown x) = unknownNumbers x
 -- ---- a datagram, and its walk
 
 abbrev pub compoundResult : Answer Compound → RtcpCompound
-compoundResult a =
-    record {
-      number = numberOf a;
-      first = firstOf a;
-      second = secondOf a;
-      «n_packets» = field (λ x. x .«n_packets») a;
-    }
+compoundResult a = record { number = numberOf a; first = firstOf a; second = secondOf a; «n_packets» = field (λ x. x .«n_packets») a }
 
 abbrev pub walkResult : Answer Walk → RtcpWalk
-walkResult a =
-    record {
-      number = numberOf a;
-      first = firstOf a;
-      second = secondOf a;
-      at = field (λ x. x .at) a;
-    }
+walkResult a = record { number = numberOf a; first = firstOf a; second = secondOf a; at = field (λ x. x .at) a }
 
 -- the packet has `len` bytes from `offset`; every other place is counted from its start
 abbrev pub stepResult : ℕ → Answer (Packet × Walk) → RtcpStep

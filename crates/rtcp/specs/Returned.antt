@@ -8,7 +8,7 @@ use Rattle.rfc3550.specs.Answer.{Answer, ok, refused, refuse, mapOk, pick}
 use Rattle.rfc3550.specs.Loss.{Loss}
 use Rattle.rfc3550.specs.Packet.{receiver, sender, Item, item, priv, itemType, itemRest, Chunk, chunkBytes, Packet as Read, layout}
 use Rattle.rfc3550.specs.Walk.{step, SdesWalk, sdesStep, itemStep}
-use Rattle.rfc3550.specs.Write.{giveReport, giveSdes, giveBye, giveApp}
+use Rattle.rfc3550.specs.Write.{Given, giveReport, giveSdes, giveBye, giveApp}
 use Rattle.rfc3550.specs.Writer.{Request, add, close, call}
 use Rattle.rfc3550.specs.Claim.{compounds}
 use Rattle.rfc3550.specs.Returned.{Stepper, Caller}
@@ -47,100 +47,87 @@ numbersIn r =
     numbers (r .kind) (r .«packet_type») (r .count) (r .body) (r .«padding_len») (r .ssrc) (r .«ntp_timestamp») (r .«rtp_timestamp») (r .«packet_count»)
     (r .«octet_count») (r .extension) (r .«has_cname») (r .«has_reason») (r .reason) (r .«reason_len»)
 
-abbrev pub packetSeen : List ℕ → ℕ → RtcpStep → Said × PacketNumbers × List ℕ
-packetSeen s at r = ((r .number, r .first, r .second), numbersIn r, take (r .len) (drop (r .offset) s))
+abbrev pub packetShown : List ℕ → ℕ → RtcpStep → Said × PacketNumbers × List ℕ
+packetShown s at r = ((r .number, r .first, r .second), numbersIn r, take (r .len) (drop (r .offset) s))
 
 -- on a refusal all but its numbers is 0
-abbrev pub packetTold : Answer Read → Said × PacketNumbers × List ℕ
-packetTold (ok p) = ((0, 0, 0), numbersOf (packetView p), layout p)
-packetTold (refused r) = (said {A = Read} (refused r), bareNumbers 0 0 0 0, [])
+abbrev pub packetDue : Answer Read → Said × PacketNumbers × List ℕ
+packetDue (ok p) = ((0, 0, 0), numbersOf (packetView p), layout p)
+packetDue (refused r) = (said {A = Read} (refused r), bareNumbers 0 0 0 0, [])
 
 -- ---- rtcp_chunk_walk_step: SSRC, length, place of the first CNAME, and the bytes at the walk's place
 
 abbrev pub chunkSteps : List ℕ → Stepper
 chunkSteps s = record { H = SdesWalk; R = RtcpChunkStep; Meets = λ w r. r ≡ chunkStepResult (w .at) (w .end) (mapOk chunkStepped (sdesStep s w)); next = λ w r. record { at = r .at; end = r .end } }
 
-abbrev pub chunkSeen : List ℕ → SdesWalk → RtcpChunkStep → Said × Said × List ℕ
-chunkSeen s w r = ((r .number, r .first, r .second), (r .ssrc, r .length, r .cname), take (r .length) (drop (w .at) s))
+abbrev pub chunkShown : List ℕ → SdesWalk → RtcpChunkStep → Said × Said × List ℕ
+chunkShown s w r = ((r .number, r .first, r .second), (r .ssrc, r .length, r .cname), take (r .length) (drop (w .at) s))
 
-abbrev pub chunkTold : Answer Chunk → Said × Said × List ℕ
-chunkTold (ok c) = ((0, 0, 0), (c .ssrc, length (chunkBytes c), cnamePlace 4 (c .items)), chunkBytes c)
-chunkTold (refused r) = (said {A = Chunk} (refused r), (0, 0, 0), [])
+abbrev pub chunkDue : Answer Chunk → Said × Said × List ℕ
+chunkDue (ok c) = ((0, 0, 0), (c .ssrc, length (chunkBytes c), cnamePlace 4 (c .items)), chunkBytes c)
+chunkDue (refused r) = (said {A = Chunk} (refused r), (0, 0, 0), [])
 
 -- ---- rtcp_item_walk_step: type, length, and the bytes at the places of prefix and value
 
 abbrev pub itemSteps : List ℕ → Stepper
 itemSteps s = record { H = ℕ; R = RtcpItemStep; Meets = λ at r. r ≡ itemStepResult at (mapOk itemStepped (itemStep s at)); next = λ at r. r .at }
 
-abbrev pub itemSeen : List ℕ → ℕ → RtcpItemStep → Said × ℕ × ℕ × List ℕ × List ℕ
-itemSeen s at r = ((r .number, r .first, r .second), r .«type_», r .length, take (r .«prefix_len») (drop (r .prefix) s), take (r .«value_len») (drop (r .value) s))
+abbrev pub itemShown : List ℕ → ℕ → RtcpItemStep → Said × ℕ × ℕ × List ℕ × List ℕ
+itemShown s at r = ((r .number, r .first, r .second), r .«type_», r .length, take (r .«prefix_len») (drop (r .prefix) s), take (r .«value_len») (drop (r .value) s))
 
 abbrev pub prefixBytes : Item → List ℕ
 prefixBytes (item t v) = []
 prefixBytes (priv p v) = p
 
-abbrev pub itemTold : Answer Item → Said × ℕ × ℕ × List ℕ × List ℕ
-itemTold (ok i) = ((0, 0, 0), itemType i, length (itemRest i), prefixBytes i, valueOf i)
-itemTold (refused r) = (said {A = Item} (refused r), 0, 0, [], [])
+abbrev pub itemDue : Answer Item → Said × ℕ × ℕ × List ℕ × List ℕ
+itemDue (ok i) = ((0, 0, 0), itemType i, length (itemRest i), prefixBytes i, valueOf i)
+itemDue (refused r) = (said {A = Item} (refused r), 0, 0, [], [])
 
--- ---- the writer's functions: one constructor for each, with its arguments, the buffer at entry, what it returned, and the state and the buffer at exit
+-- ---- the writer's functions that add, each with its arguments
 
+pub data Adding : Type 0 where
+  «rtcp_writer_add_rr» : ℕ → List ℕ → List Loss → List ℕ → ℕ → Adding
+  «rtcp_writer_add_sr» : ℕ → ℕ → ℕ → ℕ → ℕ → List ℕ → List Loss → List ℕ → ℕ → Adding
+  «rtcp_writer_add_sdes» : List ℕ → List ℕ → List ℕ → List ℕ → List ℕ → List ℕ → ℕ → Adding
+  «rtcp_writer_add_bye» : List ℕ → List ℕ → ℕ → Adding
+  «rtcp_writer_add_app» : ℕ → ℕ → List ℕ → List ℕ → ℕ → Adding
+
+abbrev pub given : Adding → Given
+given («rtcp_writer_add_rr» ssrc fractions losses words padding) = giveReport (receiver ssrc) (blockLists fractions losses words) padding
+given («rtcp_writer_add_sr» ssrc ntp rtp packets octets fractions losses words padding) = giveReport (sender ssrc ntp rtp packets octets) (blockLists fractions losses words) padding
+given («rtcp_writer_add_sdes» ssrcs counts types prefixes values bytes padding) = giveSdes (lists ssrcs counts types prefixes values bytes) padding
+given («rtcp_writer_add_bye» sources reason padding) = giveBye sources reason padding
+given («rtcp_writer_add_app» subtype ssrc name d padding) = giveApp subtype ssrc name d padding
+
+-- what a call returned: for one that adds, its function and arguments, the buffer at entry, the answer, and the state and the buffer at exit
 pub data Result : Type 0 where
-  «rtcp_writer_add_rr» : ℕ → List ℕ → List Loss → List ℕ → ℕ → List ℕ → RtcpCall → List ℕ → List ℕ → Result
-  «rtcp_writer_add_sr» : ℕ → ℕ → ℕ → ℕ → ℕ → List ℕ → List Loss → List ℕ → ℕ → List ℕ → RtcpCall → List ℕ → List ℕ → Result
-  «rtcp_writer_add_sdes» : List ℕ → List ℕ → List ℕ → List ℕ → List ℕ → List ℕ → ℕ → List ℕ → RtcpCall → List ℕ → List ℕ → Result
-  «rtcp_writer_add_bye» : List ℕ → List ℕ → ℕ → List ℕ → RtcpCall → List ℕ → List ℕ → Result
-  «rtcp_writer_add_app» : ℕ → ℕ → List ℕ → List ℕ → ℕ → List ℕ → RtcpCall → List ℕ → List ℕ → Result
+  added : Adding → List ℕ → RtcpCall → List ℕ → List ℕ → Result
   «rtcp_writer_close» : RtcpCall → List ℕ → Result
 
 -- what was asked for, the buffer lent, what was returned, the state and the buffer left; a close is lent no buffer
 abbrev pub request : Result → Request
-request («rtcp_writer_add_rr» ssrc fractions losses words padding buf r state out) = add (giveReport (receiver ssrc) (blockLists fractions losses words) padding)
-request («rtcp_writer_add_sr» ssrc ntp rtp packets octets fractions losses words padding buf r state out) = add (giveReport (sender ssrc ntp rtp packets octets) (blockLists fractions losses words) padding)
-request («rtcp_writer_add_sdes» ssrcs counts types prefixes values bytes padding buf r state out) = add (giveSdes (lists ssrcs counts types prefixes values bytes) padding)
-request («rtcp_writer_add_bye» sources reason padding buf r state out) = add (giveBye sources reason padding)
-request («rtcp_writer_add_app» subtype ssrc name d padding buf r state out) = add (giveApp subtype ssrc name d padding)
+request (added g buf r state out) = add (given g)
 request («rtcp_writer_close» r state) = close
 
 abbrev pub lent : Result → List ℕ
-lent («rtcp_writer_add_rr» ssrc fractions losses words padding buf r state out) = buf
-lent («rtcp_writer_add_sr» ssrc ntp rtp packets octets fractions losses words padding buf r state out) = buf
-lent («rtcp_writer_add_sdes» ssrcs counts types prefixes values bytes padding buf r state out) = buf
-lent («rtcp_writer_add_bye» sources reason padding buf r state out) = buf
-lent («rtcp_writer_add_app» subtype ssrc name d padding buf r state out) = buf
+lent (added g buf r state out) = buf
 lent («rtcp_writer_close» r state) = []
 
 abbrev pub gave : Result → RtcpCall
-gave («rtcp_writer_add_rr» ssrc fractions losses words padding buf r state out) = r
-gave («rtcp_writer_add_sr» ssrc ntp rtp packets octets fractions losses words padding buf r state out) = r
-gave («rtcp_writer_add_sdes» ssrcs counts types prefixes values bytes padding buf r state out) = r
-gave («rtcp_writer_add_bye» sources reason padding buf r state out) = r
-gave («rtcp_writer_add_app» subtype ssrc name d padding buf r state out) = r
+gave (added g buf r state out) = r
 gave («rtcp_writer_close» r state) = r
 
 abbrev pub stateLeft : Result → List ℕ
-stateLeft («rtcp_writer_add_rr» ssrc fractions losses words padding buf r state out) = state
-stateLeft («rtcp_writer_add_sr» ssrc ntp rtp packets octets fractions losses words padding buf r state out) = state
-stateLeft («rtcp_writer_add_sdes» ssrcs counts types prefixes values bytes padding buf r state out) = state
-stateLeft («rtcp_writer_add_bye» sources reason padding buf r state out) = state
-stateLeft («rtcp_writer_add_app» subtype ssrc name d padding buf r state out) = state
+stateLeft (added g buf r state out) = state
 stateLeft («rtcp_writer_close» r state) = state
 
 abbrev pub left : Result → List ℕ
-left («rtcp_writer_add_rr» ssrc fractions losses words padding buf r state out) = out
-left («rtcp_writer_add_sr» ssrc ntp rtp packets octets fractions losses words padding buf r state out) = out
-left («rtcp_writer_add_sdes» ssrcs counts types prefixes values bytes padding buf r state out) = out
-left («rtcp_writer_add_bye» sources reason padding buf r state out) = out
-left («rtcp_writer_add_app» subtype ssrc name d padding buf r state out) = out
+left (added g buf r state out) = out
 left («rtcp_writer_close» r state) = []
 
 -- each function's own ensures, from the state that it was lent
 abbrev pub Meets : List ℕ → Result → Type 0
-Meets writer («rtcp_writer_add_rr» ssrc fractions losses words padding buf r state out) = (r, state, out) ≡ calledOut writer (call (add (giveReport (receiver ssrc) (blockLists fractions losses words) padding)) (writerIn writer) buf)
-Meets writer («rtcp_writer_add_sr» ssrc ntp rtp packets octets fractions losses words padding buf r state out) = (r, state, out) ≡ calledOut writer (call (add (giveReport (sender ssrc ntp rtp packets octets) (blockLists fractions losses words) padding)) (writerIn writer) buf)
-Meets writer («rtcp_writer_add_sdes» ssrcs counts types prefixes values bytes padding buf r state out) = (r, state, out) ≡ calledOut writer (call (add (giveSdes (lists ssrcs counts types prefixes values bytes) padding)) (writerIn writer) buf)
-Meets writer («rtcp_writer_add_bye» sources reason padding buf r state out) = (r, state, out) ≡ calledOut writer (call (add (giveBye sources reason padding)) (writerIn writer) buf)
-Meets writer («rtcp_writer_add_app» subtype ssrc name d padding buf r state out) = (r, state, out) ≡ calledOut writer (call (add (giveApp subtype ssrc name d padding)) (writerIn writer) buf)
+Meets writer (added g buf r state out) = (r, state, out) ≡ calledOut writer (call (add (given g)) (writerIn writer) buf)
 Meets writer («rtcp_writer_close» r state) = (r, state, []) ≡ calledOut writer (call close (writerIn writer) [])
 
 -- 0 is done

@@ -63,14 +63,7 @@ itemResult a =
 
 -- from the prefix's length
 abbrev pub prefixResult : Answer ℕ → RtcpPart
-prefixResult a =
-    record {
-      number = numberOf a;
-      first = firstOf a;
-      second = secondOf a;
-      offset = field (λ x. 3) a;
-      len = field (λ x. x) a;
-    }
+prefixResult a = record { number = numberOf a; first = firstOf a; second = secondOf a; offset = field (λ x. 3) a; len = field (λ x. x) a }
 
 -- ---- chunks
 
@@ -88,14 +81,7 @@ chunkResult a =
 -- ---- walks
 
 abbrev pub chunkWalkResult : Answer ChunkWalk → RtcpChunkWalk
-chunkWalkResult a =
-    record {
-      number = numberOf a;
-      first = firstOf a;
-      second = secondOf a;
-      at = field (λ x. x .at) a;
-      end = field (λ x. x .end) a;
-    }
+chunkWalkResult a = record { number = numberOf a; first = firstOf a; second = secondOf a; at = field (λ x. x .at) a; end = field (λ x. x .end) a }
 
 abbrev pub chunkStepResult : ℕ → ℕ → Answer (SdesChunk × ChunkWalk) → RtcpChunkStep
 chunkStepResult at end a =
@@ -111,13 +97,7 @@ chunkStepResult at end a =
     }
 
 abbrev pub itemWalkResult : Answer ItemWalk → RtcpItemWalk
-itemWalkResult a =
-    record {
-      number = numberOf a;
-      first = firstOf a;
-      second = secondOf a;
-      at = field (λ x. x .at) a;
-    }
+itemWalkResult a = record { number = numberOf a; first = firstOf a; second = secondOf a; at = field (λ x. x .at) a }
 
 abbrev pub itemStepResult : ℕ → Answer (SdesItem × ItemWalk) → RtcpItemStep
 itemStepResult at a =

@@ -6,13 +6,7 @@ use Rattle.rtcp.specs.declared.write_result.RtcpWritten.{RtcpWritten}
 use Rattle.rtcp.specs.Result.{numberOf, firstOf, secondOf, field}
 
 abbrev pub writtenOut : Answer ℕ → RtcpWritten
-writtenOut a =
-    record {
-      number = numberOf a;
-      first = firstOf a;
-      second = secondOf a;
-      size = field (λ n. n) a;
-    }
+writtenOut a = record { number = numberOf a; first = firstOf a; second = secondOf a; size = field (λ n. n) a }
 
 abbrev pub handedOut : Answer ℕ × List ℕ → RtcpWritten × List ℕ
 handedOut w = (writtenOut (w .0), w .1)

@@ -1,8 +1,7 @@
 use Rattle.bye.proofs.Writes.{writes, reason-long}
 use Rattle.bye.proofs.write.reason_size.Tie as tie
 
-returns-2 : tie.Need-returns-2
-returns-2 c = reason-long (c .before .args .reason .now) (c .before .pre) (c .if1 .left)
-
 pub reason-size-spec : {M : Type 1} → Rattle.bye.proofs.write.reason_size.Statement.statement M
-reason-size-spec {M} = let answers = tie.spec {M = M} (λ c. search writes) (λ c. search writes) (λ c. search writes) returns-2 in tie.close answers
+reason-size-spec {M} =
+    let answers = tie.spec {M = M} (λ c. search writes) (λ c. search writes) (λ c. search writes)
+    (λ c. reason-long (c .before .args .reason .now) (c .before .pre) (c .if1 .left)) in tie.close answers

@@ -9,12 +9,8 @@ Inv-loop buf₀ at sources n i₀ buf i = Sources at sources buf₀ i buf
 abbrev μ-loop : tie.MeasureT-loop
 μ-loop buf₀ at sources n i₀ buf i = length sources - i
 
-shared-slice-read-write-u32-unchecked :
-    tie.Need-shared-slice-read-write-u32-unchecked Inv-loop μ-loop
-shared-slice-read-write-u32-unchecked c = search writes
-
 pub write-sources-spec : {M : Type 1} → Rattle.bye.proofs.write.write_sources.Statement.statement M
 write-sources-spec {M} =
     let answers = tie.spec {M = M} Inv-loop μ-loop (λ c. search writes) (λ c. search writes) (λ c. search writes) (λ c. search writes)
-    shared-slice-read-write-u32-unchecked (λ c κs. search writes) (λ c. search writes) (λ c. search writes) (λ c. search writes) (λ c. search writes)
+    (λ c. search writes) (λ c κs. search writes) (λ c. search writes) (λ c. search writes) (λ c. search writes) (λ c. search writes)
     (λ c. search writes) in tie.close answers

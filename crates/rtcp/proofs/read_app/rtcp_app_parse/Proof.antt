@@ -4,16 +4,10 @@ use Rattle.app.specs.declared.ParsedApp.the-variants as parsed
 use Rattle.rtcp.specs.App.{appResult}
 use Rattle.rtcp.proofs.Results.{handed, turned}
 use Rattle.rtcp.proofs.Apps.{apps}
-use borrow.Author.Needs.{needs}
 use Rattle.rtcp.proofs.read_app.rtcp_app_parse.Tie as tie
-
-returns : tie.Need-returns
-returns c = search (needs, handed appResult parsedOf parsed.App (λ x. refl))
-
-returns-2 : tie.Need-returns-2
-returns-2 c = search (needs, turned appResult parsedOf parsed.Refused (λ e. refl) (c .code .result))
 
 pub rtcp-app-parse-spec : {M : Type 1} → Rattle.rtcp.proofs.read_app.rtcp_app_parse.Statement.statement M
 rtcp-app-parse-spec {M} =
-    let answers = tie.spec {M = M} (λ c κs. search needs) (λ c. search needs) (λ c. search needs) (λ c. search needs) (λ c. search apps)
-    (λ c. search needs) (λ c κs. search needs) returns returns-2 in tie.close answers
+    let answers = tie.spec {M = M} (λ c κs. search apps) (λ c. search apps) (λ c. search apps) (λ c. search apps) (λ c. search apps)
+    (λ c. search apps) (λ c κs. search apps) (λ c. search (apps, handed appResult parsedOf parsed.App (λ x. refl)))
+    (λ c. search (apps, turned appResult parsedOf parsed.Refused (λ e. refl) (c .code .result))) in tie.close answers

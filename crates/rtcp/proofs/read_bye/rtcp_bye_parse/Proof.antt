@@ -4,16 +4,11 @@ use Rattle.bye.specs.declared.ParsedBye.the-variants as parsed
 use Rattle.rtcp.specs.Bye.{byeResult}
 use Rattle.rtcp.proofs.Results.{handed, turned}
 use Rattle.rtcp.proofs.Byes.{byes}
-use borrow.Author.Needs.{needs}
 use Rattle.rtcp.proofs.read_bye.rtcp_bye_parse.Tie as tie
-
-returns : tie.Need-returns
-returns c = rw (c .before .before .before .bit .ensures) (search (needs, handed byeResult parsedOf parsed.Bye (λ x. refl)))
-
-returns-2 : tie.Need-returns-2
-returns-2 c = search (needs, turned byeResult parsedOf parsed.Refused (λ e. refl) (c .code .result))
 
 pub rtcp-bye-parse-spec : {M : Type 1} → Rattle.rtcp.proofs.read_bye.rtcp_bye_parse.Statement.statement M
 rtcp-bye-parse-spec {M} =
-    let answers = tie.spec {M = M} (λ c κs. search needs) (λ c. search needs) (λ c κs. search needs) (λ c. search byes) (λ c. search byes)
-    (λ c. search byes) (λ c. search needs) (λ c κs. search needs) returns returns-2 in tie.close answers
+    let answers = tie.spec {M = M} (λ c κs. search byes) (λ c. search byes) (λ c κs. search byes) (λ c. search byes) (λ c. search byes)
+    (λ c. search byes) (λ c. search byes) (λ c κs. search byes)
+    (λ c. rw (c .before .before .before .bit .ensures) (search (byes, handed byeResult parsedOf parsed.Bye (λ x. refl))))
+    (λ c. search (byes, turned byeResult parsedOf parsed.Refused (λ e. refl) (c .code .result))) in tie.close answers

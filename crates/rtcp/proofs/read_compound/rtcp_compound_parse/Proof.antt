@@ -6,13 +6,8 @@ use Rattle.rtcp.proofs.Results.{handed, turned}
 use borrow.Author.Needs.{needs}
 use Rattle.rtcp.proofs.read_compound.rtcp_compound_parse.Tie as tie
 
-returns : tie.Need-returns
-returns c = search (needs, handed compoundResult parsedCompoundOf parsed.Compound (λ x. refl))
-
-returns-2 : tie.Need-returns-2
-returns-2 c = search (needs, turned compoundResult parsedCompoundOf parsed.Refused (λ e. refl) (c .code .result))
-
 pub rtcp-compound-parse-spec : {M : Type 1} → Rattle.rtcp.proofs.read_compound.rtcp_compound_parse.Statement.statement M
 rtcp-compound-parse-spec {M} =
-    let answers = tie.spec {M = M} (λ c κs. search needs) (λ c. search needs) (λ c. search needs) (λ c κs. search needs) returns returns-2
-    in tie.close answers
+    let answers = tie.spec {M = M} (λ c κs. search needs) (λ c. search needs) (λ c. search needs) (λ c κs. search needs)
+    (λ c. search (needs, handed compoundResult parsedCompoundOf parsed.Compound (λ x. refl)))
+    (λ c. search (needs, turned compoundResult parsedCompoundOf parsed.Refused (λ e. refl) (c .code .result))) in tie.close answers

@@ -4,8 +4,7 @@ use Rattle.rtcp.proofs.Results.{passed}
 use borrow.Author.Needs.{needs}
 use Rattle.rtcp.proofs.read_report.rtcp_rr_report_block.Tie as tie
 
-returns : tie.Need-returns
-returns c = search (needs, passed blockResult parsedBlockOf)
-
 pub rtcp-rr-report-block-spec : {M : Type 1} → Rattle.rtcp.proofs.read_report.rtcp_rr_report_block.Statement.statement M
-rtcp-rr-report-block-spec {M} = let answers = tie.spec {M = M} (λ c κs. search needs) (λ c κs. search needs) returns in tie.close answers
+rtcp-rr-report-block-spec {M} =
+    let answers = tie.spec {M = M} (λ c κs. search needs) (λ c κs. search needs) (λ c. search (needs, passed blockResult parsedBlockOf))
+    in tie.close answers

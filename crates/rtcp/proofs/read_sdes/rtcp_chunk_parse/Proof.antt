@@ -6,13 +6,8 @@ use Rattle.rtcp.proofs.Results.{handed, turned}
 use borrow.Author.Needs.{needs}
 use Rattle.rtcp.proofs.read_sdes.rtcp_chunk_parse.Tie as tie
 
-returns : tie.Need-returns
-returns c = search (needs, handed chunkResult parsedChunkOf parsed.Chunk (λ x. refl))
-
-returns-2 : tie.Need-returns-2
-returns-2 c = search (needs, turned chunkResult parsedChunkOf parsed.Refused (λ e. refl) (c .code .result))
-
 pub rtcp-chunk-parse-spec : {M : Type 1} → Rattle.rtcp.proofs.read_sdes.rtcp_chunk_parse.Statement.statement M
 rtcp-chunk-parse-spec {M} =
-    let answers = tie.spec {M = M} (λ c κs. search needs) (λ c. search needs) (λ c. search needs) (λ c. search needs) (λ c κs. search needs) returns
-    returns-2 in tie.close answers
+    let answers = tie.spec {M = M} (λ c κs. search needs) (λ c. search needs) (λ c. search needs) (λ c. search needs) (λ c κs. search needs)
+    (λ c. search (needs, handed chunkResult parsedChunkOf parsed.Chunk (λ x. refl)))
+    (λ c. search (needs, turned chunkResult parsedChunkOf parsed.Refused (λ e. refl) (c .code .result))) in tie.close answers

@@ -6,13 +6,8 @@ use Rattle.rtcp.proofs.Results.{handed, turned}
 use borrow.Author.Needs.{needs}
 use Rattle.rtcp.proofs.read_sdes.rtcp_chunk_walk_open.Tie as tie
 
-returns : tie.Need-returns
-returns c = search (needs, handed chunkWalkResult openedChunksOf parsed.Walk (λ x. refl))
-
-returns-2 : tie.Need-returns-2
-returns-2 c = search (needs, turned chunkWalkResult openedChunksOf parsed.Refused (λ e. refl) (c .code .result))
-
 pub rtcp-chunk-walk-open-spec : {M : Type 1} → Rattle.rtcp.proofs.read_sdes.rtcp_chunk_walk_open.Statement.statement M
 rtcp-chunk-walk-open-spec {M} =
-    let answers = tie.spec {M = M} (λ c κs. search needs) (λ c. search needs) (λ c. search needs) (λ c κs. search needs) returns returns-2
-    in tie.close answers
+    let answers = tie.spec {M = M} (λ c κs. search needs) (λ c. search needs) (λ c. search needs) (λ c κs. search needs)
+    (λ c. search (needs, handed chunkWalkResult openedChunksOf parsed.Walk (λ x. refl)))
+    (λ c. search (needs, turned chunkWalkResult openedChunksOf parsed.Refused (λ e. refl) (c .code .result))) in tie.close answers

@@ -4,13 +4,10 @@ use Rattle.sdes_chunk.specs.declared.item.ParsedItem.the-variants as parsed
 use Rattle.rtcp.specs.Sdes.{itemResult}
 use Rattle.rtcp.proofs.Results.{handed, turned}
 use Rattle.rtcp.proofs.Descriptions.{descriptions}
-use borrow.Author.Needs.{needs}
 use Rattle.rtcp.proofs.read_sdes.rtcp_item_parse.Tie as tie
-
-returns-2 : tie.Need-returns-2
-returns-2 c = search (needs, turned itemResult parsedItemOf parsed.Refused (λ e. refl) (c .code .result))
 
 pub rtcp-item-parse-spec : {M : Type 1} → Rattle.rtcp.proofs.read_sdes.rtcp_item_parse.Statement.statement M
 rtcp-item-parse-spec {M} =
-    let answers = tie.spec {M = M} (λ c κs. search needs) (λ c. search needs) (λ c κs. search descriptions) (λ c. search needs) (λ c. search needs)
-    (λ c κs. search needs) (λ c. rw (c .before .of .ensures) (search (needs, handed itemResult parsedItemOf parsed.Item (λ x. refl)))) returns-2 in tie.close answers
+    let answers = tie.spec {M = M} (λ c κs. search descriptions) (λ c. search descriptions) (λ c κs. search descriptions) (λ c. search descriptions) (λ c. search descriptions)
+    (λ c κs. search descriptions) (λ c. rw (c .before .of .ensures) (search (descriptions, handed itemResult parsedItemOf parsed.Item (λ x. refl))))
+    (λ c. search (descriptions, turned itemResult parsedItemOf parsed.Refused (λ e. refl) (c .code .result))) in tie.close answers

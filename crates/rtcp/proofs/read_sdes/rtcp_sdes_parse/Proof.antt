@@ -6,10 +6,8 @@ use Rattle.rtcp.proofs.Results.{handed, turned}
 use borrow.Author.Needs.{needs}
 use Rattle.rtcp.proofs.read_sdes.rtcp_sdes_parse.Tie as tie
 
-returns-2 : tie.Need-returns-2
-returns-2 c = search (needs, turned sdesResult parsedSdesOf parsed.Refused (λ e. refl) (c .code .result))
-
 pub rtcp-sdes-parse-spec : {M : Type 1} → Rattle.rtcp.proofs.read_sdes.rtcp_sdes_parse.Statement.statement M
 rtcp-sdes-parse-spec {M} =
     let answers = tie.spec {M = M} (λ c κs. search needs) (λ c. search needs) (λ c κs. search needs) (λ c. search needs) (λ c κs. search needs)
-    (λ c. rw (c .bit .ensures) (search (needs, handed sdesResult parsedSdesOf parsed.Sdes (λ x. refl)))) returns-2 in tie.close answers
+    (λ c. rw (c .bit .ensures) (search (needs, handed sdesResult parsedSdesOf parsed.Sdes (λ x. refl))))
+    (λ c. search (needs, turned sdesResult parsedSdesOf parsed.Refused (λ e. refl) (c .code .result))) in tie.close answers

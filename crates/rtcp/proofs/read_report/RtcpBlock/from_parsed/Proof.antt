@@ -6,13 +6,9 @@ use Rattle.rtcp.proofs.Results.{handed, turned}
 use borrow.Author.Needs.{needs}
 use Rattle.rtcp.proofs.read_report.RtcpBlock.from_parsed.Tie as tie
 
-returns : tie.Need-returns
-returns c = search (needs, refl, handed blockResult parsedBlockOf parsed.Block (λ x. refl))
-
-returns-2 : tie.Need-returns-2
-returns-2 c = search (needs, refl, turned blockResult parsedBlockOf parsed.Refused (λ e. refl) (c .code .result))
-
 pub from-parsed-spec : {M : Type 1} → Rattle.rtcp.proofs.read_report.RtcpBlock.from_parsed.Statement.statement M
 from-parsed-spec {M} =
     let answers = tie.spec {M = M} (λ c. search needs) (λ c. search needs) (λ c. search needs) (λ c. search needs) (λ c. search needs)
-    (λ c. search needs) (λ c. search needs) (λ c. search needs) (λ c. search needs) (λ c κs. search needs) returns returns-2 in tie.close answers
+    (λ c. search needs) (λ c. search needs) (λ c. search needs) (λ c. search needs) (λ c κs. search needs)
+    (λ c. search (needs, refl, handed blockResult parsedBlockOf parsed.Block (λ x. refl)))
+    (λ c. search (needs, refl, turned blockResult parsedBlockOf parsed.Refused (λ e. refl) (c .code .result))) in tie.close answers
