@@ -1,9 +1,9 @@
-use Prim.Native.Nat.{_+_, _-_, _*_, _<_, _≤_}
+use Prim.Native.Nat.{_-_, _≤_}
 use mathlib.Core.Path.{_≡_}
 use lib.ListN.{length}
 use borrow.Author.Needs.{needs}
-use Rattle.rows.proofs.forms.blocks.Statement.{statement}
-use Rattle.rows.proofs.forms.blocks.Tie as tie
+use Rattle.rows.proofs.forms.records.Statement.{statement}
+use Rattle.rows.proofs.forms.records.Tie as tie
 
 abbrev Inv-loop : tie.InvT-loop
 Inv-loop fractions losses words list₀ i₀ list i = (length list ≡ 33) × (i ≤ 33)
@@ -11,8 +11,8 @@ Inv-loop fractions losses words list₀ i₀ list i = (length list ≡ 33) × (i
 abbrev μ-loop : tie.MeasureT-loop
 μ-loop fractions losses words list₀ i₀ list i = 33 - i
 
-pub blocks-spec : {M : Type 1} → statement M
-blocks-spec {M} =
+pub records-spec : {M : Type 1} → statement M
+records-spec {M} =
     let answers = tie.spec {M = M}
     Inv-loop μ-loop (λ c κs. search needs) (λ c. search needs) (λ c κs. search needs) (λ c. search needs) (λ c. search needs) (λ c. search needs)
     (λ c. search needs) (λ c. search needs) (λ c. search needs) in
