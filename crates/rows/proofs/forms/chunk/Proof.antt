@@ -10,8 +10,7 @@ abbrev μ-loop : tie.MeasureT-loop
 μ-loop s n most place₀ i₀ place i = most - i
 
 pub chunk-spec : {M : Type 1} → statement M
-chunk-spec {M} =
-    let answers = tie.spec {M = M}
-    Inv-loop μ-loop (λ c κs. search needs) (λ c. search needs) (λ c. search needs) (λ c. search needs) (λ c κs. search needs) (λ c. search needs) (λ c κs. search needs)
-    (λ c. search needs) (λ c. search needs) (λ c. search needs) (λ c κs. search needs) (λ c. search needs) in
-    tie.close answers
+chunk-spec = tie.close
+    (tie.spec Inv-loop μ-loop (λ c κs. search needs) (λ c. search needs) (λ c. search needs) (λ c. search needs) (λ c κs. search needs)
+    (λ c. search needs) (λ c κs. search needs) (λ c. search needs) (λ c. search needs) (λ c. search needs) (λ c κs. search needs)
+    (λ c. search needs))

@@ -12,8 +12,6 @@ abbrev μ-loop : tie.MeasureT-loop
 μ-loop fractions losses words list₀ i₀ list i = 33 - i
 
 pub records-spec : {M : Type 1} → statement M
-records-spec {M} =
-    let answers = tie.spec {M = M}
-    Inv-loop μ-loop (λ c κs. search needs) (λ c. search needs) (λ c κs. search needs) (λ c. search needs) (λ c. search needs) (λ c. search needs)
-    (λ c. search needs) (λ c. search needs) (λ c. search needs) in
-    tie.close answers
+records-spec = tie.close
+    (tie.spec Inv-loop μ-loop (λ c κs. search needs) (λ c. search needs) (λ c κs. search needs) (λ c. search needs) (λ c. search needs)
+    (λ c. search needs) (λ c. search needs) (λ c. search needs) (λ c. search needs))

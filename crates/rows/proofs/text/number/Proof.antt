@@ -11,8 +11,6 @@ abbrev μ-loop : tie.MeasureT-loop
 μ-loop s n₀ i₀ n i = length s - i
 
 pub number-spec : {M : Type 1} → statement M
-number-spec {M} =
-    let answers = tie.spec {M = M}
-    Inv-loop μ-loop (λ c. search needs) (λ c. search needs) (λ c. search needs) (λ c κs. search needs) (λ c κs. search needs) (λ c. search needs)
-    (λ c. search needs) (λ c. search needs) (λ c. search needs) in
-    tie.close answers
+number-spec = tie.close
+    (tie.spec Inv-loop μ-loop (λ c. search needs) (λ c. search needs) (λ c. search needs) (λ c κs. search needs) (λ c κs. search needs)
+    (λ c. search needs) (λ c. search needs) (λ c. search needs) (λ c. search needs))
