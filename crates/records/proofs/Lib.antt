@@ -1,5 +1,3 @@
-pub mod Walking
-pub mod Again
 pub mod Laid
 pub mod Reports
 pub mod Injective

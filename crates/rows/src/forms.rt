@@ -2,24 +2,21 @@
 use super::held;
 use super::lend;
 use super::lists;
-use super::print::numbers;
+use super::print::four;
+use super::print::three;
+use super::print::two;
+use super::print::written;
 use compound_write::writer::Call;
 use compound_write::writer::Outcome;
 use compound_write::writer::Writer;
 use records::Reporter;
 use report::report_block::ReportBlock;
-use report_write::sender::SenderInfo;
+use rtcp::write_result::RtcpWritten;
 use sdes::sdes::ChunkWalk;
 use sdes::sdes::OpenedChunks;
 use sdes::sdes::SteppedChunk;
-use utils::writer::Written;
-ghost use Prim.Native.Nat.{_≤_};
 
 fn word(list: &[u32], i: usize) -> u32 {
-    if i < list.len() { list[i] } else { 0 }
-}
-
-fn fraction(list: &[u8], i: usize) -> u8 {
     if i < list.len() { list[i] } else { 0 }
 }
 
@@ -27,7 +24,7 @@ fn record(fractions: &[u8], losses: &[u32], words: &[u32], i: usize) -> ReportBl
     let at = i % 33 * 5;
     ReportBlock {
         ssrc: word(words, at),
-        fraction_lost: fraction(fractions, i),
+        fraction_lost: if i < fractions.len() { fractions[i] } else { 0 },
         cumulative_lost: word(losses, i),
         extended_sequence_number: word(words, at + 1),
         interarrival_jitter: word(words, at + 2),
@@ -36,7 +33,7 @@ fn record(fractions: &[u8], losses: &[u32], words: &[u32], i: usize) -> ReportBl
     }
 }
 
-fn blocks(fractions: &[u8], losses: &[u32], words: &[u32]) -> [ReportBlock; 33] {
+fn records(fractions: &[u8], losses: &[u32], words: &[u32]) -> [ReportBlock; 33] {
     let mut list = [record(fractions, losses, words, 0); 33];
     let mut i: usize = 0;
     while i < 33 {
@@ -46,29 +43,6 @@ fn blocks(fractions: &[u8], losses: &[u32], words: &[u32]) -> [ReportBlock; 33] 
     list
 }
 
-fn written(r: Written) {
-    match r {
-        Written::Size(size) => numbers(4, 0, 0, 0, size as u64, 0, 0, 0, 0, 0, 0, 0),
-        Written::Refused(e) => {
-            let code = e.code();
-            numbers(
-                4,
-                code.number,
-                code.first,
-                code.second,
-                0,
-                0,
-                0,
-                0,
-                0,
-                0,
-                0,
-                0,
-            );
-        }
-    }
-}
-
 fn bit(b: bool) -> u64 {
     if b { 1 } else { 0 }
 }
@@ -76,188 +50,118 @@ fn bit(b: bool) -> u64 {
 fn called(r: Call) {
     let answer = r.answer;
     match answer {
-        Outcome::Done => numbers(3, 0, 0, 0, 0, 0, 0, 0, 0, 0, 0, 0),
+        Outcome::Done => three(0, 0, 0),
         Outcome::Refused(e) => {
             let code = e.code();
-            numbers(
-                3,
-                code.number,
-                code.first,
-                code.second,
-                0,
-                0,
-                0,
-                0,
-                0,
-                0,
-                0,
-                0,
-            );
+            three(code.number, code.first, code.second);
         }
     }
     let w = r.writer;
-    numbers(
-        4,
-        w.len as u64,
-        bit(w.padded),
-        bit(w.cname),
-        bit(w.closed),
-        0,
-        0,
-        0,
-        0,
-        0,
-        0,
-        0,
-    );
+    four(w.len as u64, bit(w.padded), bit(w.cname), bit(w.closed));
 }
 
-fn report(
-    state: &[u64; 4],
-    buf: &mut [u8],
-    alone: bool,
-    reporter: Reporter,
-    list: [ReportBlock; 33],
-    count: usize,
-    padding: u64,
-)
-    requires { ⌜ count ≤ 33 ⌝ }
-{
-    if alone {
-        written(lend::size_lent(reporter, list, count, padding));
-        written(lend::write_lent(buf, reporter, list, count, padding));
-        return;
-    }
-    let writer = Writer {
+fn writer_in(state: &[u64; 4]) -> Writer {
+    Writer {
         len: state[0] as usize,
         padded: state[1] != 0,
         cname: state[2] != 0,
         closed: state[3] != 0,
-    };
-    called(lend::add_lent(writer, buf, reporter, list, count, padding));
+    }
 }
 
-// As `rr_write` and `writer_add_rr`; the writer stays as it is.
-pub fn rr(
+// As the C functions that write and add a report; the writer stays as it is.
+pub fn report(
     alone: bool,
     state: &[u64; 4],
     buf: &mut [u8],
-    n: &[u64; 4096],
-    w: &[u32; 4096],
-    s: &[u8],
+    reporter: Reporter,
+    padding: u64,
+    fractions: &[u8],
+    losses: &[u32],
+    words: &[u32],
 ) {
-    let list = blocks(s, lists::words(w, 5, n[3]), lists::words(w, n[3], n[4]));
-    let reporter = Reporter::Receiver(w[2]);
-    let count = lists::least(s.len(), 33);
-    report(state, buf, alone, reporter, list, count, n[1]);
-}
-
-// As `sr_write` and `writer_add_sr`; the writer stays as it is.
-pub fn sr(
-    alone: bool,
-    state: &[u64; 4],
-    buf: &mut [u8],
-    n: &[u64; 4096],
-    w: &[u32; 4096],
-    s: &[u8],
-) {
-    let list = blocks(s, lists::words(w, 9, n[7]), lists::words(w, n[7], n[8]));
-    let info = SenderInfo {
-        ssrc: w[2],
-        ntp_timestamp: n[3],
-        rtp_timestamp: w[4],
-        packet_count: w[5],
-        octet_count: w[6],
-    };
-    let reporter = Reporter::Sender(info);
-    let count = lists::least(s.len(), 33);
-    report(state, buf, alone, reporter, list, count, n[1]);
+    let n = lists::least(fractions.len(), 33);
+    let writer = writer_in(state);
+    let list = records(fractions, losses, words);
+    let mut other = [0u8; 4];
+    if alone {
+        let r = lend::size_write_add(buf, writer, &mut other, reporter, list, n, padding);
+        let size = r.size;
+        let answer = r.written;
+        written(RtcpWritten::from_written(size));
+        written(RtcpWritten::from_written(answer));
+    } else {
+        let r = lend::size_write_add(&mut other, writer, buf, reporter, list, n, padding);
+        let call = r.call;
+        called(call);
+    }
 }
 
 fn opened(answer: OpenedChunks) {
     match answer {
         OpenedChunks::Walk(walk) => {
-            numbers(
-                5,
-                0,
-                0,
-                0,
-                walk.at as u64,
-                walk.end as u64,
-                0,
-                0,
-                0,
-                0,
-                0,
-                0,
-            );
+            three(0, 0, 0);
+            two(walk.at as u64, walk.end as u64);
         }
         OpenedChunks::Refused(e) => {
             let code = e.code();
-            numbers(
-                5,
-                code.number,
-                code.first,
-                code.second,
-                0,
-                0,
-                0,
-                0,
-                0,
-                0,
-                0,
-                0,
-            );
+            three(code.number, code.first, code.second);
+            two(0, 0);
         }
     }
 }
 
 // On a refusal the walk is as it was.
-fn stepped(walk: ChunkWalk, answer: SteppedChunk) {
+fn stepped(answer: SteppedChunk, at: u64, end: u64) {
     match answer {
-        SteppedChunk::Chunk(chunk, next) => numbers(
-            8,
-            0,
-            0,
-            0,
-            chunk.ssrc as u64,
-            chunk.length as u64,
-            chunk.cname as u64,
-            next.at as u64,
-            next.end as u64,
-            0,
-            0,
-            0,
-        ),
+        SteppedChunk::Chunk(chunk, next) => {
+            four(0, 0, 0, chunk.ssrc as u64);
+            two(chunk.length as u64, chunk.cname as u64);
+            two(next.at as u64, next.end as u64);
+        }
         SteppedChunk::Refused(e) => {
             let code = e.code();
-            numbers(
-                8,
-                code.number,
-                code.first,
-                code.second,
-                0,
-                0,
-                0,
-                walk.at as u64,
-                walk.end as u64,
-                0,
-                0,
-                0,
-            );
+            four(code.number, code.first, code.second, 0);
+            four(0, 0, at, end);
         }
     }
 }
 
-// `held_open`, `held_step AT END`, `held_chunk I 0`, whose walk on a refusal is I and 0.
+// The answer to step n, counted from 0, of a walk that is opened on the bytes; after so many steps as there are bytes it has come to its end.
+fn chunk(s: &[u8], n: u64) -> SteppedChunk {
+    let first = held::open_and_step(s, ChunkWalk { at: 0, end: 0 });
+    let answer = first.opened;
+    if let OpenedChunks::Refused(e) = answer {
+        return SteppedChunk::Refused(e);
+    }
+    let most = lists::limited(n, s);
+    let mut place = first.start;
+    let mut i = 0;
+    while i < most {
+        let step = held::open_and_step(s, place);
+        place = step.next;
+        i += 1;
+    }
+    let last = held::open_and_step(s, place);
+    last.stepped
+}
+
+// 34 held_open, 35 held_step AT END, 36 held_chunk I 0, whose walk on a refusal is I and 0.
 pub fn walk(op: usize, s: &[u8], at: u64, end: u64) {
-    let walk = ChunkWalk {
+    if op == 36 {
+        stepped(chunk(s, at), at, end);
+        return;
+    }
+    let place = ChunkWalk {
         at: at as usize,
         end: end as usize,
     };
-    match op {
-        49 => opened(held::open_held(s)),
-        50 => stepped(walk, held::step_held(s, walk)),
-        _ => stepped(walk, sdes_walk::chunk(s, at as usize)),
+    let r = held::open_and_step(s, place);
+    if op == 34 {
+        let answer = r.opened;
+        opened(answer);
+        return;
     }
+    let answer = r.stepped;
+    stepped(answer, at, end);
 }

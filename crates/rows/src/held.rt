@@ -1,25 +1,25 @@
-// The walk that holds its bytes, opened, and stepped from any place.
+// The walk that holds its bytes, opened on them, and stepped from any place.
 use sdes::sdes::ChunkWalk;
 use sdes::sdes::OpenedChunks;
 use sdes::sdes::SteppedChunk;
 use sdes_walk::SdesWalk;
-ghost use mathlib.Core.Path.{_≡_};
-ghost use Rattle.rfc3550.specs.Answer.{mapOk};
-ghost use Rattle.rfc3550.specs.Walk.{openSdes};
-ghost use Rattle.sdes.specs.Walk.{chunkWalk, openedChunksOf, steppedChunkOf};
-ghost use Rattle.sdes_walk.specs.Walk.{stepAt};
 
-pub fn open_held(data: &[u8]) -> OpenedChunks
-    ensures { λ r. ⌜ openedChunksOf r ≡ mapOk chunkWalk (openSdes (now («data» .entry))) ⌝ }
-{
-    let opened = SdesWalk::open(data);
-    opened.answer
+// The two answers, and where the walk that each hands back stands.
+pub struct Held {
+    pub opened: OpenedChunks,
+    pub start: ChunkWalk,
+    pub stepped: SteppedChunk,
+    pub next: ChunkWalk,
 }
 
-pub fn step_held(data: &[u8], position: ChunkWalk) -> SteppedChunk
-    ensures { λ r. ⌜ steppedChunkOf r ≡ stepAt (now («data» .entry)) position ⌝ }
-{
+pub fn open_and_step(data: &[u8], position: ChunkWalk) -> Held {
+    let opened = SdesWalk::open(data);
     let walk = SdesWalk { data, position };
     let stepped = walk.step();
-    stepped.answer
+    Held {
+        opened: opened.answer,
+        start: opened.walk.position,
+        stepped: stepped.answer,
+        next: stepped.walk.position,
+    }
 }

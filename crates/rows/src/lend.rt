@@ -1,48 +1,36 @@
-// Blocks by value, the first n of them lent as a run of records.
+// Blocks by value, the first n of them lent as one run of records to the three functions that take such a run.
 use compound_write::writer::Call;
 use compound_write::writer::Writer;
 use records::Reporter;
 use report::report_block::ReportBlock;
 use utils::writer::Written;
-ghost use mathlib.Core.Path.{_≡_};
 ghost use Prim.Native.Nat.{_≤_};
-ghost use lib.ListN.{take};
-ghost use Rattle.rfc3550.specs.Write.{listsOf, giveReport, calculateSize, write};
-ghost use Rattle.rfc3550.specs.Writer.{add, call};
-ghost use Rattle.utils.specs.Writer.{writtenOf};
-ghost use Rattle.records.specs.Records.{reporterOf, recordsOf};
-ghost use Rattle.compound_write.specs.Writer.{outcomeOf, writerOf};
 
-pub fn size_lent(reporter: Reporter, list: [ReportBlock; 33], n: usize, padding: u64) -> Written
-    requires { ⌜ n ≤ 33 ⌝ }
-    ensures { λ r. ⌜ writtenOf r ≡ calculateSize (giveReport (reporterOf reporter) (listsOf (recordsOf (take n list))) padding) ⌝ }
-{
-    records::calculate_size(reporter, &list[..n], padding)
+pub struct Lent {
+    pub size: Written,
+    pub written: Written,
+    pub call: Call,
 }
 
-pub fn write_lent(
-    buf: &mut [u8],
-    reporter: Reporter,
-    list: [ReportBlock; 33],
-    n: usize,
-    padding: u64,
-) -> Written
-    requires { ⌜ n ≤ 33 ⌝ }
-    ensures { λ r. ⌜ (writtenOf r, now (buf .exit)) ≡ write (giveReport (reporterOf reporter) (listsOf (recordsOf (take n list))) padding) (now (buf .entry)) ⌝ }
-{
-    records::write_into(buf, reporter, &list[..n], padding)
-}
-
-pub fn add_lent(
+// A report's size, the report written alone, and the report added to a compound.
+pub fn size_write_add(
+    alone: &mut [u8],
     writer: Writer,
-    buf: &mut [u8],
+    added: &mut [u8],
     reporter: Reporter,
     list: [ReportBlock; 33],
     n: usize,
     padding: u64,
-) -> Call
+) -> Lent
     requires { ⌜ n ≤ 33 ⌝ }
-    ensures { λ r. ⌜ (outcomeOf (r .answer), writerOf (r .writer), now (buf .exit)) ≡ call (add (giveReport (reporterOf reporter) (listsOf (recordsOf (take n list))) padding)) (writerOf writer) (now (buf .entry)) ⌝ }
 {
-    records::add_report(writer, buf, reporter, &list[..n], padding)
+    let blocks = &list[..n];
+    let size = records::calculate_size(reporter, blocks, padding);
+    let written = records::write_into(alone, reporter, blocks, padding);
+    let call = records::add_report(writer, added, reporter, blocks, padding);
+    Lent {
+        size,
+        written,
+        call,
+    }
 }

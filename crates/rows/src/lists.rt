@@ -1,6 +1,10 @@
-// Parts of the lists of a row, from one place to another, cut where a list ends.
+// The numbers of a row, each in two lists; parts of lists, from one place to another, cut where a list ends.
 ghost use Prim.Native.Nat.{_≤_};
 ghost use Rattle.io.specs.Counts.{Counts};
+
+pub type Numbers = [u64; 4096];
+
+pub type Words = [u32; 4096];
 
 // The least of two numbers.
 pub fn least(a: usize, b: usize) -> usize
@@ -22,16 +26,27 @@ pub fn bytes(list: &[u8], from: u64, to: u64) -> &[u8] {
     &list[at..end]
 }
 
-pub fn words(list: &[u32], from: u64, to: u64) -> &[u32] {
-    let end = least(to as usize, list.len());
+pub fn words(list: &Words, from: u64, to: u64) -> &[u32] {
+    let all = &list[..];
+    let end = least(to as usize, all.len());
     let at = least(from as usize, end);
-    &list[at..end]
+    &all[at..end]
 }
 
-pub fn numbers(list: &[u64], from: u64, to: u64) -> &[u64] {
-    let end = least(to as usize, list.len());
+pub fn numbers(list: &Numbers, from: u64, to: u64) -> &[u64] {
+    let all = &list[..];
+    let end = least(to as usize, all.len());
     let at = least(from as usize, end);
-    &list[at..end]
+    &all[at..end]
+}
+
+// A number of a row, in either width.
+pub fn at(n: &Numbers, i: usize) -> u64 {
+    if i < 4096 { n[i] } else { 0 }
+}
+
+pub fn word(w: &Words, i: usize) -> u32 {
+    if i < 4096 { w[i] } else { 0 }
 }
 
 pub fn wide(b: u8) -> u64 {

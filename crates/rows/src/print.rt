@@ -6,49 +6,28 @@ pub fn print(text: &[u8]) {
     io::write_all(1, text);
 }
 
-fn list(numbers: &[u64]) {
-    let mut i = 0;
-    while i < numbers.len() {
-        print(b" ");
-        io::print_decimal(1, numbers[i]);
-        i += 1;
-    }
+pub fn one(a: u64) {
+    print(b" ");
+    io::print_decimal(1, a);
 }
 
-// The first n of eleven numbers.
-pub fn numbers(
-    n: u64,
-    a: u64,
-    b: u64,
-    c: u64,
-    d: u64,
-    e: u64,
-    f: u64,
-    g: u64,
-    h: u64,
-    i: u64,
-    j: u64,
-    k: u64,
-) {
-    list(lists::numbers(&[a, b, c, d, e, f, g, h, i, j, k], 0, n));
+pub fn two(a: u64, b: u64) {
+    one(a);
+    one(b);
 }
 
-// What the size function and the write answer.
-pub fn written(a: RtcpWritten, b: RtcpWritten) {
-    numbers(
-        8,
-        a.number,
-        a.first,
-        a.second,
-        a.size,
-        b.number,
-        b.first,
-        b.second,
-        b.size,
-        0,
-        0,
-        0,
-    );
+pub fn three(a: u64, b: u64, c: u64) {
+    one(a);
+    two(b, c);
+}
+
+pub fn four(a: u64, b: u64, c: u64, d: u64) {
+    two(a, b);
+    two(c, d);
+}
+
+pub fn written(r: RtcpWritten) {
+    four(r.number, r.first, r.second, r.size);
 }
 
 // How often the last byte comes again after the eighth time.

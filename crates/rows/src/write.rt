@@ -1,8 +1,19 @@
 // Rows that write, `ROOM PADDING ..` or `ROOM ..`: alone the size and the write, else a call of the compound writer.
 // A list of a row is named by the place where it ends, among the row's numbers or among its bytes.
+use super::forms;
 use super::lists;
-use super::print::numbers;
+use super::lists::Numbers;
+use super::lists::Words;
+use super::lists::at;
+use super::lists::word;
+use super::print::bytes;
+use super::print::four;
+use super::print::print;
+use super::print::three;
 use super::print::written;
+use super::text;
+use records::Reporter;
+use report_write::sender::SenderInfo;
 use rtcp::write_app;
 use rtcp::write_bye;
 use rtcp::write_compound;
@@ -10,103 +21,113 @@ use rtcp::write_compound::RtcpCall;
 use rtcp::write_report;
 use rtcp::write_sdes;
 
+fn print_state(state: &[u64; 4]) {
+    four(state[0], state[1], state[2], state[3]);
+}
+
 // What a call answers, and the writer after it.
 fn called(r: RtcpCall, state: &[u64; 4]) {
-    numbers(
-        7,
-        r.number,
-        r.first,
-        r.second,
-        state[0],
-        state[1],
-        state[2],
-        state[3],
-        0,
-        0,
-        0,
-        0,
-    );
+    three(r.number, r.first, r.second);
+    print_state(state);
 }
 
 // `ROOM PADDING SSRC LOSSES WORDS`, then these; the bytes are the fractions.
-pub fn rr(
-    alone: bool,
-    state: &mut [u64; 4],
-    buf: &mut [u8],
-    n: &[u64; 4096],
-    w: &[u32; 4096],
-    s: &[u8],
-) {
-    let losses = lists::words(w, 5, n[3]);
-    let words = lists::words(w, n[3], n[4]);
-    if alone {
-        let size = write_report::rtcp_rr_size(s, losses, words, n[1]);
-        written(
-            size,
-            write_report::rtcp_rr_write(buf, w[2], s, losses, words, n[1]),
-        );
-    } else {
-        let call = write_compound::rtcp_writer_add_rr(state, buf, w[2], s, losses, words, n[1]);
+fn rr(op: usize, state: &mut [u64; 4], buf: &mut [u8], n: &Numbers, w: &Words, s: &[u8]) {
+    let padding = at(n, 1);
+    let ssrc = word(w, 2);
+    let end = at(n, 3);
+    let losses = lists::words(w, 5, end);
+    let words = lists::words(w, end, at(n, 4));
+    if op == 39 {
+        written(write_report::rtcp_rr_size(s, losses, words, padding));
+        written(write_report::rtcp_rr_write(buf, ssrc, s, losses, words, padding));
+    } else if op == 47 {
+        let call = write_compound::rtcp_writer_add_rr(state, buf, ssrc, s, losses, words, padding);
         called(call, state);
+    } else {
+        let reporter = Reporter::Receiver(ssrc);
+        forms::report(op == 44, state, buf, reporter, padding, s, losses, words);
     }
 }
 
 // `ROOM PADDING SSRC NTP RTP PACKETS OCTETS LOSSES WORDS`, then these.
-pub fn sr(
-    alone: bool,
-    state: &mut [u64; 4],
-    buf: &mut [u8],
-    n: &[u64; 4096],
-    w: &[u32; 4096],
-    s: &[u8],
-) {
-    let losses = lists::words(w, 9, n[7]);
-    let words = lists::words(w, n[7], n[8]);
-    if alone {
-        let size = write_report::rtcp_sr_size(s, losses, words, n[1]);
-        written(
-            size,
-            write_report::rtcp_sr_write(buf, w[2], n[3], w[4], w[5], w[6], s, losses, words, n[1]),
-        );
-    } else {
-        let call = write_compound::rtcp_writer_add_sr(
-            state,
+fn sr(op: usize, state: &mut [u64; 4], buf: &mut [u8], n: &Numbers, w: &Words, s: &[u8]) {
+    let padding = at(n, 1);
+    let ssrc = word(w, 2);
+    let ntp = at(n, 3);
+    let rtp = word(w, 4);
+    let packets = word(w, 5);
+    let octets = word(w, 6);
+    let end = at(n, 7);
+    let losses = lists::words(w, 9, end);
+    let words = lists::words(w, end, at(n, 8));
+    if op == 40 {
+        written(write_report::rtcp_sr_size(s, losses, words, padding));
+        written(write_report::rtcp_sr_write(
             buf,
-            w[2],
-            n[3],
-            w[4],
-            w[5],
-            w[6],
+            ssrc,
+            ntp,
+            rtp,
+            packets,
+            octets,
             s,
             losses,
             words,
-            n[1],
+            padding,
+        ));
+    } else if op == 48 {
+        let call = write_compound::rtcp_writer_add_sr(
+            state,
+            buf,
+            ssrc,
+            ntp,
+            rtp,
+            packets,
+            octets,
+            s,
+            losses,
+            words,
+            padding,
         );
         called(call, state);
+    } else {
+        let info = SenderInfo {
+            ssrc,
+            ntp_timestamp: ntp,
+            rtp_timestamp: rtp,
+            packet_count: packets,
+            octet_count: octets,
+        };
+        let reporter = Reporter::Sender(info);
+        forms::report(op == 45, state, buf, reporter, padding, s, losses, words);
     }
 }
 
 // `ROOM PADDING SSRCS COUNTS PREFIXES VALUES TYPES`, then these; the types are bytes.
-pub fn sdes(
-    alone: bool,
-    state: &mut [u64; 4],
-    buf: &mut [u8],
-    n: &[u64; 4096],
-    w: &[u32; 4096],
-    s: &[u8],
-) {
-    let ssrcs = lists::words(w, 7, n[2]);
-    let counts = lists::numbers(n, n[2], n[3]);
-    let prefixes = lists::numbers(n, n[3], n[4]);
-    let values = lists::numbers(n, n[4], n[5]);
-    let types = lists::bytes(s, 0, n[6]);
-    let bytes = lists::bytes(s, n[6], 262400);
-    if alone {
-        let size = write_sdes::rtcp_sdes_size(ssrcs, counts, types, prefixes, values, bytes, n[1]);
-        written(
-            size,
-            write_sdes::rtcp_sdes_write(buf, ssrcs, counts, types, prefixes, values, bytes, n[1]),
-        );
+fn sdes(op: usize, state: &mut [u64; 4], buf: &mut [u8], n: &Numbers, w: &Words, s: &[u8]) {
+    let padding = at(n, 1);
+    let ends = at(n, 2);
+    let counted = at(n, 3);
+    let prefixed = at(n, 4);
+    let typed = at(n, 6);
+    let ssrcs = lists::words(w, 7, ends);
+    let counts = lists::numbers(n, ends, counted);
+    let prefixes = lists::numbers(n, counted, prefixed);
+    let values = lists::numbers(n, prefixed, at(n, 5));
+    let types = lists::bytes(s, 0, typed);
+    let rest = lists::bytes(s, typed, 262400);
+    if op == 41 {
+        written(write_sdes::rtcp_sdes_size(ssrcs, counts, types, prefixes, values, rest, padding));
+        written(write_sdes::rtcp_sdes_write(
+            buf,
+            ssrcs,
+            counts,
+            types,
+            prefixes,
+            values,
+            rest,
+            padding,
+        ));
     } else {
         let call = write_compound::rtcp_writer_add_sdes(
             state,
@@ -116,103 +137,118 @@ pub fn sdes(
             types,
             prefixes,
             values,
-            bytes,
-            n[1],
+            rest,
+            padding,
         );
         called(call, state);
     }
 }
 
 // `ROOM PADDING END`, then the sources; the reason is the bytes.
-pub fn bye(
-    alone: bool,
-    state: &mut [u64; 4],
-    buf: &mut [u8],
-    n: &[u64; 4096],
-    w: &[u32; 4096],
-    s: &[u8],
-) {
-    let sources = lists::words(w, 3, n[2]);
-    if alone {
-        let size = write_bye::rtcp_bye_size(sources, s, n[1]);
-        written(size, write_bye::rtcp_bye_write(buf, sources, s, n[1]));
+fn bye(op: usize, state: &mut [u64; 4], buf: &mut [u8], n: &Numbers, w: &Words, s: &[u8]) {
+    let padding = at(n, 1);
+    let sources = lists::words(w, 3, at(n, 2));
+    if op == 42 {
+        written(write_bye::rtcp_bye_size(sources, s, padding));
+        written(write_bye::rtcp_bye_write(buf, sources, s, padding));
     } else {
-        let call = write_compound::rtcp_writer_add_bye(state, buf, sources, s, n[1]);
+        let call = write_compound::rtcp_writer_add_bye(state, buf, sources, s, padding);
         called(call, state);
     }
 }
 
 // `ROOM PADDING SUBTYPE SSRC NAME`; the bytes are the name and the data.
-pub fn app(
-    alone: bool,
-    state: &mut [u64; 4],
-    buf: &mut [u8],
-    n: &[u64; 4096],
-    w: &[u32; 4096],
-    s: &[u8],
-) {
-    let name = lists::bytes(s, 0, n[4]);
-    let data = lists::bytes(s, n[4], 262400);
-    if alone {
-        let size = write_app::rtcp_app_size(n[2], name, data, n[1]);
-        written(
-            size,
-            write_app::rtcp_app_write(buf, n[2], w[3], name, data, n[1]),
-        );
+fn app(op: usize, state: &mut [u64; 4], buf: &mut [u8], n: &Numbers, w: &Words, s: &[u8]) {
+    let padding = at(n, 1);
+    let subtype = at(n, 2);
+    let ssrc = word(w, 3);
+    let end = at(n, 4);
+    let name = lists::bytes(s, 0, end);
+    let data = lists::bytes(s, end, 262400);
+    if op == 43 {
+        written(write_app::rtcp_app_size(subtype, name, data, padding));
+        written(write_app::rtcp_app_write(buf, subtype, ssrc, name, data, padding));
     } else {
-        let call = write_compound::rtcp_writer_add_app(state, buf, n[2], w[3], name, data, n[1]);
+        let call = write_compound::rtcp_writer_add_app(
+            state,
+            buf,
+            subtype,
+            ssrc,
+            name,
+            data,
+            padding,
+        );
         called(call, state);
     }
 }
 
 // `ROOM SSRC PREFIXES VALUES TYPES`, then these.
-pub fn chunk(buf: &mut [u8], n: &[u64; 4096], w: &[u32; 4096], s: &[u8]) {
-    let prefixes = lists::numbers(n, 5, n[2]);
-    let values = lists::numbers(n, n[2], n[3]);
-    let types = lists::bytes(s, 0, n[4]);
-    let bytes = lists::bytes(s, n[4], 262400);
-    let size = write_sdes::rtcp_chunk_size(types, prefixes, values, bytes);
-    written(
-        size,
-        write_sdes::rtcp_chunk_write(buf, w[1], types, prefixes, values, bytes),
-    );
+fn chunk(buf: &mut [u8], n: &Numbers, w: &Words, s: &[u8]) {
+    let prefixed = at(n, 2);
+    let typed = at(n, 4);
+    let prefixes = lists::numbers(n, 5, prefixed);
+    let values = lists::numbers(n, prefixed, at(n, 3));
+    let types = lists::bytes(s, 0, typed);
+    let rest = lists::bytes(s, typed, 262400);
+    written(write_sdes::rtcp_chunk_size(types, prefixes, values, rest));
+    written(write_sdes::rtcp_chunk_write(buf, word(w, 1), types, prefixes, values, rest));
 }
 
 // `ROOM TYPE PREFIX`; the bytes are the prefix and the value.
-pub fn item(buf: &mut [u8], n: &[u64; 4096], s: &[u8]) {
-    let prefix = lists::bytes(s, 0, n[2]);
-    let value = lists::bytes(s, n[2], 262400);
-    let type_ = (n[1] % 256) as u8;
-    let size = write_sdes::rtcp_item_size(type_, prefix, value);
-    written(size, write_sdes::rtcp_item_write(buf, type_, prefix, value));
+fn item(buf: &mut [u8], n: &Numbers, s: &[u8]) {
+    let end = at(n, 2);
+    let prefix = lists::bytes(s, 0, end);
+    let value = lists::bytes(s, end, 262400);
+    let type_ = (at(n, 1) % 256) as u8;
+    written(write_sdes::rtcp_item_size(type_, prefix, value));
+    written(write_sdes::rtcp_item_write(buf, type_, prefix, value));
 }
 
-// `writer_new ROOM`, `writer_close ROOM`, `writer_set ROOM LENGTH PADDED CNAME CLOSED`.
-pub fn writer(op: usize, state: &mut [u64; 4], n: &[u64; 4096]) {
-    if op == 47 {
-        let call = write_compound::rtcp_writer_close(state);
-        called(call, state);
-        return;
+fn set(state: &mut [u64; 4], n: &Numbers) {
+    state[0] = at(n, 1);
+    state[1] = at(n, 2);
+    state[2] = at(n, 3);
+    state[3] = at(n, 4);
+    print_state(state);
+}
+
+// 46 writer_new ROOM, 54 writer_close ROOM, 55 writer_set ROOM LENGTH PADDED CNAME CLOSED.
+fn writer(op: usize, state: &mut [u64; 4], n: &Numbers) {
+    match op {
+        46 => {
+            write_compound::rtcp_writer_new(state);
+            print_state(state);
+        }
+        54 => {
+            let call = write_compound::rtcp_writer_close(state);
+            called(call, state);
+        }
+        _ => set(state, n),
     }
-    write_compound::rtcp_writer_new(state);
-    if op == 48 {
-        state[0] = n[1];
-        state[1] = n[2];
-        state[2] = n[3];
-        state[3] = n[4];
+}
+
+// 37 chunk_write, 38 item_write; rr, sr, sdes, bye, app: from 39 on written, from 47 on added; 44, 45 and 52, 53 reports of records.
+fn run(op: usize, state: &mut [u64; 4], buf: &mut [u8], n: &Numbers, w: &Words, s: &[u8]) {
+    match op {
+        37 => chunk(buf, n, w, s),
+        38 => item(buf, n, s),
+        39 | 44 | 47 | 52 => rr(op, state, buf, n, w, s),
+        40 | 45 | 48 | 53 => sr(op, state, buf, n, w, s),
+        41 | 49 => sdes(op, state, buf, n, w, s),
+        42 | 50 => bye(op, state, buf, n, w, s),
+        43 | 51 => app(op, state, buf, n, w, s),
+        46 | 54 | 55 => writer(op, state, n),
+        _ => print(b" no such operation"),
     }
-    numbers(
-        4,
-        state[0],
-        state[1],
-        state[2],
-        state[3],
-        0,
-        0,
-        0,
-        0,
-        0,
-        0,
-        0,
-    );
+}
+
+// How many bytes are stale before a call: none where it adds to what is there.
+fn stale(op: usize) -> u64 {
+    if op < 47 { 262400 } else { 0 }
+}
+
+pub fn row(op: usize, state: &mut [u64; 4], buf: &mut [u8], n: &Numbers, w: &Words, s: &[u8]) {
+    text::repeat(buf, 0, 0x5A, stale(op));
+    run(op, state, buf, n, w, s);
+    bytes(buf);
 }

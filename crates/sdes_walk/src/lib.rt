@@ -3,11 +3,10 @@ use sdes::sdes::ChunkWalk;
 use sdes::sdes::OpenedChunks;
 use sdes::sdes::SteppedChunk;
 ghost use mathlib.Core.Path.{_≡_};
-ghost use Prim.Native.Nat.{min};
 ghost use Rattle.rfc3550.specs.Answer.{mapOk};
 ghost use Rattle.rfc3550.specs.Walk.{openSdes, moved};
-ghost use Rattle.sdes.specs.Walk.{chunkWalk, chunkStepped, openedChunksOf, steppedChunkOf};
-ghost use Rattle.sdes_walk.specs.Walk.{startOf, stepAt, openedOn, movedOn, thenStepped, chunkAt};
+ghost use Rattle.sdes.specs.Walk.{chunkWalk, openedChunksOf, steppedChunkOf};
+ghost use Rattle.sdes_walk.specs.Walk.{startOf, stepAt, openedOn, movedOn};
 
 pub struct SdesWalk<'a> {
     pub data: &'a [u8],
@@ -61,47 +60,13 @@ impl<'a> SdesWalk<'a> {
     pub fn step(self) -> SteppedWalk<'a>
         ensures { λ r. ⌜ (steppedChunkOf (r .answer) ≡ stepAt (now (self .entry .«data»)) (self .entry .position)) × (r .walk ≡ movedOn (self .entry)) ⌝ }
     {
-        let answer = self.position.step(self.data);
-        let position = after(answer, self.position);
+        let data = self.data;
+        let from = self.position;
+        let answer = from.step(data);
+        let position = after(answer, from);
         SteppedWalk {
             answer,
-            walk: SdesWalk {
-                data: self.data,
-                position,
-            },
+            walk: SdesWalk { data, position },
         }
     }
-}
-
-// After so many steps as there are bytes a walk has come to its end.
-fn most_steps(n: usize, len: usize) -> usize
-    ensures { λ r. ⌜ r ≡ min n len ⌝ }
-{
-    if n < len { n } else { len }
-}
-
-fn then_stepped(opened: OpenedChunks, stepped: SteppedChunk) -> SteppedChunk
-    ensures { λ r. ⌜ steppedChunkOf r ≡ thenStepped (openedChunksOf opened) (steppedChunkOf stepped) ⌝ }
-{
-    match opened {
-        OpenedChunks::Walk(_) => stepped,
-        OpenedChunks::Refused(e) => SteppedChunk::Refused(e),
-    }
-}
-
-// The answer to step n of a walk that is opened on data, counted from 0.
-pub fn chunk(data: &[u8], n: usize) -> SteppedChunk
-    ensures { λ r. ⌜ steppedChunkOf r ≡ mapOk chunkStepped (chunkAt (now («data» .entry)) n) ⌝ }
-{
-    let m = most_steps(n, data.len());
-    let opened = SdesWalk::open(data);
-    let mut walk = opened.walk;
-    let mut i: usize = 0;
-    while i < m {
-        let stepped = walk.step();
-        walk = stepped.walk;
-        i += 1;
-    }
-    let last = walk.step();
-    then_stepped(opened.answer, last.answer)
 }

@@ -1,112 +1,66 @@
--- `add_report` meets its contract: a walk of its MIR, by hand, that calls six functions in a row. All that it knows of them is that each meets its contract.
--- buf's borrow is lent again to `add_frame` and comes back at the list that it left. It then goes to `write_blocks_unchecked` at its own lifetime, share and name, and is given up for good (`gave-slice`).
--- What blocks owns is had twice at each call that reads them, and one copy is kept for the exit.
--- Assumes nothing.
-use mathlib.Core.Path.{_≡_, refl, _∙_, ap}
-use Prim.Native.Nat.{ℕ, _*_, _-_, _<_, _≤_, _^_}
-use mathlib.Core.Bool.{true}
-use mathlib.Core.List.{List, [], _∷_}
-use lib.ListN.{length, take}
-use Rattle.records.proofs.Walking.{URA, fullShare, named, w32, w64, tyInt, Val, vint, SProp, ent, via, fst∗, snd∗, exE, emp, id⊢, Lft, GName, Share, Fml, ftrue, flft, fat, Memory, Routine, Heap, Calls, Loops, WpFn, Tables, Atoms, sem, Lfts, Fun, fact, givenOf, tables, tablesOf, Given, Item, ‵, raw, some, later, _⊛_, ⋆, _$_, _∵_, !, qed, by, move, keep, drop, use1, use2, use3, split, join, pick, rewrite, fsplit, fjoin, feqL, suffices, frame, await, done, agg, whole, sub, look-in, look, store, init, forget, stop, hop, fld, from, load, addr, of-opd, and-then, no-more, assigns, land, returns, enter, alloc1, alloc0, params1, pass1, pass0, free1, free0, lft-new, lft-end, FmC, fmOf, WpFn-mono, RattleType, owns, Is, shows, uint-makes, uint-vals, uint-tells, uint-lawful, nothing-lawful, u8, u32, u64, usize, unit, RefT, sliceVal, MutSlice, ShrSlice, Room, finally, slice-vals, mut-slice-tells, shr-slice-tells, shr-slice-copy, plain, only, owned, peeks, heard, nothing, onEntry, Contract, Triple, calls-at, ensured, lasts, Meets, tripleOf, entered, cited, says, Stays, gave-slice, stay-none-slice, stay-none, walkOf, goes-gave-slice, goes-none-slice, goes-none, Walks, ends-at, walked, walk-meets, yes}
+-- `add_report` meets its contract: a walk of its MIR, by hand. `decisive_loss` reads the blocks lent, `add_frame` answers and lays what stands around them, `write_blocks_unchecked` lays them, and `conclude` says the writer after it.
+use Rattle.by_hand.proofs.Walking.{_≡_, refl, _∙_, List, [], _∷_, ℕ, _-_, _*_, _<_, _≤_, _^_, length, LentAgain, lends-again, comes-back, contractOf, calls-with, calls-plain, calls-lent, callsOf, loopsOf, framed, meets, URA, fullShare, named, w32, w64, Val, vint, SProp, ent, via, fst∗, emp, id⊢, Lft, Share, Fml, ftrue, flft, GName, Heap, WpFn, Atoms, factI, givenOf, GhostRules, Running, Model, Given, Item, ‵, raw, some, later, _⊛_, ⋆, _$_, _∵_, !, qed, move, drop, use1, use2, split, join, pick, fsplit, fjoin, suffices, frame, await, done, keep, use3, feqL, whole, sub, look-in, agg, look, init, forget, stop, fld, from, load, of-opd, and-then, no-more, assigns, land, returns, enter, alloc1, alloc0, params1, pass1, pass0, free1, free0, store, hop, addr, RattleType, owns, Is, uint-makes, uint-vals, uint-tells, uint-lawful, nothing-lawful, nothing-vals, nothing-tells, u32, u64, usize, u8, RefT, now, sliceVal, ShrSlice, Room, slice-vals, shr-slice-tells, shr-slice-copy, MutSlice, mut-slice-tells, plain, owned, nothing, onEntry, cited, says, Stays, stay-none-slice, stay-none, walkOf, goes-none-slice, goes-none, ends-at, walked, gave-slice, goes-gave-slice, yes, lft-new, lft-end}
+use lib.ListN.{take}
 use denote.Enum.Laws as EL
 use denote.Struct.Laws as LL
 use Rattle.rfc3550.specs.Bytes.{store as stored}
 use Rattle.rfc3550.specs.Packet.{blocksBytes}
-use Rattle.rfc3550.specs.Write.{listsOf, giveReport}
-use Rattle.rfc3550.specs.Writer.{add, call}
+use mathlib.Core.Bool.{true}
 use Rattle.utils.specs.Writer.{writtenOf}
-use Rattle.utils.specs.declared.writer.Written.{Written}
-use Rattle.utils.proofs.writer.Written as S
-use Rattle.utils.proofs.writer.Written.Laws as S′
-use Rattle.compound_write.specs.Writer.{outcomeOf, writerOf, callOf}
+use Rattle.compound_write.specs.Writer.{writerOf, callOf}
 use Rattle.compound_write.specs.declared.writer.Writer.{Writer}
-use Rattle.compound_write.specs.declared.writer.Call.{Call}
 use Rattle.compound_write.proofs.writer.Writer as N
 use Rattle.compound_write.proofs.writer.Writer.Laws as N′
 use Rattle.compound_write.proofs.writer.Call as K
 use Rattle.compound_write.proofs.writer.Call.Laws as K′
+use Rattle.utils.specs.declared.writer.Written.{Written}
+use Rattle.utils.proofs.writer.Written as S
+use Rattle.utils.proofs.writer.Written.Laws as S′
 use Rattle.report.specs.declared.«report_block».ReportBlock.{ReportBlock}
 use Rattle.report.proofs.report_block.ReportBlock as T
 use Rattle.report_write.specs.Report.{countedSize}
-use Rattle.records.specs.Records.{reporterOf, leastOf, recordsOf, decisiveOf, laidCount}
+use Rattle.records.specs.Records.{leastOf, recordsOf, decisiveOf, laidCount}
+use Rattle.records.specs.Adds.{admitted, addFramed, blocksAt, addedEnd, concluded}
 use Rattle.records.specs.declared.Reporter.{Reporter}
-use Rattle.records.proofs.Again.{LentAgain, lends-again, comes-back}
+use Rattle.records.proofs.Adds.{start-fits, sum-fits, count-fits-in, blocks-fit-in, report-added}
 use Rattle.records.proofs.Reporter as P
 use Rattle.records.proofs.Reporter.Laws as P′
-use Rattle.records.proofs.decisive_loss as decisive-loss
-use Rattle.records.proofs.decisive_loss.Symbol as decisive-loss-def
-use Rattle.records.proofs.decisive_loss.Symbol.{name as #decisive-loss}
-use Rattle.records.proofs.decisive_loss.Met as decisive-loss-thm
-use Rattle.records.proofs.laid_count as laid-count
-use Rattle.records.proofs.laid_count.Symbol as laid-count-def
-use Rattle.records.proofs.laid_count.Symbol.{name as #laid-count}
-use Rattle.records.proofs.laid_count.Met as laid-count-thm
-use Rattle.records.proofs.write_blocks_unchecked as write-blocks
-use Rattle.records.proofs.write_blocks_unchecked.Symbol as write-blocks-def
-use Rattle.records.proofs.write_blocks_unchecked.Symbol.{name as #write-blocks}
-use Rattle.records.proofs.write_blocks_unchecked.Met as write-blocks-thm
-use Rattle.records.specs.Adds.{admitted, addFramed, blocksAt, addedEnd, concluded}
-use Rattle.records.proofs.Adds.{start-fits, sum-fits, count-fits-in, blocks-fit-in, report-added}
-use Rattle.records.proofs.add_frame as add-frame
-use Rattle.records.proofs.add_frame.Symbol as add-frame-def
-use Rattle.records.proofs.add_frame.Symbol.{name as #add-frame}
-use Rattle.records.proofs.add_frame.Met as add-frame-thm
-use Rattle.records.proofs.blocks_at as blocks-at
-use Rattle.records.proofs.blocks_at.Symbol as blocks-at-def
-use Rattle.records.proofs.blocks_at.Symbol.{name as #blocks-at}
-use Rattle.records.proofs.blocks_at.Met as blocks-at-thm
+use Rattle.records.proofs.decisive_loss as loss
+use Rattle.records.proofs.decisive_loss.Symbol as loss-def
+use Rattle.records.proofs.decisive_loss.Met as loss-thm
+use Rattle.records.proofs.add_frame as around
+use Rattle.records.proofs.add_frame.Symbol as around-def
+use Rattle.records.proofs.add_frame.Met as around-thm
+use Rattle.records.proofs.laid_count as count
+use Rattle.records.proofs.laid_count.Symbol as count-def
+use Rattle.records.proofs.laid_count.Met as count-thm
+use Rattle.records.proofs.blocks_at as start
+use Rattle.records.proofs.blocks_at.Symbol as start-def
+use Rattle.records.proofs.blocks_at.Met as start-thm
+use Rattle.records.proofs.write_blocks_unchecked as blocks
+use Rattle.records.proofs.write_blocks_unchecked.Symbol as blocks-def
+use Rattle.records.proofs.write_blocks_unchecked.Met as blocks-thm
 use Rattle.records.proofs.conclude as conclude
 use Rattle.records.proofs.conclude.Symbol as conclude-def
-use Rattle.records.proofs.conclude.Symbol.{name as #conclude}
 use Rattle.records.proofs.conclude.Met as conclude-thm
-use Rattle.records.proofs.add_report.Key.{name as #add-report}
-use Rattle.records.proofs.add_report as add-report
+use Rattle.records.proofs.add_report.Key.{name as #own}
+use Rattle.records.proofs.add_report as added
 use Rattle.records.proofs.add_report.Statement as stated
 use Rattle.records.proofs.add_report.Code as code
 
 abbrev B : RattleType
 B = T.the-row
 
-abbrev stayed : Stays (add-report.ended .signature .params) (add-report.ended .kept)
+abbrev stayed : Stays (added.ended .signature .params) (added.ended .kept)
 stayed = (stay-none (λ _. N.the-row) yes, (gave-slice (0 ∷ []) tt (plain (λ _. u8)), (stay-none (λ _. P.the-row) yes, (stay-none-slice (1 ∷ []) tt (plain (λ _. B)) yes, (stay-none (λ _. u64) yes, tt)))))
 
-module _ {M : Type 1} (𝓤 : URA M) (H : Heap 𝓤) (A : Atoms 𝓤) (mem : Memory → SProp 𝓤) (run : Routine → Fun 𝓤) where
-  -- the contracts that the proof cites
-  abbrev Loss : Contract 𝓤
-  Loss = tripleOf 𝓤 H A decisive-loss.signature (decisive-loss.spec 𝓤 H A mem run)
-
-  abbrev Framing : Contract 𝓤
-  Framing = tripleOf 𝓤 H A add-frame.signature (add-frame.spec 𝓤 H A mem run)
-
-  abbrev Count : Contract 𝓤
-  Count = tripleOf 𝓤 H A laid-count.signature (laid-count.spec 𝓤 H A mem run)
-
-  abbrev Start : Contract 𝓤
-  Start = tripleOf 𝓤 H A blocks-at.signature (blocks-at.spec 𝓤 H A mem run)
-
-  abbrev Blocks : Contract 𝓤
-  Blocks = tripleOf 𝓤 H A write-blocks.signature (write-blocks.spec 𝓤 H A mem run)
-
-  abbrev Conclude : Contract 𝓤
-  Conclude = tripleOf 𝓤 H A conclude.signature (conclude.spec 𝓤 H A mem run)
-
-  -- of each `ensured` of a callee with no `&mut`, the clause alone
-  loss-said : (κ : Lft) (x : RefT (List ReportBlock)) (r : ℕ) → ent 𝓤 (ensured 𝓤 H A decisive-loss.ended (decisive-loss.clauses 𝓤 H A mem run) (κ, tt) (x, tt) tt r) (fact 𝓤 (r ≡ decisiveOf 0 (x .now)))
-  loss-said κ x r = exE 𝓤 _ (λ ws. snd∗ 𝓤 (sem 𝓤 H A (lasts decisive-loss.ended (κ, tt) (x, tt) ws)) (fact 𝓤 (r ≡ decisiveOf 0 (x .now))))
-
-  count-said : (z : Written) (n r : ℕ) → ent 𝓤 (ensured 𝓤 H A laid-count.ended (laid-count.clauses 𝓤 H A mem run) tt (z, (n, tt)) tt r) (fact 𝓤 (r ≡ laidCount (writtenOf z) n))
-  count-said z n r = exE 𝓤 _ (λ ws. snd∗ 𝓤 (sem 𝓤 H A (lasts laid-count.ended tt (z, (n, tt)) ws)) (fact 𝓤 (r ≡ laidCount (writtenOf z) n)))
-
-  start-said : (m : Writer) (p : Reporter) (z : Written) (r : ℕ) → ent 𝓤 (ensured 𝓤 H A blocks-at.ended (blocks-at.clauses 𝓤 H A mem run) tt (m, (p, (z, tt))) tt r) (fact 𝓤 (r ≡ blocksAt (m .len) p (writtenOf z)))
-  start-said m p z r = exE 𝓤 _ (λ ws. snd∗ 𝓤 (sem 𝓤 H A (lasts blocks-at.ended tt (m, (p, (z, tt))) ws)) (fact 𝓤 (r ≡ blocksAt (m .len) p (writtenOf z))))
-
-  conclude-said : (m : Writer) (z : Written) (k : ℕ) (r : Call) → ent 𝓤 (ensured 𝓤 H A conclude.ended (conclude.clauses 𝓤 H A mem run) tt (m, (z, (k, tt))) tt r) (fact 𝓤 (callOf r ≡ concluded (writerOf m) (writtenOf z) k))
-  conclude-said m z k r = exE 𝓤 _ (λ ws. snd∗ 𝓤 (sem 𝓤 H A (lasts conclude.ended tt (m, (z, (k, tt))) ws)) (fact 𝓤 (callOf r ≡ concluded (writerOf m) (writtenOf z) k)))
-
-module _ {M : Type 1} (𝓤 : URA M) (H : Heap 𝓤) (A : Atoms 𝓤) (W : Given 𝓤 H A) (mem : Memory → SProp 𝓤) (run : Routine → Fun 𝓤) (κ κ′ : Lft) (q q′ : Share) (b o : ℕ) (m : Writer) (γ : GName) (l : List ℕ) (p : Reporter) (x : RefT (List ReportBlock)) (k : ℕ) (c v : Val)
+module _ {M : Type 1} (𝓤 : URA M) (H : Heap 𝓤) (𝓜 : Model 𝓤 H) (𝓖 : GhostRules 𝓤 H) (𝓡 : Running 𝓤 H 𝓜) (κ κ′ : Lft) (q q′ : Share) (m : Writer) (b o : ℕ) (γ : GName) (l : List ℕ) (p : Reporter) (x : RefT (List ReportBlock)) (k : ℕ) (c v : Val)
     (m-is : Is N.the-row m (c ∷ [])) (room : Room u8 (length l)) (p-is : Is P.the-row p (v ∷ [])) (room′ : Room B (length (x .now))) (k-fits : k < 2 ^ 64) where
-  abbrev κs : Lfts 2
-  κs = (κ, (κ′, tt))
+  abbrev A : Atoms 𝓤
+  A = 𝓖 .A
+
+  abbrev W : Given 𝓤 H A
+  W = givenOf 𝓤 H 𝓜 𝓖
 
   abbrev bs : List ReportBlock
   bs = x .now
@@ -115,18 +69,11 @@ module _ {M : Type 1} (𝓤 : URA M) (H : Heap 𝓤) (A : Atoms 𝓤) (W : Given
   abbrev y : GName → List ℕ → RefT (List ℕ)
   y δ zs = record { ptr = (b, o); name = δ; now = zs }
 
-  -- the machine values of the two slices
   abbrev s : Val
   s = sliceVal (b, o) (length l)
 
   abbrev t : Val
   t = sliceVal (x .ptr) (length bs)
-
-  abbrev Args : Type 0
-  Args = Writer × (RefT (List ℕ) × (Reporter × (RefT (List ReportBlock) × (ℕ × Unit {0}))))
-
-  abbrev a : Args
-  a = (m, (y γ l, (p, (x, (k, tt)))))
 
   abbrev vals : List Val × (List Val × (List Val × (List Val × (List Val × Unit {0}))))
   vals = (c ∷ [], (s ∷ [], (v ∷ [], (t ∷ [], (vint w64 k ∷ [], tt)))))
@@ -147,183 +94,84 @@ module _ {M : Type 1} (𝓤 : URA M) (H : Heap 𝓤) (A : Atoms 𝓤) (W : Given
   Own = ShrSlice (named 1) κ′ B .own x (t ∷ [])
 
   abbrev Post : Val → SProp 𝓤
-  Post = walkOf 𝓤 H A add-report.ended stayed (add-report.clauses 𝓤 H A mem run) .post ((κs, (q, (q′, tt)), tt, a, vals), tt)
+  Post = walkOf 𝓤 H A added.ended stayed (added.clauses 𝓤 H A (𝓜 .mem) (𝓡 .run)) .post (((κ, (κ′, tt)), (q, (q′, tt)), tt, (m, (y γ l, (p, (x, (k, tt))))), vals), tt)
 
-  -- what each callee's triple binds outside, and that the caller has what it asks
-  abbrev to-loss : Loss 𝓤 H A mem run .Ghost
-  to-loss = (((κ′, tt), (q′, tt), tt, (x, tt), (t ∷ [], tt)), tt)
+  -- what the callees that are lent a slice are passed, and that the caller has what they ask
+  abbrev to-frame : ℕ → GName → ℕ → contractOf 𝓤 H A around.ended (around.clauses 𝓤 H A (𝓜 .mem) (𝓡 .run)) .Ghost
+  to-frame ν δ d = (((ν ∷ [], tt), (fullShare, tt), tt, (m, (y δ l, (p, (length bs, (d, (k, tt)))))), (c ∷ [], (s ∷ [], (v ∷ [], (vint w64 (length bs) ∷ [], (vint w32 d ∷ [], (vint w64 k ∷ [], tt))))))), tt)
 
-  goes-loss : ent 𝓤 (⋆ 𝓤 H A (token′ ∷ ‵ Own ∷ [])) (Loss 𝓤 H A mem run .pre to-loss)
-  goes-loss = qed W (token′ ∷ ‵ Own ∷ []) ∵ nothing ! $ move ! (2 ∷ 0 ∷ []) $ fjoin ! $ move ! (1 ∷ 0 ∷ []) $ join ! $ frame ! $ done !
-
-  abbrev FrameArgs : Type 0
-  FrameArgs = Writer × (RefT (List ℕ) × (Reporter × (ℕ × (ℕ × (ℕ × Unit {0})))))
-
-  abbrev frame-args : GName → ℕ → FrameArgs
-  frame-args δ d = (m, (y δ l, (p, (length bs, (d, (k, tt))))))
-
-  abbrev to-frame : ℕ → GName → ℕ → Framing 𝓤 H A mem run .Ghost
-  to-frame ν δ d = (((ν ∷ [], tt), (fullShare, tt), tt, frame-args δ d, (c ∷ [], (s ∷ [], (v ∷ [], (vint w64 (length bs) ∷ [], (vint w32 d ∷ [], (vint w64 k ∷ [], tt))))))), tt)
-
-  goes-frame : (ν : ℕ) (δ : GName) (d : ℕ) → d < 2 ^ 32 → ent 𝓤 (⋆ 𝓤 H A (‵ (flft (ν ∷ []) fullShare) ∷ ‵ (Lent ν δ) ∷ [])) (Framing 𝓤 H A mem run .pre (to-frame ν δ d))
+  goes-frame : (ν : ℕ) (δ : GName) (d : ℕ) → d < 2 ^ 32 → ent 𝓤 (⋆ 𝓤 H A (‵ (flft (ν ∷ []) fullShare) ∷ ‵ (Lent ν δ) ∷ [])) (contractOf 𝓤 H A around.ended (around.clauses 𝓤 H A (𝓜 .mem) (𝓡 .run)) .pre (to-frame ν δ d))
   goes-frame ν δ d fits =
-      qed W (‵ (flft (ν ∷ []) fullShare) ∷ ‵ (Lent ν δ) ∷ []) ∵ nothing ! $ move ! (1 ∷ 0 ∷ []) $ join ! $
-      nothing ! $ owned ! u64 (Is u64) (uint-makes 𝓤 H A W w64) k _ (refl, k-fits) $ fjoin ! $ owned ! u32 (Is u32) (uint-makes 𝓤 H A W w32) d _ (refl, fits) $ fjoin ! $
-      owned ! usize (Is usize) (uint-makes 𝓤 H A W w64) (length bs) _ (refl, room′ .0) $ fjoin ! $ owned ! P.the-row (Is P.the-row) (EL.makes P.the-type P′.the-plain 𝓤 H A) p _ p-is $ fjoin ! $
-      move ! (2 ∷ 0 ∷ []) $ fjoin ! $ owned ! N.the-row (Is N.the-row) (LL.makes N.the-type N′.the-plain 𝓤 H A) m _ m-is $ fjoin ! $ move ! (1 ∷ 0 ∷ []) $ join ! $ frame ! $ done !
+      qed W (‵ (flft (ν ∷ []) fullShare) ∷ ‵ (Lent ν δ) ∷ []) ∵ nothing ! $ move ! (1 ∷ 0 ∷ []) $ join ! $ nothing ! $ owned ! u64 (Is u64) (uint-makes 𝓤 H A W w64) k _ (refl, k-fits) $ fjoin ! $ owned ! u32 (Is u32) (uint-makes 𝓤 H A W w32) d _ (refl, fits) $ fjoin ! $
+      owned ! usize (Is usize) (uint-makes 𝓤 H A W w64) (length bs) _ (refl, room′ .0) $ fjoin ! $ owned ! P.the-row (Is P.the-row) (EL.makes P.the-type P′.the-plain 𝓤 H A) p _ p-is $ fjoin ! $ move ! (2 ∷ 0 ∷ []) $ fjoin ! $ owned ! N.the-row (Is N.the-row) (LL.makes N.the-type N′.the-plain 𝓤 H A) m _ m-is $ fjoin ! $ move ! (1 ∷ 0 ∷ []) $ join ! $ frame ! $ done !
 
-  abbrev to-count : Written → Val → Count 𝓤 H A mem run .Ghost
-  to-count z w = ((tt, tt, tt, (z, (length bs, tt)), (w ∷ [], (vint w64 (length bs) ∷ [], tt))), tt)
+  abbrev to-blocks : List ℕ → ℕ → ℕ → contractOf 𝓤 H A blocks.ended (blocks.clauses 𝓤 H A (𝓜 .mem) (𝓡 .run)) .Ghost
+  to-blocks zs at n = (((κ, (κ′, tt)), (q, (q′, tt)), tt, (y γ zs, (at, (x, (n, tt)))), (s ∷ [], (vint w64 at ∷ [], (t ∷ [], (vint w64 n ∷ [], tt))))), tt)
 
-  goes-count : (z : Written) (w : Val) → Is S.the-row z (w ∷ []) → ent 𝓤 (sem 𝓤 H A ftrue) (Count 𝓤 H A mem run .pre (to-count z w))
-  goes-count z w is =
-      qed W (‵ ftrue ∷ []) ∵ nothing ! $ owned ! usize (Is usize) (uint-makes 𝓤 H A W w64) (length bs) _ (refl, room′ .0) $ fjoin ! $
-      owned ! S.the-row (Is S.the-row) (EL.makes S.the-type S′.the-plain 𝓤 H A) z _ is $ fjoin ! $ move ! (1 ∷ 0 ∷ []) $ join ! $ frame ! $ done !
-
-  abbrev to-start : Written → Val → Start 𝓤 H A mem run .Ghost
-  to-start z w = ((tt, tt, tt, (m, (p, (z, tt))), (c ∷ [], (v ∷ [], (w ∷ [], tt)))), tt)
-
-  goes-start : (z : Written) (w : Val) → Is S.the-row z (w ∷ []) → blocksAt (m .len) p (writtenOf z) < 2 ^ 64 → ent 𝓤 (sem 𝓤 H A ftrue) (Start 𝓤 H A mem run .pre (to-start z w))
-  goes-start z w is fits =
-      qed W (‵ ftrue ∷ []) ∵ says ! fits $ frame ! $ nothing ! $ owned ! S.the-row (Is S.the-row) (EL.makes S.the-type S′.the-plain 𝓤 H A) z _ is $ fjoin ! $
-      owned ! P.the-row (Is P.the-row) (EL.makes P.the-type P′.the-plain 𝓤 H A) p _ p-is $ fjoin ! $ owned ! N.the-row (Is N.the-row) (LL.makes N.the-type N′.the-plain 𝓤 H A) m _ m-is $ fjoin ! $ done !
-
-  abbrev to-conclude : Written → Val → Conclude 𝓤 H A mem run .Ghost
-  to-conclude z w = ((tt, tt, tt, (m, (z, (k, tt))), (c ∷ [], (w ∷ [], (vint w64 k ∷ [], tt)))), tt)
-
-  goes-conclude : (z : Written) (w : Val) → Is S.the-row z (w ∷ []) → addedEnd (m .len) (writtenOf z) < 2 ^ 64 → ent 𝓤 (sem 𝓤 H A ftrue) (Conclude 𝓤 H A mem run .pre (to-conclude z w))
-  goes-conclude z w is fits =
-      qed W (‵ ftrue ∷ []) ∵ says ! fits $ frame ! $ nothing ! $ owned ! u64 (Is u64) (uint-makes 𝓤 H A W w64) k _ (refl, k-fits) $ fjoin ! $ owned ! S.the-row (Is S.the-row) (EL.makes S.the-type S′.the-plain 𝓤 H A) z _ is $ fjoin ! $
-      owned ! N.the-row (Is N.the-row) (LL.makes N.the-type N′.the-plain 𝓤 H A) m _ m-is $ fjoin ! $ done !
-
-  abbrev BlocksArgs : Type 0
-  BlocksArgs = RefT (List ℕ) × (ℕ × (RefT (List ReportBlock) × (ℕ × Unit {0})))
-
-  abbrev blocks-args : List ℕ → ℕ → ℕ → BlocksArgs
-  blocks-args zs at n = (y γ zs, (at, (x, (n, tt))))
-
-  abbrev to-blocks : List ℕ → ℕ → ℕ → Blocks 𝓤 H A mem run .Ghost
-  to-blocks zs at n = ((κs, (q, (q′, tt)), tt, blocks-args zs at n, (s ∷ [], (vint w64 at ∷ [], (t ∷ [], (vint w64 n ∷ [], tt))))), tt)
-
-  goes-blocks : (zs : List ℕ) (at n : ℕ) → at < 2 ^ 64 → n < 2 ^ 64 → n ≤ length bs → n * 24 ≤ length zs - at → ent 𝓤 (⋆ 𝓤 H A (token ∷ ‵ (Buf zs) ∷ (‵ Own ⊛ token′) ∷ [])) (Blocks 𝓤 H A mem run .pre (to-blocks zs at n))
+  goes-blocks : (zs : List ℕ) (at n : ℕ) → at < 2 ^ 64 → n < 2 ^ 64 → n ≤ length bs → n * 24 ≤ length zs - at → ent 𝓤 (⋆ 𝓤 H A ((token ⊛ token′) ∷ ‵ (Buf zs) ∷ ‵ Own ∷ [])) (contractOf 𝓤 H A blocks.ended (blocks.clauses 𝓤 H A (𝓜 .mem) (𝓡 .run)) .pre (to-blocks zs at n))
   goes-blocks zs at n at-fits n-fits few fits =
-      qed W (token ∷ ‵ (Buf zs) ∷ (‵ Own ⊛ token′) ∷ []) ∵ says ! (few, fits) $ move ! (2 ∷ []) $ split ! $ move ! (2 ∷ 1 ∷ []) $ join ! $ frame ! $
-      nothing ! $ owned ! usize (Is usize) (uint-makes 𝓤 H A W w64) n _ (refl, n-fits) $ fjoin ! $ move ! (1 ∷ 0 ∷ []) $ fjoin ! $
+      qed W ((token ⊛ token′) ∷ ‵ (Buf zs) ∷ ‵ Own ∷ []) ∵ says ! (few, fits) $ frame ! $ nothing ! $ owned ! usize (Is usize) (uint-makes 𝓤 H A W w64) n _ (refl, n-fits) $ fjoin ! $ move ! (2 ∷ 0 ∷ []) $ fjoin ! $
       owned ! usize (Is usize) (uint-makes 𝓤 H A W w64) at _ (refl, at-fits) $ fjoin ! $ move ! (1 ∷ 0 ∷ []) $ fjoin ! $ done !
 
   abbrev FrameSaid : ℕ → Written → List ℕ → Type 0
   FrameSaid d z zs = (writtenOf z ≡ admitted (writerOf m) true (countedSize (leastOf p) (length bs) d k) (length l)) × (zs ≡ addFramed (m .len) p (length bs) k (writtenOf z) l)
 
-  abbrev BlocksSaid : List ℕ → ℕ → ℕ → List ℕ → Type 0
-  BlocksSaid zs at n ws = ws ≡ stored at (blocksBytes (recordsOf (take n bs))) zs
-
-  exits : (r : Call) (w : Val) (zs : List ℕ) → (outcomeOf (r .answer), writerOf (r .writer), zs) ≡ call (add (giveReport (reporterOf p) (listsOf (recordsOf bs)) k)) (writerOf m) l → length zs ≡ length l
-      → ent 𝓤 (⋆ 𝓤 H A ((token ⊛ token′) ∷ ‵ (finally u8 γ zs) ∷ ‵ Own ∷ ‵ (K.the-row .own r (w ∷ [])) ∷ [])) (Post w)
-  exits r w zs e long =
-      qed W ((token ⊛ token′) ∷ ‵ (finally u8 γ zs) ∷ ‵ Own ∷ ‵ (K.the-row .own r (w ∷ [])) ∷ []) ∵
-      suffices ! _ (ends-at 𝓤 H A add-report.ended stayed (add-report.clauses 𝓤 H A mem run) W ((κs, (q, (q′, tt)), tt, a, vals), tt) w r (tt, (zs, (tt, (tt, (tt, tt))))) (tt, (long, (tt, (tt, (tt, tt)))))) $ says ! e $ frame ! $
-      nothing ! $ owned ! u64 (Is u64) (uint-makes 𝓤 H A W w64) k _ (refl, k-fits) $ fjoin ! $ move ! (2 ∷ 0 ∷ []) $ fjoin ! $ owned ! P.the-row (Is P.the-row) (EL.makes P.the-type P′.the-plain 𝓤 H A) p _ p-is $ fjoin ! $ move ! (1 ∷ 0 ∷ []) $ fjoin ! $
-      owned ! N.the-row (Is N.the-row) (LL.makes N.the-type N′.the-plain 𝓤 H A) m _ m-is $ fjoin ! $ done !
-
-  module _ (C : Calls 𝓤 H) (Λ : Loops 𝓤 H) (fm : FmC 𝓤 H (W .laws) C) (known-loss : Triple 𝓤 (C #decisive-loss) (Loss 𝓤 H A mem run)) (known-frame : Triple 𝓤 (C #add-frame) (Framing 𝓤 H A mem run)) (known-count : Triple 𝓤 (C #laid-count) (Count 𝓤 H A mem run))
-      (known-start : Triple 𝓤 (C #blocks-at) (Start 𝓤 H A mem run)) (known-blocks : Triple 𝓤 (C #write-blocks) (Blocks 𝓤 H A mem run)) (known-conclude : Triple 𝓤 (C #conclude) (Conclude 𝓤 H A mem run)) where
-    walk : ent 𝓤 (onEntry 𝓤 H A add-report.signature κs (q, (q′, tt)) a vals) (WpFn 𝓤 H C Λ code.function (c ∷ s ∷ v ∷ t ∷ vint w64 k ∷ []) Post)
-    walk =
-        qed W ((token ⊛ token′) ∷ ‵ (owns (N.the-row ∷ MutSlice (named 0) κ u8 ∷ P.the-row ∷ ShrSlice (named 1) κ′ B ∷ u64 ∷ []) a vals) ∷ []) ∵ enter ! C Λ code.function (c ∷ s ∷ v ∷ t ∷ vint w64 k ∷ []) _ $
-        alloc1 ! (λ l₀. alloc1 ! (λ l₁. alloc1 ! (λ l₂. alloc1 ! (λ l₃. alloc1 ! (λ l₄. alloc1 ! (λ l₅. alloc1 ! (λ l₆. alloc1 ! (λ l₇. alloc1 ! (λ l₈. alloc1 ! (λ l₉. alloc1 ! (λ l₁₀. alloc1 ! (λ l₁₁. alloc1 ! (λ l₁₂. alloc1 ! (λ l₁₃. alloc1 ! (λ l₁₄. alloc1 ! (λ l₁₅. alloc0 ! $ params1 ! $
-        pass1 ! (init ! 28 refl (LL.lawful N.the-type N′.the-laws 𝓤 H A W .typed m _ m-is .0)) $ pass1 ! (init ! 26 refl (tt, (tt, (record { fits = room .0 }, tt)))) $ pass1 ! (init ! 24 refl (EL.lawful P.the-type P′.the-laws 𝓤 H A W tt .typed p _ p-is .0)) $
-        pass1 ! (init ! 22 refl (tt, (tt, (record { fits = room′ .0 }, tt)))) $ pass1 ! (init ! 20 refl (tt, record { fits = k-fits })) $ pass0 ! $
-        -- `decisive_loss`
-        move ! (33 ∷ []) $ fsplit ! $ drop ! $ fsplit ! $ move ! (1 ∷ []) $ fsplit ! $ drop ! $ fsplit ! $ move ! (1 ∷ []) $ drop ! $ use1 W (‵ Own ⊛ ‵ Own) (shr-slice-copy 𝓤 H A W (named 1) κ′ B .twice x (t ∷ [])) $ split ! $
-        move ! (35 ∷ []) $ split ! $ move ! (1 ∷ 2 ∷ []) $ use2 W (raw (Loss 𝓤 H A mem run .pre to-loss)) goes-loss $
-        -- [pre; its token; Own; Buf; _15; …; _14; …; _13; …; _12; …; _11; …; _10; …; _9; …; _8; …; _7; …; _6; …; _5; …; _4; …; _3; …; _2; …; _1; …; _0; …]
-        calls-at ! fm (Loss 𝓤 H A mem run) known-loss to-loss (and-then ! (load ! (from ! (stop !)) (look ! 26 refl)) (no-more !)) (λ u.
-        use1 W (later (some (λ (d : ℕ). (token′ ⊛ ‵ (u32 .own d (u ∷ []))) ⊛ raw (ensured 𝓤 H A decisive-loss.ended (decisive-loss.clauses 𝓤 H A mem run) (κ′, tt) (x, tt) tt d)))) (id⊢ 𝓤 _) $ await ! tt $ pick ! (λ d.
-        split ! $ move ! (1 ∷ []) $ use1 W (raw (fact 𝓤 (d ≡ decisiveOf 0 bs))) (loss-said 𝓤 H A mem run κ′ x d) $ heard ! (d ≡ decisiveOf 0 bs) (λ got.
-        split ! $ move ! (1 ∷ []) $ peeks ! u32 (Is u32) (shows 𝓤 H A u32) d (u ∷ []) (λ is-d.
-        land ! (from ! (stop !)) (init ! 23 refl (uint-lawful 𝓤 H A W w32 .typed d _ is-d .0)) $ rewrite ! 23 (λ (h : Val). ‵ (fat fullShare (tyInt w32) l₆ 0 h)) (ap only (is-d .0)) refl $ drop ! $
-        -- [the second token; Buf's; Own; Buf; _15; …; _14; …; _13; …; _12; …; _11; …; _10; …; _9; …; _8; …; _7; …; _6; …; _5; …; _4; …; _3; …; _2; …; _1; …; _0; …]
-        assigns ! (addr ! (from ! (fld ! refl (hop ! (look-in ! 30 (sub ! 0 refl (whole !))) (stop !))))) (from ! (stop !)) (init ! 14 refl (tt, tt)) $
-        assigns ! (agg ! (and-then ! (load ! (from ! (stop !)) (look ! 14 refl)) (and-then ! (load ! (from ! (fld ! refl (stop !))) (look-in ! 30 (sub ! 1 refl (whole !)))) (no-more !)))) (from ! (stop !)) (init ! 12 refl (tt, (tt, (record { fits = room .0 }, tt)))) $
-        assigns ! (of-opd ! (load ! (from ! (fld ! refl (stop !))) (look-in ! 26 (sub ! 1 refl (whole !))))) (from ! (stop !)) (init ! 10 refl (tt, record { fits = room′ .0 })) $
-        -- `add_frame`: buf is lent again, for a lifetime ν of the call
-        lft-new ! tt (λ ν. move ! (4 ∷ 2 ∷ []) $
-        use2 W (later (some (λ (δ : GName). ‵ (Lent ν δ) ⊛ ‵ (LentAgain u8 κ (ν ∷ []) q γ b o δ l)))) (lends-again u8 κ (ν ∷ []) q γ b o 𝓤 H A W (named 0) (named 0) l (length l) refl) $ await ! tt $ pick ! (λ δ. split ! $
-        move ! (2 ∷ 0 ∷ []) $ use2 W (raw (Framing 𝓤 H A mem run .pre (to-frame ν δ d))) (goes-frame ν δ d (is-d .1)) $
-        -- [pre; what waits for buf; the second token; Own; _15; …]
-        calls-at ! fm (Framing 𝓤 H A mem run) known-frame (to-frame ν δ d) (and-then ! (load ! (from ! (stop !)) (look ! 32 refl)) (and-then ! (load ! (from ! (stop !)) (look ! 12 refl)) (and-then ! (load ! (from ! (stop !)) (look ! 28 refl)) (and-then ! (load ! (from ! (stop !)) (look ! 10 refl)) (and-then ! (load ! (from ! (stop !)) (look ! 22 refl)) (and-then ! (load ! (from ! (stop !)) (look ! 24 refl)) (no-more !))))))) (λ w.
-        use1 W (later (some (λ (z : Written). ((‵ (flft (ν ∷ []) fullShare) ⊛ ‵ ftrue) ⊛ ‵ (S.the-row .own z (w ∷ []))) ⊛ raw (ensured 𝓤 H A add-frame.ended (add-frame.clauses 𝓤 H A mem run) (ν ∷ [], tt) (frame-args δ d) tt z)))) (id⊢ 𝓤 _) $ await ! tt $ pick ! (λ z.
-        split ! $ move ! (1 ∷ []) $ use1 W (some (λ (zs : Unit {0} × (List ℕ × (Unit {0} × (Unit {0} × (Unit {0} × (Unit {0} × Unit {0})))))). ‵ (lasts add-frame.ended (ν ∷ [], tt) (frame-args δ d) zs) ⊛ raw (fact 𝓤 (FrameSaid d z (zs .1 .0))))) (id⊢ 𝓤 _) $ pick ! (λ zs.
-        split ! $ move ! (1 ∷ []) $ heard ! (FrameSaid d z (zs .1 .0)) (λ e. fsplit ! $ drop ! $ fsplit ! $ fsplit ! $ move ! (1 ∷ []) $ feqL ! (λ long.
-        move ! (2 ∷ []) $ split ! $ move ! (1 ∷ []) $ peeks ! S.the-row (Is S.the-row) (shows 𝓤 H A S.the-row) z (w ∷ []) (λ is-z.
-        land ! (from ! (stop !)) (init ! 23 refl (EL.lawful S.the-type S′.the-laws 𝓤 H A W tt .typed z _ is-z .0)) $ drop ! $
-        split ! $ lft-end ! tt $ move ! (0 ∷ 4 ∷ 2 ∷ []) $
-        use3 W (later (‵ (Buf (zs .1 .0)) ⊛ token)) (comes-back u8 κ (ν ∷ []) q γ b o 𝓤 H A W (named 0) (named 0) l (length l) refl δ (zs .1 .0) room long) $ await ! tt $ split ! $
-        -- [Buf; its token; …; …; the second token; Own; _15; …; _14; …; _13; …; _12; …; _11; …; _10; …; _9; …; _8; …; _7; …; _6; …; _5; …; _4; …; _3; …; _2; …; _1; …; _0; …]
-        assigns ! (of-opd ! (load ! (from ! (fld ! refl (stop !))) (look-in ! 28 (sub ! 1 refl (whole !))))) (from ! (stop !)) (store ! 12 refl (tt, record { fits = room′ .0 })) $
-        -- `laid_count`
-        nothing ! $ use1 W (raw (Count 𝓤 H A mem run .pre (to-count z w))) (goes-count z w is-z) $
-        calls-at ! fm (Count 𝓤 H A mem run) known-count (to-count z w) (and-then ! (load ! (from ! (stop !)) (look ! 23 refl)) (and-then ! (load ! (from ! (stop !)) (look ! 13 refl)) (no-more !))) (λ u′.
-        use1 W (later (some (λ (n : ℕ). (‵ ftrue ⊛ ‵ (usize .own n (u′ ∷ []))) ⊛ raw (ensured 𝓤 H A laid-count.ended (laid-count.clauses 𝓤 H A mem run) tt (z, (length bs, tt)) tt n)))) (id⊢ 𝓤 _) $ await ! tt $ pick ! (λ n.
-        split ! $ move ! (1 ∷ []) $ use1 W (raw (fact 𝓤 (n ≡ laidCount (writtenOf z) (length bs)))) (count-said 𝓤 H A mem run z (length bs) n) $ heard ! (n ≡ laidCount (writtenOf z) (length bs)) (λ counted.
-        split ! $ drop ! $ peeks ! usize (Is usize) (shows 𝓤 H A usize) n (u′ ∷ []) (λ is-n.
-        land ! (from ! (stop !)) (init ! 21 refl (uint-lawful 𝓤 H A W w64 .typed n _ is-n .0)) $ rewrite ! 21 (λ (h : Val). ‵ (fat fullShare (tyInt w64) l₈ 0 h)) (ap only (is-n .0)) refl $ drop ! $
-        -- `blocks_at`
-        nothing ! $ use1 W (raw (Start 𝓤 H A mem run .pre (to-start z w))) (goes-start z w is-z (start-fits p bs k (writerOf m) l (writtenOf z) d (zs .1 .0) got (e .0) (e .1) (room .0))) $
-        calls-at ! fm (Start 𝓤 H A mem run) known-start (to-start z w) (and-then ! (load ! (from ! (stop !)) (look ! 35 refl)) (and-then ! (load ! (from ! (stop !)) (look ! 31 refl)) (and-then ! (load ! (from ! (stop !)) (look ! 23 refl)) (no-more !)))) (λ u″.
-        use1 W (later (some (λ (at : ℕ). (‵ ftrue ⊛ ‵ (usize .own at (u″ ∷ []))) ⊛ raw (ensured 𝓤 H A blocks-at.ended (blocks-at.clauses 𝓤 H A mem run) tt (m, (p, (z, tt))) tt at)))) (id⊢ 𝓤 _) $ await ! tt $ pick ! (λ at.
-        split ! $ move ! (1 ∷ []) $ use1 W (raw (fact 𝓤 (at ≡ blocksAt (m .len) p (writtenOf z)))) (start-said 𝓤 H A mem run m p z at) $ heard ! (at ≡ blocksAt (m .len) p (writtenOf z)) (λ starts.
-        split ! $ drop ! $ peeks ! usize (Is usize) (shows 𝓤 H A usize) at (u″ ∷ []) (λ is-at.
-        land ! (from ! (stop !)) (init ! 19 refl (uint-lawful 𝓤 H A W w64 .typed at _ is-at .0)) $ rewrite ! 19 (λ (h : Val). ‵ (fat fullShare (tyInt w64) l₉ 0 h)) (ap only (is-at .0)) refl $ drop ! $
-        -- [Buf; its token; …; …; the second token; Own; _15; …; _14; …; _13; …; _12; …; _11; …; _10; …; _9; …; _8; …; _7; …; _6; …; _5; …; _4; …; _3; …; _2; …; _1; …; _0; …]
-        assigns ! (addr ! (from ! (fld ! refl (hop ! (look-in ! 32 (sub ! 0 refl (whole !))) (stop !))))) (from ! (stop !)) (init ! 8 refl (tt, tt)) $
-        assigns ! (agg ! (and-then ! (load ! (from ! (stop !)) (look ! 8 refl)) (and-then ! (load ! (from ! (fld ! refl (stop !))) (look-in ! 32 (sub ! 1 refl (whole !)))) (no-more !)))) (from ! (stop !)) (init ! 6 refl (tt, (tt, (record { fits = room .0 }, tt)))) $
-        -- `write_blocks_unchecked`
-        move ! (5 ∷ []) $ use1 W (‵ Own ⊛ ‵ Own) (shr-slice-copy 𝓤 H A W (named 1) κ′ B .twice x (t ∷ [])) $ split ! $ move ! (0 ∷ 6 ∷ []) $ join ! $ move ! (3 ∷ 2 ∷ 0 ∷ []) $
-        use3 W (raw (Blocks 𝓤 H A mem run .pre (to-blocks (zs .1 .0) at n)))
-        (goes-blocks (zs .1 .0) at n (is-at .1) (is-n .1) (count-fits-in p bs k (writerOf m) l (writtenOf z) d (zs .1 .0) got (e .0) (e .1) n at counted starts) (blocks-fit-in p bs k (writerOf m) l (writtenOf z) d (zs .1 .0) got (e .0) (e .1) n at counted starts)) $
-        -- [pre; Own; …; …; _15; …; _14; …; _13; …; _12; …; _11; …; _10; …; _9; …; _8; …; _7; …; _6; …; _5; …; _4; …; _3; …; _2; …; _1; …; _0; …]
-        calls-at ! fm (Blocks 𝓤 H A mem run) known-blocks (to-blocks (zs .1 .0) at n) (and-then ! (load ! (from ! (stop !)) (look ! 4 refl)) (and-then ! (load ! (from ! (stop !)) (look ! 16 refl)) (and-then ! (load ! (from ! (stop !)) (look ! 26 refl)) (and-then ! (load ! (from ! (stop !)) (look ! 18 refl)) (no-more !))))) (λ c′.
-        use1 W (later (some (λ (i : Unit {0}). ((token ⊛ token′) ⊛ ‵ (unit .own i (c′ ∷ []))) ⊛ raw (ensured 𝓤 H A write-blocks.ended (write-blocks.clauses 𝓤 H A mem run) κs (blocks-args (zs .1 .0) at n) tt i)))) (id⊢ 𝓤 _) $ await ! tt $ pick ! (λ i.
-        split ! $ move ! (1 ∷ []) $ use1 W (some (λ (ws : List ℕ × (Unit {0} × (Unit {0} × (Unit {0} × Unit {0})))). ‵ (lasts write-blocks.ended κs (blocks-args (zs .1 .0) at n) ws) ⊛ raw (fact 𝓤 (BlocksSaid (zs .1 .0) at n (ws .0))))) (id⊢ 𝓤 _) $ pick ! (λ ws.
-        split ! $ move ! (1 ∷ []) $ heard ! (BlocksSaid (zs .1 .0) at n (ws .0)) (λ laid. fsplit ! $ fsplit ! $ move ! (1 ∷ []) $ feqL ! (λ long′.
-        move ! (2 ∷ []) $ split ! $ move ! (1 ∷ []) $ peeks ! unit (Is unit) (shows 𝓤 H A unit) i (c′ ∷ []) (λ is-unit.
-        land ! (from ! (stop !)) (init ! 11 refl (nothing-lawful 𝓤 H A W .typed i _ is-unit .0)) $ drop ! $
-        -- [the tokens; the last list; …; Own; …; …; _15; …; _14; …; _13; …; _12; …; _11; …; _10; …; _9; …; _8; …; _7; …; _6; …; _5; …; _4; …; _3; …; _2; …; _1; …; _0; …]
-        -- `conclude`
-        nothing ! $ use1 W (raw (Conclude 𝓤 H A mem run .pre (to-conclude z w))) (goes-conclude z w is-z (sum-fits p bs k (writerOf m) l (writtenOf z) d (zs .1 .0) got (e .0) (e .1) (room .0))) $
-        calls-at ! fm (Conclude 𝓤 H A mem run) known-conclude (to-conclude z w) (and-then ! (load ! (from ! (stop !)) (look ! 35 refl)) (and-then ! (load ! (from ! (stop !)) (look ! 23 refl)) (and-then ! (load ! (from ! (stop !)) (look ! 27 refl)) (no-more !)))) (λ v′.
-        use1 W (later (some (λ (r : Call). (‵ ftrue ⊛ ‵ (K.the-row .own r (v′ ∷ []))) ⊛ raw (ensured 𝓤 H A conclude.ended (conclude.clauses 𝓤 H A mem run) tt (m, (z, (k, tt))) tt r)))) (id⊢ 𝓤 _) $ await ! tt $ pick ! (λ r.
-        split ! $ move ! (1 ∷ []) $ use1 W (raw (fact 𝓤 (callOf r ≡ concluded (writerOf m) (writtenOf z) k))) (conclude-said 𝓤 H A mem run m z k r) $ heard ! (callOf r ≡ concluded (writerOf m) (writtenOf z) k) (λ ended.
-        split ! $ drop ! $ peeks ! K.the-row (Is K.the-row) (shows 𝓤 H A K.the-row) r (v′ ∷ []) (λ is-r.
-        -- [what the call owns; the tokens; the last list; …; Own; …; …; _15; …; _14; …; _13; …; _12; …; _11; …; _10; …; _9; …; _8; …; _7; …; _6; …; _5; …; _4; …; _3; …; _2; …; _1; …; _0; …]
-        land ! (from ! (stop !)) (init ! 37 refl (LL.lawful K.the-type K′.the-laws 𝓤 H A W .typed r _ is-r .0)) $
-        returns ! (look ! 37 refl) $ forget ! 7 refl $ forget ! 9 refl $ forget ! 11 refl $ forget ! 13 refl $ forget ! 15 refl $ forget ! 17 refl $ forget ! 19 refl $ forget ! 21 refl $ forget ! 23 refl $ forget ! 25 refl $ forget ! 27 refl $ forget ! 29 refl $ forget ! 31 refl $ forget ! 33 refl $ forget ! 35 refl $ forget ! 37 refl $
-        move ! (37 ∷ 38 ∷ []) $ free1 ! $ move ! (35 ∷ 36 ∷ []) $ free1 ! $ move ! (33 ∷ 34 ∷ []) $ free1 ! $ move ! (31 ∷ 32 ∷ []) $ free1 ! $ move ! (29 ∷ 30 ∷ []) $ free1 ! $ move ! (27 ∷ 28 ∷ []) $ free1 ! $ move ! (25 ∷ 26 ∷ []) $ free1 ! $ move ! (23 ∷ 24 ∷ []) $ free1 ! $
-        move ! (21 ∷ 22 ∷ []) $ free1 ! $ move ! (19 ∷ 20 ∷ []) $ free1 ! $ move ! (17 ∷ 18 ∷ []) $ free1 ! $ move ! (15 ∷ 16 ∷ []) $ free1 ! $ move ! (13 ∷ 14 ∷ []) $ free1 ! $ move ! (11 ∷ 12 ∷ []) $ free1 ! $ move ! (9 ∷ 10 ∷ []) $ free1 ! $ move ! (7 ∷ 8 ∷ []) $ free1 ! $ free0 ! $
-        keep ! (1 ∷ 2 ∷ 4 ∷ 0 ∷ []) $ by ! (exits r v′ (ws .0) (report-added p bs k (writerOf m) l (writtenOf z) d (zs .1 .0) got (e .0) (e .1) n at counted starts (callOf r) (ws .0) laid ended) (long′ ∙ long))))))))))))))))))))))))))))))))))))))))))))))))
-
-module _ {M : Type 1} (𝓤 : URA M) (H : Heap 𝓤) (A : Atoms 𝓤) (W : Given 𝓤 H A) (mem : Memory → SProp 𝓤) (run : Routine → Fun 𝓤) (𝓣 : Tables 𝓤 H) (known-loss : Triple 𝓤 (𝓣 .C #decisive-loss) (Loss 𝓤 H A mem run)) (known-frame : Triple 𝓤 (𝓣 .C #add-frame) (Framing 𝓤 H A mem run))
-    (known-count : Triple 𝓤 (𝓣 .C #laid-count) (Count 𝓤 H A mem run)) (known-start : Triple 𝓤 (𝓣 .C #blocks-at) (Start 𝓤 H A mem run)) (known-blocks : Triple 𝓤 (𝓣 .C #write-blocks) (Blocks 𝓤 H A mem run)) (known-conclude : Triple 𝓤 (𝓣 .C #conclude) (Conclude 𝓤 H A mem run)) where
-  add-walks : Walks 𝓤 H A add-report.ended stayed (WpFn 𝓤 H (𝓣 .C) (𝓣 .Λ) code.function) (add-report.clauses 𝓤 H A mem run)
-  add-walks = walked 𝓤 H A add-report.ended stayed (add-report.clauses 𝓤 H A mem run) (WpFn 𝓤 H (𝓣 .C) (𝓣 .Λ) code.function)
-      (λ κs. (LL.vals N.the-type N′.the-laws, (slice-vals, (EL.vals P.the-type P′.the-laws, (slice-vals, (uint-vals w64, tt)))))) (λ κs. (LL.tells N.the-type N′.the-laws, (mut-slice-tells (named 0) (κs .0) u8, (EL.tells P.the-type P′.the-laws, (shr-slice-tells (named 1) (κs .1 .0) B, (uint-tells w64, tt))))))
-      (λ κs qs bounds a g are. via 𝓤 _ (fst∗ 𝓤 _ (emp 𝓤)) (walk 𝓤 H A W mem run (κs .0) (κs .1 .0) (qs .0) (qs .1 .0) (a .1 .0 .ptr .0) (a .1 .0 .ptr .1) (a .0) (a .1 .0 .name) (a .1 .0 .now) (a .1 .1 .0) (a .1 .1 .1 .0) (a .1 .1 .1 .1 .0) _ _ (are .0) (are .1 .0 .0 .1) (are .1 .1 .0) (are .1 .1 .1 .0 .0 .1) (are .1 .1 .1 .1 .0 .1)
-      (𝓣 .C) (𝓣 .Λ) (fmOf 𝓤 H (W .laws) 𝓣) known-loss known-frame known-count known-start known-blocks known-conclude))
-
-  add-meets : Meets 𝓤 H A add-report.signature (WpFn 𝓤 H (𝓣 .C) (𝓣 .Λ) code.function) (add-report.spec 𝓤 H A mem run)
-  add-meets = walk-meets 𝓤 H A add-report.ended stayed W (goes-none 𝓤 H A W 2 (λ _. N.the-row) yes (λ κs x f. refl), (goes-gave-slice 𝓤 H A W 2 0 tt (plain (λ _. u8)), (goes-none 𝓤 H A W 2 (λ _. P.the-row) yes (λ κs x f. refl), (goes-none-slice 𝓤 H A W 2 (1 ∷ []) tt (plain (λ _. B)) yes, (goes-none 𝓤 H A W 2 (λ _. u64) yes (λ κs x f. refl), tt))))) (add-report.clauses 𝓤 H A mem run)
-      (WpFn 𝓤 H (𝓣 .C) (𝓣 .Λ) code.function) (WpFn-mono 𝓤 H (W .laws) 𝓣 code.function) add-walks
+  walk : ent 𝓤 (onEntry 𝓤 H A added.signature (κ, (κ′, tt)) (q, (q′, tt)) (m, (y γ l, (p, (x, (k, tt))))) vals) (WpFn 𝓤 H (callsOf 𝓤 H 𝓜 𝓖 𝓡 code.env) (loopsOf 𝓤 H 𝓜 𝓖 𝓡 code.env) code.function (c ∷ s ∷ v ∷ t ∷ vint w64 k ∷ []) Post)
+  walk =
+      qed W ((token ⊛ token′) ∷ ‵ (owns (N.the-row ∷ MutSlice (named 0) κ u8 ∷ P.the-row ∷ ShrSlice (named 1) κ′ B ∷ u64 ∷ []) (m, (y γ l, (p, (x, (k, tt))))) vals) ∷ []) ∵ enter ! (callsOf 𝓤 H 𝓜 𝓖 𝓡 code.env) (loopsOf 𝓤 H 𝓜 𝓖 𝓡 code.env) code.function (c ∷ s ∷ v ∷ t ∷ vint w64 k ∷ []) _ $
+      alloc1 ! (λ l₀. alloc1 ! (λ l₁. alloc1 ! (λ l₂. alloc1 ! (λ l₃. alloc1 ! (λ l₄. alloc1 ! (λ l₅. alloc1 ! (λ l₆. alloc1 ! (λ l₇. alloc1 ! (λ l₈. alloc1 ! (λ l₉. alloc1 ! (λ l₁₀. alloc1 ! (λ l₁₁. alloc1 ! (λ l₁₂. alloc1 ! (λ l₁₃. alloc1 ! (λ l₁₄. alloc1 ! (λ l₁₅. alloc0 ! $ params1 ! $
+      pass1 ! (init ! 28 refl (LL.lawful N.the-type N′.the-laws 𝓤 H A W .typed m _ m-is .0)) $ pass1 ! (init ! 26 refl (tt, (tt, (record { fits = room .0 }, tt)))) $ pass1 ! (init ! 24 refl (EL.lawful P.the-type P′.the-laws 𝓤 H A W tt .typed p _ p-is .0)) $ pass1 ! (init ! 22 refl (tt, (tt, (record { fits = room′ .0 }, tt)))) $ pass1 ! (init ! 20 refl (tt, record { fits = k-fits })) $ pass0 ! $
+      move ! (33 ∷ []) $ fsplit ! $ drop ! $ fsplit ! $ move ! (1 ∷ []) $ fsplit ! $ drop ! $ fsplit ! $ move ! (1 ∷ []) $ drop ! $ move ! (34 ∷ []) $ split ! $ move ! (1 ∷ 2 ∷ []) $
+      -- [the second token; Own; Buf's; Buf; the locals from the last to the first]
+      calls-lent W loss.ended (loss.clauses 𝓤 H A (𝓜 .mem) (𝓡 .run)) (((κ′, tt), (q′, tt), tt, (x, tt), (t ∷ [], tt)), tt) ! (framed 𝓤 H 𝓜 𝓖 𝓡 code.env) (cited 𝓤 H _ 𝓜 𝓡 code.env loss-def.name loss-def.routine code.calls-records·decisive-loss (loss-thm.met 𝓤 H 𝓜 𝓖 𝓡)) token′ (‵ Own) (shr-slice-copy 𝓤 H A W (named 1) κ′ B .twice x (t ∷ []))
+      (qed W (token′ ∷ ‵ Own ∷ []) ∵ nothing ! $ move ! (2 ∷ 0 ∷ []) $ fjoin ! $ move ! (1 ∷ 0 ∷ []) $ join ! $ frame ! $ done !) (id⊢ 𝓤 _) (and-then ! (load ! (from ! (stop !)) (look ! 26 refl)) (no-more !)) (λ d. d ≡ decisiveOf 0 bs) (λ d ws. id⊢ 𝓤 _) (uint-vals w32) (uint-tells w32) (λ d got d-is.
+      land ! (from ! (stop !)) (init ! 23 refl (uint-lawful 𝓤 H A W w32 .typed d _ d-is .0)) $ drop ! $
+      assigns ! (addr ! (from ! (fld ! refl (hop ! (look-in ! 30 (sub ! 0 refl (whole !))) (stop !))))) (from ! (stop !)) (init ! 14 refl (tt, tt)) $
+      assigns ! (agg ! (and-then ! (load ! (from ! (stop !)) (look ! 14 refl)) (and-then ! (load ! (from ! (fld ! refl (stop !))) (look-in ! 30 (sub ! 1 refl (whole !)))) (no-more !)))) (from ! (stop !)) (init ! 12 refl (tt, (tt, (record { fits = room .0 }, tt)))) $
+      assigns ! (of-opd ! (load ! (from ! (fld ! refl (stop !))) (look-in ! 26 (sub ! 1 refl (whole !))))) (from ! (stop !)) (init ! 10 refl (tt, record { fits = room′ .0 })) $
+      -- `add_frame`: buf is lent again, for a lifetime ν of the call
+      lft-new ! tt (λ ν. move ! (4 ∷ 3 ∷ []) $
+      use2 W (later (some (λ (δ : GName). ‵ (Lent ν δ) ⊛ ‵ (LentAgain u8 κ (ν ∷ []) q γ b o δ l)))) (lends-again u8 κ (ν ∷ []) q γ b o 𝓤 H A W (named 0) (named 0) l (length l) refl) $ await ! tt $ pick ! (λ δ. split ! $
+      move ! (2 ∷ 0 ∷ []) $ use2 W (raw (contractOf 𝓤 H A around.ended (around.clauses 𝓤 H A (𝓜 .mem) (𝓡 .run)) .pre (to-frame ν δ d))) (goes-frame ν δ d (d-is .1)) $
+      calls-with W around.ended (around.clauses 𝓤 H A (𝓜 .mem) (𝓡 .run)) (to-frame ν δ d) ! (framed 𝓤 H 𝓜 𝓖 𝓡 code.env) (cited 𝓤 H _ 𝓜 𝓡 code.env around-def.name around-def.routine code.calls-records·add-frame (around-thm.met 𝓤 H 𝓜 𝓖 𝓡)) (and-then ! (load ! (from ! (stop !)) (look ! 32 refl)) (and-then ! (load ! (from ! (stop !)) (look ! 12 refl)) (and-then ! (load ! (from ! (stop !)) (look ! 28 refl)) (and-then ! (load ! (from ! (stop !)) (look ! 10 refl)) (and-then ! (load ! (from ! (stop !)) (look ! 22 refl)) (and-then ! (load ! (from ! (stop !)) (look ! 24 refl)) (no-more !)))))))
+      (λ z zs. FrameSaid d z (zs .1 .0)) (λ z zs. id⊢ 𝓤 _) (EL.vals S.the-type S′.the-laws) (EL.tells S.the-type S′.the-laws) (λ z zs e z-is.
+      land ! (from ! (stop !)) (init ! 22 refl (EL.lawful S.the-type S′.the-laws 𝓤 H A W tt .typed z _ z-is .0)) $ drop ! $
+      use1 W (‵ (flft (ν ∷ []) fullShare) ⊛ ‵ ftrue) (id⊢ 𝓤 _) $ split ! $ lft-end ! tt $ move ! (2 ∷ []) $ fsplit ! $ drop ! $ fsplit ! $ fsplit ! $ move ! (1 ∷ []) $ feqL ! (λ long. move ! (2 ∷ 4 ∷ 0 ∷ []) $
+      use3 W (later (‵ (Buf (zs .1 .0)) ⊛ token)) (comes-back u8 κ (ν ∷ []) q γ b o 𝓤 H A W (named 0) (named 0) l (length l) refl δ (zs .1 .0) room long) $ await ! tt $ split ! $
+      -- [Buf; its token; …; …; the second token; Own; the locals]
+      assigns ! (of-opd ! (load ! (from ! (fld ! refl (stop !))) (look-in ! 28 (sub ! 1 refl (whole !))))) (from ! (stop !)) (store ! 12 refl (tt, record { fits = room′ .0 })) $
+      calls-plain W count.ended (count.clauses 𝓤 H A (𝓜 .mem) (𝓡 .run)) ((tt, tt, tt, (z, (length bs, tt)), (EL.vals S.the-type S′.the-laws z, (vint w64 (length bs) ∷ [], tt))), tt) ! (framed 𝓤 H 𝓜 𝓖 𝓡 code.env) (cited 𝓤 H _ 𝓜 𝓡 code.env count-def.name count-def.routine code.calls-records·laid-count (count-thm.met 𝓤 H 𝓜 𝓖 𝓡)) (id⊢ 𝓤 _) (id⊢ 𝓤 _) (EL.makes S.the-type S′.the-plain 𝓤 H A, (uint-makes 𝓤 H A W w64, tt)) (z-is, ((refl, room′ .0), tt))
+      (and-then ! (load ! (from ! (stop !)) (look ! 23 refl)) (and-then ! (load ! (from ! (stop !)) (look ! 13 refl)) (no-more !))) (λ n. n ≡ laidCount (writtenOf z) (length bs)) (λ n ws. id⊢ 𝓤 _) (uint-vals w64) (uint-tells w64) (λ n counted n-is. land ! (from ! (stop !)) (init ! 20 refl (uint-lawful 𝓤 H A W w64 .typed n _ n-is .0)) $
+      calls-plain W start.ended (start.clauses 𝓤 H A (𝓜 .mem) (𝓡 .run)) ((tt, tt, tt, (m, (p, (z, tt))), (c ∷ [], (v ∷ [], (EL.vals S.the-type S′.the-laws z, tt)))), tt) ! (framed 𝓤 H 𝓜 𝓖 𝓡 code.env) (cited 𝓤 H _ 𝓜 𝓡 code.env start-def.name start-def.routine code.calls-records·blocks-at (start-thm.met 𝓤 H 𝓜 𝓖 𝓡)) (id⊢ 𝓤 _) (factI 𝓤 (blocksAt (m .len) p (writtenOf z) < 2 ^ 64) (emp 𝓤) (start-fits p bs k (writerOf m) l (writtenOf z) d (zs .1 .0) got (e .0) (e .1) (room .0)))
+      (LL.makes N.the-type N′.the-plain 𝓤 H A, (EL.makes P.the-type P′.the-plain 𝓤 H A, (EL.makes S.the-type S′.the-plain 𝓤 H A, tt))) (m-is, (p-is, (z-is, tt))) (and-then ! (load ! (from ! (stop !)) (look ! 35 refl)) (and-then ! (load ! (from ! (stop !)) (look ! 31 refl)) (and-then ! (load ! (from ! (stop !)) (look ! 23 refl)) (no-more !)))) (λ at. at ≡ blocksAt (m .len) p (writtenOf z)) (λ at ws. id⊢ 𝓤 _) (uint-vals w64) (uint-tells w64) (λ at starts at-is. land ! (from ! (stop !)) (init ! 18 refl (uint-lawful 𝓤 H A W w64 .typed at _ at-is .0)) $
+      assigns ! (addr ! (from ! (fld ! refl (hop ! (look-in ! 32 (sub ! 0 refl (whole !))) (stop !))))) (from ! (stop !)) (init ! 8 refl (tt, tt)) $
+      assigns ! (agg ! (and-then ! (load ! (from ! (stop !)) (look ! 8 refl)) (and-then ! (load ! (from ! (fld ! refl (stop !))) (look-in ! 32 (sub ! 1 refl (whole !)))) (no-more !)))) (from ! (stop !)) (init ! 6 refl (tt, (tt, (record { fits = room .0 }, tt)))) $
+      -- `write_blocks_unchecked`
+      move ! (5 ∷ []) $ use1 W (‵ Own ⊛ ‵ Own) (shr-slice-copy 𝓤 H A W (named 1) κ′ B .twice x (t ∷ [])) $ split ! $ move ! (3 ∷ 6 ∷ []) $ join ! $ move ! (0 ∷ 3 ∷ 1 ∷ []) $
+      use3 W (raw (contractOf 𝓤 H A blocks.ended (blocks.clauses 𝓤 H A (𝓜 .mem) (𝓡 .run)) .pre (to-blocks (zs .1 .0) at n)))
+      (goes-blocks (zs .1 .0) at n (at-is .1) (n-is .1) (count-fits-in p bs k (writerOf m) l (writtenOf z) d (zs .1 .0) got (e .0) (e .1) n at counted starts) (blocks-fit-in p bs k (writerOf m) l (writtenOf z) d (zs .1 .0) got (e .0) (e .1) n at counted starts)) $
+      calls-with W blocks.ended (blocks.clauses 𝓤 H A (𝓜 .mem) (𝓡 .run)) (to-blocks (zs .1 .0) at n) ! (framed 𝓤 H 𝓜 𝓖 𝓡 code.env) (cited 𝓤 H _ 𝓜 𝓡 code.env blocks-def.name blocks-def.routine code.calls-records·write-blocks-unchecked (blocks-thm.met 𝓤 H 𝓜 𝓖 𝓡)) (and-then ! (load ! (from ! (stop !)) (look ! 4 refl)) (and-then ! (load ! (from ! (stop !)) (look ! 16 refl)) (and-then ! (load ! (from ! (stop !)) (look ! 26 refl)) (and-then ! (load ! (from ! (stop !)) (look ! 18 refl)) (no-more !)))))
+      (λ _ ws. ws .0 ≡ stored at (blocksBytes (recordsOf (take n bs))) (zs .1 .0)) (λ i ws. id⊢ 𝓤 _) nothing-vals nothing-tells (λ i ws laid i-is.
+      land ! (from ! (stop !)) (init ! 10 refl (nothing-lawful 𝓤 H A W .typed i _ i-is .0)) $ drop ! $
+      use1 W (token ⊛ token′) (id⊢ 𝓤 _) $ move ! (1 ∷ []) $ fsplit ! $ fsplit ! $ move ! (1 ∷ []) $ feqL ! (λ long′.
+      -- [the last list; …; the tokens; Own; …; …; the locals]
+      calls-plain W conclude.ended (conclude.clauses 𝓤 H A (𝓜 .mem) (𝓡 .run)) ((tt, tt, tt, (m, (z, (k, tt))), (c ∷ [], (EL.vals S.the-type S′.the-laws z, (vint w64 k ∷ [], tt)))), tt) ! (framed 𝓤 H 𝓜 𝓖 𝓡 code.env) (cited 𝓤 H _ 𝓜 𝓡 code.env conclude-def.name conclude-def.routine code.calls-records·conclude (conclude-thm.met 𝓤 H 𝓜 𝓖 𝓡)) (id⊢ 𝓤 _) (factI 𝓤 (addedEnd (m .len) (writtenOf z) < 2 ^ 64) (emp 𝓤) (sum-fits p bs k (writerOf m) l (writtenOf z) d (zs .1 .0) got (e .0) (e .1) (room .0)))
+      (LL.makes N.the-type N′.the-plain 𝓤 H A, (EL.makes S.the-type S′.the-plain 𝓤 H A, (uint-makes 𝓤 H A W w64, tt))) (m-is, (z-is, ((refl, k-fits), tt))) (and-then ! (load ! (from ! (stop !)) (look ! 35 refl)) (and-then ! (load ! (from ! (stop !)) (look ! 23 refl)) (and-then ! (load ! (from ! (stop !)) (look ! 27 refl)) (no-more !)))) (λ r. callOf r ≡ concluded (writerOf m) (writtenOf z) k) (λ r ws. id⊢ 𝓤 _) (LL.vals K.the-type K′.the-laws) (LL.tells K.the-type K′.the-laws) (λ r ended r-is.
+      land ! (from ! (stop !)) (init ! 36 refl (LL.lawful K.the-type K′.the-laws 𝓤 H A W .typed r _ r-is .0)) $
+      returns ! (look ! 36 refl) $ forget ! 6 refl $ forget ! 8 refl $ forget ! 10 refl $ forget ! 12 refl $ forget ! 14 refl $ forget ! 16 refl $ forget ! 18 refl $ forget ! 20 refl $ forget ! 22 refl $ forget ! 24 refl $ forget ! 26 refl $ forget ! 28 refl $ forget ! 30 refl $ forget ! 32 refl $ forget ! 34 refl $ forget ! 36 refl $
+      move ! (36 ∷ 37 ∷ []) $ free1 ! $ move ! (34 ∷ 35 ∷ []) $ free1 ! $ move ! (32 ∷ 33 ∷ []) $ free1 ! $ move ! (30 ∷ 31 ∷ []) $ free1 ! $ move ! (28 ∷ 29 ∷ []) $ free1 ! $ move ! (26 ∷ 27 ∷ []) $ free1 ! $ move ! (24 ∷ 25 ∷ []) $ free1 ! $ move ! (22 ∷ 23 ∷ []) $ free1 ! $
+      move ! (20 ∷ 21 ∷ []) $ free1 ! $ move ! (18 ∷ 19 ∷ []) $ free1 ! $ move ! (16 ∷ 17 ∷ []) $ free1 ! $ move ! (14 ∷ 15 ∷ []) $ free1 ! $ move ! (12 ∷ 13 ∷ []) $ free1 ! $ move ! (10 ∷ 11 ∷ []) $ free1 ! $ move ! (8 ∷ 9 ∷ []) $ free1 ! $ move ! (6 ∷ 7 ∷ []) $ free1 ! $ free0 ! $ keep ! (2 ∷ 0 ∷ 3 ∷ []) $
+      suffices ! _ (ends-at 𝓤 H A added.ended stayed (added.clauses 𝓤 H A (𝓜 .mem) (𝓡 .run)) W (((κ, (κ′, tt)), (q, (q′, tt)), tt, (m, (y γ l, (p, (x, (k, tt))))), vals), tt) _ r (tt, (ws .0, (tt, (tt, (tt, tt))))) (tt, (long′ ∙ long, (tt, (tt, (tt, tt)))))) $
+      says ! (report-added p bs k (writerOf m) l (writtenOf z) d (zs .1 .0) got (e .0) (e .1) n at counted starts (callOf r) (ws .0) laid ended) $ frame ! $ nothing ! $ owned ! u64 (Is u64) (uint-makes 𝓤 H A W w64) k _ (refl, k-fits) $ fjoin ! $ move ! (2 ∷ 0 ∷ []) $ fjoin ! $
+      owned ! P.the-row (Is P.the-row) (EL.makes P.the-type P′.the-plain 𝓤 H A) p _ p-is $ fjoin ! $ move ! (1 ∷ 0 ∷ []) $ fjoin ! $ owned ! N.the-row (Is N.the-row) (LL.makes N.the-type N′.the-plain 𝓤 H A) m _ m-is $ fjoin ! $ frame ! $ owned ! K.the-row (Is K.the-row) (LL.makes K.the-type K′.the-plain 𝓤 H A) r _ r-is $ done !))))))))))))))))))))))))))
 
 pub add-report-spec : {M : Type 1} → stated.statement M
-unfolding code.routine tablesOf
+unfolding code.routine
 add-report-spec 𝓤 H 𝓜 𝓖 𝓡 =
-    entered 𝓤 H (tripleOf 𝓤 H (𝓖 .A) add-report.signature (add-report.spec 𝓤 H (𝓖 .A) (𝓜 .mem) (𝓡 .run)))
-    (tables 𝓤 H 𝓜 𝓡 code.env .C) (tables 𝓤 H 𝓜 𝓡 code.env .Λ) #add-report code.function (code.unfolded 𝓤 H 𝓜 𝓡)
-    (add-meets 𝓤 H (𝓖 .A) (givenOf 𝓤 H 𝓜 𝓖) (𝓜 .mem) (𝓡 .run) (tablesOf 𝓤 H 𝓜 (tables 𝓤 H 𝓜 𝓡 code.env))
-    (cited 𝓤 H (Loss 𝓤 H (𝓖 .A) (𝓜 .mem) (𝓡 .run)) 𝓜 𝓡 code.env #decisive-loss decisive-loss-def.routine code.calls-records·decisive-loss (decisive-loss-thm.met 𝓤 H 𝓜 𝓖 𝓡))
-    (cited 𝓤 H (Framing 𝓤 H (𝓖 .A) (𝓜 .mem) (𝓡 .run)) 𝓜 𝓡 code.env #add-frame add-frame-def.routine code.calls-records·add-frame (add-frame-thm.met 𝓤 H 𝓜 𝓖 𝓡))
-    (cited 𝓤 H (Count 𝓤 H (𝓖 .A) (𝓜 .mem) (𝓡 .run)) 𝓜 𝓡 code.env #laid-count laid-count-def.routine code.calls-records·laid-count (laid-count-thm.met 𝓤 H 𝓜 𝓖 𝓡))
-    (cited 𝓤 H (Start 𝓤 H (𝓖 .A) (𝓜 .mem) (𝓡 .run)) 𝓜 𝓡 code.env #blocks-at blocks-at-def.routine code.calls-records·blocks-at (blocks-at-thm.met 𝓤 H 𝓜 𝓖 𝓡))
-    (cited 𝓤 H (Blocks 𝓤 H (𝓖 .A) (𝓜 .mem) (𝓡 .run)) 𝓜 𝓡 code.env #write-blocks write-blocks-def.routine code.calls-records·write-blocks-unchecked (write-blocks-thm.met 𝓤 H 𝓜 𝓖 𝓡))
-    (cited 𝓤 H (Conclude 𝓤 H (𝓖 .A) (𝓜 .mem) (𝓡 .run)) 𝓜 𝓡 code.env #conclude conclude-def.routine code.calls-records·conclude (conclude-thm.met 𝓤 H 𝓜 𝓖 𝓡)))
+    let A = 𝓖 .A in
+    let W = givenOf 𝓤 H 𝓜 𝓖 in
+    meets 𝓤 H 𝓜 𝓖 𝓡 code.env #own code.function (code.unfolded 𝓤 H 𝓜 𝓡) added.ended stayed (added.clauses 𝓤 H A (𝓜 .mem) (𝓡 .run))
+    (goes-none 𝓤 H A W 2 (λ _. N.the-row) yes (λ κs x f. refl), (goes-gave-slice 𝓤 H A W 2 0 tt (plain (λ _. u8)), (goes-none 𝓤 H A W 2 (λ _. P.the-row) yes (λ κs x f. refl), (goes-none-slice 𝓤 H A W 2 (1 ∷ []) tt (plain (λ _. B)) yes, (goes-none 𝓤 H A W 2 (λ _. u64) yes (λ κs x f. refl), tt)))))
+    (walked 𝓤 H A added.ended stayed (added.clauses 𝓤 H A (𝓜 .mem) (𝓡 .run)) (WpFn 𝓤 H (callsOf 𝓤 H 𝓜 𝓖 𝓡 code.env) (loopsOf 𝓤 H 𝓜 𝓖 𝓡 code.env) code.function)
+    (λ κs. (LL.vals N.the-type N′.the-laws, (slice-vals, (EL.vals P.the-type P′.the-laws, (slice-vals, (uint-vals w64, tt)))))) (λ κs. (LL.tells N.the-type N′.the-laws, (mut-slice-tells (named 0) (κs .0) u8, (EL.tells P.the-type P′.the-laws, (shr-slice-tells (named 1) (κs .1 .0) B, (uint-tells w64, tt))))))
+    (λ κs qs bounds a g are. via 𝓤 _ (fst∗ 𝓤 _ (emp 𝓤)) (walk 𝓤 H 𝓜 𝓖 𝓡 (κs .0) (κs .1 .0) (qs .0) (qs .1 .0) (a .0) (a .1 .0 .ptr .0) (a .1 .0 .ptr .1) (a .1 .0 .name) (a .1 .0 .now) (a .1 .1 .0) (a .1 .1 .1 .0) (a .1 .1 .1 .1 .0) _ _ (are .0) (are .1 .0 .0 .1) (are .1 .1 .0) (are .1 .1 .1 .0 .0 .1) (are .1 .1 .1 .1 .0 .1))))

@@ -1,11 +1,5 @@
 -- `block_unchecked` meets its contract: a walk of its MIR, by hand. The block lies i * 28 past the slice's pointer, and is read there whole.
--- Assumes nothing.
-use mathlib.Core.Path.{refl, sym}
-use Prim.Native.Nat.{ℕ, _<_, _*_, _^_}
-use native.Mathlib.Omega.{arith}
-use mathlib.Core.List.{List, [], _∷_}
-use lib.ListN.{length, getD}
-use Rattle.records.proofs.Walking.{URA, fullShare, named, w64, tyPtr, Val, vint, vptr, SProp, ent, Lft, GName, Share, ftrue, fat, flft, Memory, Routine, Heap, Calls, Loops, WpFn, Tables, Atoms, Fun, givenOf, tables, tablesOf, Given, ‵, _⊛_, ⋆, _$_, _∵_, !, qed, by, move, keep, use1, split, join, rewrite, fsplit, fjoin, suffices, frame, done, whole, sub, look-in, look, look-raw, init, forget, stop, hop, fld, from, load, lit, of-opd, bin, assigns, returns, enter, alloc1, alloc0, params1, pass1, pass0, free1, free0, WpFn-mono, RattleType, owns, Is, shows, uint-vals, uint-tells, usize, RefT, sliceVal, ShrSlice, Room, slice-vals, shr-slice-tells, place-is, elem-out, elem-back, looks-slice, shuts-slice, plain, nothing, Vals, onEntry, Meets, tripleOf, entered, says, needs, Stays, stay-none-slice, stay-none, walkOf, goes-none-slice, goes-none, Walks, ends-at, walked, walk-meets, yes}
+use Rattle.by_hand.proofs.Walking.{refl, sym, List, [], _∷_, ℕ, _*_, _<_, _^_, arith, length, getD, callsOf, loopsOf, meets, URA, fullShare, named, w64, tyPtr, Val, vint, vptr, SProp, ent, Lft, Share, ftrue, flft, fat, GName, Memory, Routine, Heap, Calls, Loops, WpFn, Atoms, Fun, givenOf, Given, ‵, _⊛_, ⋆, _$_, _∵_, !, qed, by, move, use1, split, join, rewrite, fsplit, fjoin, suffices, frame, done, keep, whole, sub, look-in, look, init, forget, stop, fld, from, load, of-opd, assigns, returns, enter, alloc1, alloc0, params1, pass1, pass0, free1, free0, lit, bin, hop, look-raw, RattleType, owns, Is, shows, uint-vals, uint-tells, usize, RefT, now, sliceVal, ShrSlice, Room, slice-vals, shr-slice-tells, plain, nothing, onEntry, Vals, says, Stays, stay-none-slice, stay-none, walkOf, goes-none-slice, goes-none, ends-at, walked, needs, yes, place-is, elem-out, elem-back, looks-slice, shuts-slice}
 use denote.Struct.Laws as LL
 use Rattle.report.specs.declared.«report_block».ReportBlock.{ReportBlock}
 use Rattle.report.proofs.report_block.ReportBlock as T
@@ -74,19 +68,12 @@ module _ {M : Type 1} (𝓤 : URA M) (H : Heap 𝓤) (A : Atoms 𝓤) (W : Given
         move ! (17 ∷ 18 ∷ []) $ free1 ! $ move ! (15 ∷ 16 ∷ []) $ free1 ! $ move ! (13 ∷ 14 ∷ []) $ free1 ! $ move ! (11 ∷ 12 ∷ []) $ free1 ! $ move ! (9 ∷ 10 ∷ []) $ free1 ! $ move ! (7 ∷ 8 ∷ []) $ free1 ! $ free0 ! $
         move ! (4 ∷ 2 ∷ []) $ fjoin ! $ move ! (4 ∷ 0 ∷ []) $ fjoin ! $ move ! (4 ∷ []) $ fsplit ! $ keep ! (3 ∷ 2 ∷ 0 ∷ 4 ∷ []) $ by ! exits))))))))
 
-module _ {M : Type 1} (𝓤 : URA M) (H : Heap 𝓤) (A : Atoms 𝓤) (W : Given 𝓤 H A) (mem : Memory → SProp 𝓤) (run : Routine → Fun 𝓤) where
-  block-unchecked-walks : (C : Calls 𝓤 H) (Λ : Loops 𝓤 H) → Walks 𝓤 H A block-unchecked.ended stayed (WpFn 𝓤 H C Λ code.function) (block-unchecked.clauses 𝓤 H A mem run)
-  block-unchecked-walks C Λ = walked 𝓤 H A block-unchecked.ended stayed (block-unchecked.clauses 𝓤 H A mem run) (WpFn 𝓤 H C Λ code.function) (λ κs. (slice-vals, (uint-vals w64, tt))) (λ κs. (shr-slice-tells (named 0) (κs .0) R, (uint-tells w64, tt)))
-      (λ κs qs bounds a g are. needs 𝓤 _ _
-      (walk 𝓤 H A W mem run (κs .0) (qs .0) (a .0 .ptr .0) (a .0 .ptr .1) (a .0 .name) (a .0 .now) (a .1 .0) C Λ (are .0 .0 .1) (are .1 .0 .1)))
-
-block-unchecked-meets : {M : Type 1} (𝓤 : URA M) (H : Heap 𝓤) (A : Atoms 𝓤) → Given 𝓤 H A → (mem : Memory → SProp 𝓤) (run : Routine → Fun 𝓤) (𝓣 : Tables 𝓤 H)
-    → Meets 𝓤 H A block-unchecked.signature (WpFn 𝓤 H (𝓣 .C) (𝓣 .Λ) code.function) (block-unchecked.spec 𝓤 H A mem run)
-block-unchecked-meets 𝓤 H A W mem run 𝓣 = walk-meets 𝓤 H A block-unchecked.ended stayed W (goes-none-slice 𝓤 H A W 1 (0 ∷ []) tt (plain (λ _. R)) yes, (goes-none 𝓤 H A W 1 (λ _. usize) yes (λ κs x f. refl), tt)) (block-unchecked.clauses 𝓤 H A mem run) (WpFn 𝓤 H (𝓣 .C) (𝓣 .Λ) code.function) (WpFn-mono 𝓤 H (W .laws) 𝓣 code.function) (block-unchecked-walks 𝓤 H A W mem run (𝓣 .C) (𝓣 .Λ))
-
 pub block-unchecked-spec : {M : Type 1} → stated.statement M
-unfolding code.routine tablesOf
+unfolding code.routine
 block-unchecked-spec 𝓤 H 𝓜 𝓖 𝓡 =
-    entered 𝓤 H (tripleOf 𝓤 H (𝓖 .A) block-unchecked.signature (block-unchecked.spec 𝓤 H (𝓖 .A) (𝓜 .mem) (𝓡 .run)))
-    (tables 𝓤 H 𝓜 𝓡 code.env .C) (tables 𝓤 H 𝓜 𝓡 code.env .Λ) #block-unchecked code.function (code.unfolded 𝓤 H 𝓜 𝓡)
-    (block-unchecked-meets 𝓤 H (𝓖 .A) (givenOf 𝓤 H 𝓜 𝓖) (𝓜 .mem) (𝓡 .run) (tablesOf 𝓤 H 𝓜 (tables 𝓤 H 𝓜 𝓡 code.env)))
+    let A = 𝓖 .A in
+    let W = givenOf 𝓤 H 𝓜 𝓖 in
+    meets 𝓤 H 𝓜 𝓖 𝓡 code.env #block-unchecked code.function (code.unfolded 𝓤 H 𝓜 𝓡) block-unchecked.ended stayed (block-unchecked.clauses 𝓤 H A (𝓜 .mem) (𝓡 .run))
+    (goes-none-slice 𝓤 H A W 1 (0 ∷ []) tt (plain (λ _. R)) yes, (goes-none 𝓤 H A W 1 (λ _. usize) yes (λ κs x f. refl), tt))
+    (walked 𝓤 H A block-unchecked.ended stayed (block-unchecked.clauses 𝓤 H A (𝓜 .mem) (𝓡 .run)) (WpFn 𝓤 H (callsOf 𝓤 H 𝓜 𝓖 𝓡 code.env) (loopsOf 𝓤 H 𝓜 𝓖 𝓡 code.env) code.function) (λ κs. (slice-vals, (uint-vals w64, tt))) (λ κs. (shr-slice-tells (named 0) (κs .0) R, (uint-tells w64, tt)))
+    (λ κs qs bounds a g are. needs 𝓤 _ _ (walk 𝓤 H A W (𝓜 .mem) (𝓡 .run) (κs .0) (qs .0) (a .0 .ptr .0) (a .0 .ptr .1) (a .0 .name) (a .0 .now) (a .1 .0) (callsOf 𝓤 H 𝓜 𝓖 𝓡 code.env) (loopsOf 𝓤 H 𝓜 𝓖 𝓡 code.env) (are .0 .0 .1) (are .1 .0 .1))))

@@ -1,4 +1,4 @@
-use Prim.Native.Nat.{_+_, _-_, _*_, _<_, _≤_}
+use Prim.Native.Nat.{_+_, _-_, _≤_}
 use mathlib.Core.Path.{_≡_}
 use lib.ListN.{length}
 use borrow.Author.Needs.{needs}
@@ -6,15 +6,14 @@ use Rattle.rows.proofs.rows.Statement.{statement}
 use Rattle.rows.proofs.rows.Tie as tie
 
 abbrev Inv-loop : tie.InvT-loop
-Inv-loop lines state₀ out₀ n₀ w₀ space₀ first names at₀ state out n w space at = (at ≤ length lines + 1) × (length out ≡ length out₀) × (length space ≡ length space₀)
+Inv-loop lines state₀ out₀ n₀ w₀ space₀ first names at₀ newline state out n w space at = (at ≤ length lines + 1) × (length out ≡ length out₀) × (length space ≡ length space₀)
 
 abbrev μ-loop : tie.MeasureT-loop
-μ-loop lines state₀ out₀ n₀ w₀ space₀ first names at₀ state out n w space at = length lines - at
+μ-loop lines state₀ out₀ n₀ w₀ space₀ first names at₀ newline state out n w space at = length lines - at
 
 pub rows-spec : {M : Type 1} → statement M
-rows-spec {M} =
-    let answers = tie.spec {M = M}
-    Inv-loop μ-loop (λ c κs. search needs) (λ c. search needs) (λ c. search needs) (λ c. search needs) (λ c. search needs) (λ c. search needs)
-    (λ c κs. search needs) (λ c. search needs) (λ c. search needs) (λ c. search needs) (λ c κs. search needs) (λ c. search needs) (λ c. search needs)
-    (λ c. search needs) (λ c. search needs) (λ c. search needs) (λ c. search needs) in
-    tie.close answers
+rows-spec = tie.close
+    (tie.spec Inv-loop μ-loop (λ c κs. search needs) (λ c. search needs) (λ c. search needs) (λ c. search needs) (λ c. search needs)
+    (λ c. search needs) (λ c κs. search needs) (λ c. search needs) (λ c. search needs) (λ c. search needs) (λ c κs. search needs)
+    (λ c κs. search needs) (λ c. search needs) (λ c κs. search needs) (λ c. search needs) (λ c. search needs) (λ c. search needs)
+    (λ c. search needs) (λ c. search needs) (λ c. search needs))

@@ -1,18 +1,17 @@
-use Rattle.sdes_walk.proofs.Walks.{walks}
+use borrow.Author.Needs.{needs}
+use mathlib.Core.Path.{_≡_, refl}
+use Rattle.utils.specs.declared.error.RtcpParseError.{RtcpParseError}
+use Rattle.sdes.specs.declared.sdes.OpenedChunks.{OpenedChunks}
+use Rattle.sdes.specs.declared.sdes.OpenedChunks.the-variants as opened
+use Rattle.sdes.specs.Walk.{openedChunksOf}
+use Rattle.sdes_walk.specs.Walk.{startOf}
 use Rattle.sdes_walk.proofs.start.Statement.{statement}
 use Rattle.sdes_walk.proofs.start.Tie as tie
 
-enum-known-answer : tie.Need-enum-known-answer
-enum-known-answer c = search walks
+not-opened : (a : OpenedChunks) (e : RtcpParseError) → a ≡ opened.Refused e → record { at = 0; end = 0 } ≡ startOf (openedChunksOf a)
+not-opened a e q = rw q refl
 
-enum-told : tie.Need-enum-told
-enum-told c = search walks
-
-returns : tie.Need-returns
-returns c = search walks
-
-returns-2 : tie.Need-returns-2
-returns-2 c = search walks
+ruleset walks = (needs, not-opened)
 
 pub start-spec : {M : Type 1} → statement M
-start-spec = tie.close (tie.spec enum-known-answer enum-told returns returns-2)
+start-spec = tie.close (tie.spec (λ c. search walks) (λ c. search walks) (λ c. search walks) (λ c. search walks))

@@ -7,7 +7,5 @@ returns : tie.Need-returns
 returns c = search (needs, counts)
 
 pub limited-spec : {M : Type 1} → statement M
-limited-spec {M} =
-    let answers = tie.spec {M = M}
-    (λ c κs. search needs) returns in
-    tie.close answers
+limited-spec = tie.close
+    (tie.spec (λ c κs. search needs) returns)

@@ -1,5 +1,4 @@
-use Prim.Native.Nat.{_+_, _-_, _*_, _<_, _≤_}
-use mathlib.Core.Path.{_≡_}
+use Prim.Native.Nat.{_-_, _≤_}
 use lib.ListN.{length}
 use borrow.Author.Needs.{needs}
 use Rattle.rows.proofs.text.find.Statement.{statement}
@@ -12,8 +11,6 @@ abbrev μ-loop : tie.MeasureT-loop
 μ-loop s from b at₀ at = length s - at
 
 pub find-spec : {M : Type 1} → statement M
-find-spec {M} =
-    let answers = tie.spec {M = M}
-    Inv-loop μ-loop (λ c. search needs) (λ c. search needs) (λ c. search needs) (λ c. search needs) (λ c. search needs) (λ c. search needs)
-    (λ c. search needs) in
-    tie.close answers
+find-spec = tie.close
+    (tie.spec Inv-loop μ-loop (λ c. search needs) (λ c. search needs) (λ c. search needs) (λ c. search needs) (λ c. search needs)
+    (λ c. search needs) (λ c. search needs))

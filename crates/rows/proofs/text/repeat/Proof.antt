@@ -1,4 +1,4 @@
-use Prim.Native.Nat.{_+_, _-_, _*_, _<_, _≤_}
+use Prim.Native.Nat.{_≤_}
 use mathlib.Core.Path.{_≡_}
 use lib.ListN.{length}
 use borrow.Author.Needs.{needs}
@@ -12,8 +12,6 @@ abbrev μ-loop : tie.MeasureT-loop
 μ-loop out₀ from b count at₀ left₀ out at left = left
 
 pub repeat-spec : {M : Type 1} → statement M
-repeat-spec {M} =
-    let answers = tie.spec {M = M}
-    Inv-loop μ-loop (λ c. search needs) (λ c. search needs) (λ c. search needs) (λ c. search needs) (λ c. search needs) (λ c. search needs)
-    (λ c. search needs) (λ c. search needs) (λ c. search needs) (λ c. search needs) in
-    tie.close answers
+repeat-spec = tie.close
+    (tie.spec Inv-loop μ-loop (λ c. search needs) (λ c. search needs) (λ c. search needs) (λ c. search needs) (λ c. search needs)
+    (λ c. search needs) (λ c. search needs) (λ c. search needs) (λ c. search needs) (λ c. search needs))
