@@ -37,19 +37,19 @@ lost-word s at y h =
     let w : val (take 1 (drop (at + 4) s)) * 16777216 + val (take 3 (drop (at + 5) s)) ≡ val (take 4 (drop (at + 4) s)) = rw p at j in
     (omega arith, omega arith)
 
-pub block-is : (s : List ℕ) (at a lost d e f g : ℕ) → ((i : ℕ) → getD s i 0 < 256) → at + 24 ≤ length s → a ≡ val (take 4 (drop at s)) → lost ≡ val (take 4 (drop (at + 4) s))
+pub block-is : (s : List ℕ) (at a lost loss d e f g : ℕ) → ((i : ℕ) → getD s i 0 < 256) → at + 24 ≤ length s → a ≡ val (take 4 (drop at s)) → lost ≡ val (take 4 (drop (at + 4) s)) → loss ≡ lossOf (lost % 16777216)
     → d ≡ val (take 4 (drop (at + 8) s)) → e ≡ val (take 4 (drop (at + 12) s)) → f ≡ val (take 4 (drop (at + 16) s)) → g ≡ val (take 4 (drop (at + 20) s))
     → record {
       ssrc = a;
       «fraction_lost» = lost / 16777216;
-      «cumulative_lost» = lost % 16777216;
+      «cumulative_lost» = loss;
       «extended_sequence_number» = d;
       «interarrival_jitter» = e;
       «last_sender_report_timestamp» = f;
       «delay_since_last_sender_report_timestamp» = g;
     } ≡ blockAt s at
-unfolding get lossOf
-block-is s at a lost d e f g y h p₁ p₂ p₄ p₅ p₆ p₇ =
+unfolding get
+block-is s at a lost loss d e f g y h p₁ p₂ p₃ p₄ p₅ p₆ p₇ =
     let w = lost-word s at y h in
     rw (
       drop-drop 1 4 (drop at s),
@@ -64,6 +64,7 @@ block-is s at a lost d e f g y h p₁ p₂ p₄ p₅ p₆ p₇ =
       drop-drop 16 at s,
       drop-drop 20 at s,
       p₁,
+      p₃,
       p₂,
       w .0,
       w .1,

@@ -13,6 +13,7 @@ use lib.Bits.{bitOr, or-add-and, and-le-l, and-le-r, or-lt}
 use lib.Dec.{leb, eqb}
 use Rattle.rfc3550.specs.Answer.{Answer, ok, refused, refusal, need, pick, _>>_}
 use Rattle.rfc3550.specs.Bytes.{be, put, store}
+use Rattle.rfc3550.proofs.Loss.{lossBits-lt}
 use Rattle.rfc3550.specs.Loss.{Loss, lossBits, lossIn, lossShown, lossMost}
 use Rattle.rfc3550.specs.Packet.{Block, blockWidths, blockFields, blocksBytes}
 use Rattle.rfc3550.specs.Write.{BlockLists, lentBlocks, blocksLent, blocksAgree, lossTests}
@@ -176,17 +177,18 @@ unfolding blocksBytes
 length-blocks [] = refl
 length-blocks (b ∷ bs) = rw (length-append (blockBytes b) (blocksBytes bs), length-block b, length-blocks bs) (omega arith)
 
-loss-word : (f x : ℕ) (r : List ℕ) → be 4 (f * 16777216 + x % 16777216) ++ r ≡ be 1 f ++ (be 3 (lossBits x) ++ r)
-unfolding lossBits
-loss-word f x r = rw (be-cons 3 f (x % 16777216) (omega arith), be-one f)
+loss-word : (f lost bits : ℕ) (r : List ℕ) → bits ≡ lossBits lost → be 4 (f * 16777216 + bits) ++ r ≡ be 1 f ++ (be 3 (lossBits lost) ++ r)
+loss-word f lost bits r q =
+    let h : bits < 16777216 = rw q (lossBits-lt lost) in
+    rw (be-cons 3 f bits h, be-one f, q)
 
-pub block-laid : (at ssrc fraction lost sequence jitter lsr dlsr : ℕ) (l l₁ l₂ l₃ l₄ l₅ l₆ : List ℕ) → at + 24 ≤ length l
-    → l₁ ≡ store at (be 4 ssrc) l → l₂ ≡ store (at + 4) (be 4 (fraction * 16777216 + lost % 16777216)) l₁ → l₃ ≡ store (at + 8) (be 4 sequence) l₂
+pub block-laid : (at ssrc fraction lost bits sequence jitter lsr dlsr : ℕ) (l l₁ l₂ l₃ l₄ l₅ l₆ : List ℕ) → at + 24 ≤ length l → bits ≡ lossBits lost
+    → l₁ ≡ store at (be 4 ssrc) l → l₂ ≡ store (at + 4) (be 4 (fraction * 16777216 + bits)) l₁ → l₃ ≡ store (at + 8) (be 4 sequence) l₂
     → l₄ ≡ store (at + 12) (be 4 jitter) l₃ → l₅ ≡ store (at + 16) (be 4 lsr) l₄ → l₆ ≡ store (at + 20) (be 4 dlsr) l₅ → l₆ ≡ store at (put blockWidths (blockFields (blockGiven ssrc fraction lost sequence jitter lsr dlsr))) l
 unfolding put be
-block-laid at ssrc fraction lost sequence jitter lsr dlsr l l₁ l₂ l₃ l₄ l₅ l₆ h e₁ e₂ e₃ e₄ e₅ e₆ =
-    e₆ ∙ rw (e₅, e₄, e₃, e₂, e₁) (stores at (be 4 ssrc) (be 4 (fraction * 16777216 + lost % 16777216) ∷ be 4 sequence ∷ be 4 jitter ∷ be 4 lsr ∷ be 4 dlsr ∷ []) l h)
-    ∙ ap (λ (bs : List ℕ). store at (be 4 ssrc ++ bs) l) (loss-word fraction lost _)
+block-laid at ssrc fraction lost bits sequence jitter lsr dlsr l l₁ l₂ l₃ l₄ l₅ l₆ h q e₁ e₂ e₃ e₄ e₅ e₆ =
+    e₆ ∙ rw (e₅, e₄, e₃, e₂, e₁) (stores at (be 4 ssrc) (be 4 (fraction * 16777216 + bits) ∷ be 4 sequence ∷ be 4 jitter ∷ be 4 lsr ∷ be 4 dlsr ∷ []) l h)
+    ∙ ap (λ (bs : List ℕ). store at (be 4 ssrc ++ bs) l) (loss-word fraction lost bits _ q)
 
 -- ---- the blocks, one after the other
 

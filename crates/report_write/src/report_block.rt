@@ -1,4 +1,5 @@
 // Report blocks, written (report_block.rs, `ReportBlockBuilder`).
+use report::loss;
 use report::report_block::ReportBlock;
 use utils::error::RtcpWriteError;
 use utils::writer;
@@ -16,20 +17,11 @@ ghost use Rattle.report_write.specs.Report.{blockLists, blockGiven, late
 
 const MAX_BLOCKS: u8 = 31;
 
-const MAX_LOSS: u32 = 16777215;
-
-// Cumulative lost fits its 24 bits.
-pub fn check_loss(loss: u32) -> bool
-    ensures { λ r. ⌜ r ≡ lossIn loss ⌝ }
-{
-    loss <= MAX_LOSS
-}
-
 // Of a loss and the next one, the first if it does not fit.
 pub fn later_loss(loss: u32, next: u32) -> u32
     ensures { λ r. ⌜ r ≡ laterLoss loss next ⌝ }
 {
-    if check_loss(loss) {
+    if loss::check_loss(loss) {
         return next;
     }
     loss
@@ -73,7 +65,7 @@ pub fn size_of_count(count: usize, loss: u32, padding: u64, least: u8) -> usize
     if !writer::check_padding(padding) {
         return 0;
     }
-    if !check_loss(loss) {
+    if !loss::check_loss(loss) {
         return 0;
     }
     least as usize + count * ReportBlock::EXPECTED_SIZE + padding as usize
@@ -92,10 +84,10 @@ pub fn why_count(count: usize, loss: u32, padding: u64) -> RtcpWriteError
     if !writer::check_padding(padding) {
         return RtcpWriteError::InvalidPadding { padding };
     }
-    if !check_loss(loss) {
+    if !loss::check_loss(loss) {
         return RtcpWriteError::CumulativeLostTooLarge {
             value: loss,
-            max: MAX_LOSS,
+            max: loss::MAX_LOSS,
         };
     }
     RtcpWriteError::PacketTooLarge
@@ -151,7 +143,11 @@ pub fn write_block_unchecked(
     ensures { λ _. ⌜ now (buf .exit) ≡ store at (put blockWidths (blockFields (blockGiven ssrc fraction loss sequence jitter lsr dlsr))) (now (buf .entry)) ⌝ }
 {
     writer::write_u32_unchecked(buf, at, ssrc);
-    writer::write_u32_unchecked(buf, at + 4, fraction as u32 * 16777216 + loss % 16777216);
+    writer::write_u32_unchecked(
+        buf,
+        at + 4,
+        fraction as u32 * 16777216 + loss::loss_bits(loss),
+    );
     writer::write_u32_unchecked(buf, at + 8, sequence);
     writer::write_u32_unchecked(buf, at + 12, jitter);
     writer::write_u32_unchecked(buf, at + 16, lsr);
