@@ -6,15 +6,13 @@ use Rattle.rfc3550.specs.Answer.{Answer, ok, refused}
 use Rattle.utils.proofs.Injective.{injective, parseError, parseRefusal-back}
 use Rattle.compound.specs.Unknown.{parsedUnknownOf}
 use Rattle.compound.specs.Packet.{parsedOf}
-use Rattle.compound.specs.Compound.{readOf, checkedOf, parsedCompoundOf, openedOf, steppedOf}
+use Rattle.compound.specs.Compound.{checkedOf, parsedCompoundOf, openedOf, steppedOf}
 use Rattle.compound.specs.declared.unknown.Unknown.{Unknown}
 use Rattle.compound.specs.declared.unknown.ParsedUnknown.{ParsedUnknown}
 use Rattle.compound.specs.declared.unknown.ParsedUnknown.the-variants as unknown
 use Rattle.compound.specs.declared.packet.Packet.{Packet}
 use Rattle.compound.specs.declared.packet.ParsedPacket.{ParsedPacket}
 use Rattle.compound.specs.declared.packet.ParsedPacket.the-variants as packet
-use Rattle.compound.specs.declared.compound.ReadPacket.{ReadPacket}
-use Rattle.compound.specs.declared.compound.ReadPacket.the-variants as read
 use Rattle.compound.specs.declared.compound.CheckedPacket.{CheckedPacket}
 use Rattle.compound.specs.declared.compound.CheckedPacket.the-variants as checked
 use Rattle.compound.specs.declared.compound.Compound.{Compound}
@@ -47,17 +45,6 @@ parsedOf-back (packet.Refused e) = ap packet.Refused (parseRefusal-back e)
 
 pub parsedOf-injective : (o p : ParsedPacket) → parsedOf o ≡ parsedOf p → o ≡ p
 parsedOf-injective = injective parsedOf parsedFor parsedOf-back
-
-abbrev readFor : Answer (Packet × ℕ) → ReadPacket
-readFor (ok x) = read.Packet (x .0) (x .1)
-readFor (refused r) = read.Refused (parseError r)
-
-readOf-back : (o : ReadPacket) → readFor (readOf o) ≡ o
-readOf-back (read.Packet p n) = refl
-readOf-back (read.Refused e) = ap read.Refused (parseRefusal-back e)
-
-pub readOf-injective : (o p : ReadPacket) → readOf o ≡ readOf p → o ≡ p
-readOf-injective = injective readOf readFor readOf-back
 
 abbrev checkedFor : Answer (Bool × ℕ) → CheckedPacket
 checkedFor (ok x) = checked.Packet (x .0) (x .1)

@@ -1,11 +1,12 @@
 use Rattle.rtcp.proofs.Datagrams.{datagrams}
-use borrow.Author.Needs.{needs}
 use Rattle.rtcp.proofs.read_compound.rtcp_walk_step.Statement.{statement}
 use Rattle.rtcp.proofs.read_compound.rtcp_walk_step.Tie as tie
 
 pub rtcp-walk-step-spec : {M : Type 1} → statement M
 rtcp-walk-step-spec {M} =
     let answers = tie.spec {M = M}
-    (λ c κs. search needs) (λ c. search needs) (λ c κs. search needs) (λ c. search datagrams) (λ c. search needs) (λ c κs. search needs)
-    (λ c. search datagrams) (λ c. search datagrams) in
+    (λ c κs. search datagrams) (λ c. search datagrams) (λ c. search datagrams) (λ c. search datagrams) (λ c κs. search datagrams)
+    (λ c κs. search datagrams) (λ c. search datagrams) (λ c. search datagrams) (λ c. search datagrams) (λ c. search datagrams)
+    (λ c. search datagrams) (λ c κs. search datagrams) (λ c. search datagrams) (λ c. search datagrams) (λ c. search datagrams)
+    (λ c κs. search datagrams) (λ c κs. search datagrams) (λ c. search datagrams) (λ c. search datagrams) in
     tie.close answers
