@@ -159,6 +159,93 @@ struct RtcpWritten rtcp_compound_packets(const uint8_t *s, size_t len, uint64_t 
     return (struct RtcpWritten){0, 0, 0, n};
 }
 
+/* ---- walks ---- */
+
+/* The end of the chunk at the start of the bytes, 0 where it is refused; cname is left as the place of its first CNAME. */
+static inline size_t chunk_end(const uint8_t *s, size_t end, uint64_t *cname) {
+    size_t at = 4;
+    if (end < 8) return 0;
+    while (s[at] != 0) { /* at < end - 1 here */
+        if (s[at] == 8) return 0;
+        if (s[at] == 1 && *cname == 0) *cname = at;
+        at += 2 + (size_t)s[at + 1];
+        if (at > end - 1) return 0;
+        if (at == end - 1) {
+            if (s[at] != 0) return 0;
+            break;
+        }
+    }
+    for (size_t up = (at | 3) + 1; at < up; at++)
+        if (s[at] != 0) return 0;
+    return at;
+}
+
+struct RtcpItemWalk rtcp_item_walk_open(const uint8_t *s, size_t len) {
+    uint64_t cname = 0;
+    return (struct RtcpItemWalk){chunk_end(s, len, &cname) == 0 ? 99 : 0, 0, 0, 4};
+}
+
+struct RtcpItemStep rtcp_item_walk_step(const uint8_t *s, size_t len, uint64_t at) {
+    if (len - 1 > at && len > at && s[at] != 0 && s[at] != 8 && at + 2 + s[at + 1] <= len)
+        return (struct RtcpItemStep){0, 0, 0, s[at], s[at + 1], at + 2, 0, at + 2, s[at + 1], at + 2 + s[at + 1]};
+    return (struct RtcpItemStep){.number = 99, .at = at};
+}
+
+struct RtcpChunkWalk rtcp_chunk_walk_open(const uint8_t *s, size_t len) {
+    uint32_t w = len < 4 ? 0 : load32(s);
+    int cname = 0;
+    if (!LIKELY(headed(w, 202, len) && scan(s, len, w >> 24 & 31, &cname))) return (struct RtcpChunkWalk){.number = 99};
+    return (struct RtcpChunkWalk){0, 0, 0, 4, len};
+}
+
+struct RtcpChunkStep rtcp_chunk_walk_step(const uint8_t *s, size_t len, uint64_t at, uint64_t end) {
+    size_t limit = len < 262144 ? len : 262144;
+    uint64_t cname = 0, size = at < limit && at < end ? chunk_end(s + at, limit - at, &cname) : 0;
+    if (size == 0) return (struct RtcpChunkStep){.number = 99, .at = at, .end = end};
+    return (struct RtcpChunkStep){0, 0, 0, load32(s + at), size, cname, at + size, end};
+}
+
+struct RtcpBlock rtcp_rr_report_block(const uint8_t *s, size_t len, uint64_t i) {
+    uint32_t w = len < 8 ? 0 : load32(s);
+    size_t n = w >> 24 & 31;
+    if (!LIKELY(headed(w, 201, len) && 8 + 24 * n <= len && i < n)) return (struct RtcpBlock){.number = 99};
+    s += 8 + 24 * i;
+    return (struct RtcpBlock){0, 0, 0, load32(s), s[4], load32(s + 4) & 0xffffff, load32(s + 8), load32(s + 12), load32(s + 16), load32(s + 20)};
+}
+
+static inline int framed(const uint8_t *s, size_t left, int first, uint32_t *w, size_t *len) {
+    if (left < 4) return 0;
+    *w = load32(s);
+    *len = ((*w & 0xffff) + 1) * 4;
+    return (*w & 0xe0000000u) == 0x80000000u && *len <= left && (!first || (*w >> 16 & 0xfe) == 200);
+}
+
+struct RtcpWalk rtcp_walk_open(const uint8_t *s, size_t len) {
+    int cname = 0;
+    uint32_t w;
+    for (size_t at = 0, l; at < len; at += l)
+        if (!framed(s + at, len - at, at == 0, &w, &l) || !packet_is_right(s + at, w, l, &cname)) return (struct RtcpWalk){.number = 99};
+    return (struct RtcpWalk){.number = cname ? 0 : 99};
+}
+
+struct RtcpStep rtcp_walk_step(const uint8_t *s, size_t len, uint64_t at) {
+    uint32_t w;
+    size_t l;
+    int cname = 0;
+    if (at >= len || !framed(s + at, len - at, at == 0, &w, &l) || !packet_is_right(s + at, w, l, &cname))
+        return (struct RtcpStep){.number = 99, .at = at};
+    struct RtcpStep p = {.kind = w >> 16 & 255, .packet_type = w >> 16 & 255, .count = w >> 24 & 31, .offset = at, .len = l, .body = l, .at = at + l};
+    s += at;
+    if (p.kind == 202) {
+        p.has_cname = (uint64_t)cname;
+        return p;
+    }
+    p.ssrc = load32(s + 4);
+    p.extension = (p.kind == 200 ? 28 : 8) + 24 * p.count;
+    if (p.kind == 200) p.ntp_timestamp = load64(s + 8), p.rtp_timestamp = load32(s + 16), p.packet_count = load32(s + 20), p.octet_count = load32(s + 24);
+    return p;
+}
+
 /* ---- writing ---- */
 
 static inline int fit(const uint32_t *losses, size_t n) {

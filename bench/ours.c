@@ -70,6 +70,57 @@ static uint64_t parse_sdes31(void) { return sdes_sum(sdes31.bytes, sdes31.len); 
 
 static uint64_t parse_priv31(void) { return sdes_sum(priv31.bytes, priv31.len); }
 
+/* By the walks, one call for each packet, block, chunk and item. */
+static uint64_t items_walked(const uint8_t *chunk, size_t len) {
+    uint64_t sum = 0;
+    struct RtcpItemWalk w = rtcp_item_walk_open(chunk, len);
+    if (w.number != 0) return 0;
+    for (uint64_t at = w.at;;) {
+        struct RtcpItemStep i = rtcp_item_walk_step(chunk, len, at);
+        if (i.number != 0) return sum;
+        sum += i.type_ + i.value_len + chunk[i.value];
+        at = i.at;
+    }
+}
+
+static uint64_t chunks_walked(const uint8_t *packet, size_t len) {
+    uint64_t sum = 0;
+    struct RtcpChunkWalk w = rtcp_chunk_walk_open(packet, len);
+    if (w.number != 0) return 0;
+    for (uint64_t at = w.at;;) {
+        struct RtcpChunkStep c = rtcp_chunk_walk_step(packet, len, at, w.end);
+        if (c.number != 0) return sum;
+        sum += c.ssrc + items_walked(packet + at, c.length);
+        at = c.at;
+    }
+}
+
+static uint64_t rr_walked(const uint8_t *packet, const struct RtcpStep *p) {
+    uint64_t sum = p->ssrc;
+    for (uint64_t i = 0; i < p->count; i++) {
+        struct RtcpBlock b = rtcp_rr_report_block(packet, p->len, i);
+        sum += b.ssrc + b.fraction_lost + b.cumulative_lost + b.extended_sequence_number + b.interarrival_jitter +
+               b.last_sender_report_timestamp + b.delay_since_last_sender_report_timestamp;
+    }
+    return sum;
+}
+
+static uint64_t walk_rrsdes(void) {
+    const struct Input *in = &rrsdes;
+    uint64_t sum = 0;
+    struct RtcpWalk w = rtcp_walk_open(in->bytes, in->len);
+    if (w.number != 0) return 0;
+    for (uint64_t at = w.at;;) {
+        struct RtcpStep p = rtcp_walk_step(in->bytes, in->len, at);
+        if (p.number != 0) return sum;
+        if (p.kind == 201) sum += rr_walked(in->bytes + p.offset, &p);
+        if (p.kind == 202) sum += chunks_walked(in->bytes + p.offset, p.len);
+        at = p.at;
+    }
+}
+
+static uint64_t walk_sdes31(void) { return chunks_walked(sdes31.bytes, sdes31.len); }
+
 static struct RtcpWritten sdes_written(uint8_t *buf, size_t room, const struct Input *in) {
     return rtcp_sdes_write(buf, room, in->ssrcs, in->n_chunks, in->counts, in->n_chunks, in->types, in->n_items, in->prefixes,
                            in->n_items, in->lengths, in->n_items, in->text, in->text_len, in->padding);
@@ -109,6 +160,7 @@ static uint64_t write_priv31(void) { return sdes_written(out, sizeof out, &priv3
 
 const struct Operation operations[] = {
     {"parse-rrsdes", parse_rrsdes, &rrsdes}, {"parse-sr31", parse_sr31, &sr31}, {"parse-sdes31", parse_sdes31, &sdes31},
+    {"walk-rrsdes", walk_rrsdes, &rrsdes},   {"walk-sdes31", walk_sdes31, &sdes31},
     {"write-rrsdes", write_rrsdes, &rrsdes}, {"write-sr31", write_sr31, &sr31}, {"write-sdes31", write_sdes31, &sdes31},
     {"write-compound", write_compound, &rrsdes},
     {"parse-padded", parse_padded, &padded}, {"parse-priv31", parse_priv31, &priv31},

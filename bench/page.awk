@@ -1,8 +1,9 @@
 # Writes docs/PERFORMANCE.md from the lines of bench/run: what, operation, side, value.
 BEGIN {
     FS = "\t"
-    n_ops = split("parse-rrsdes parse-sr31 parse-sdes31 parse-padded parse-priv31 write-rrsdes write-sr31 write-sdes31 write-compound write-padded write-priv31", ops, " ")
+    n_ops = split("parse-rrsdes parse-sr31 parse-sdes31 walk-rrsdes walk-sdes31 parse-padded parse-priv31 write-rrsdes write-sr31 write-sdes31 write-compound write-padded write-priv31", ops, " ")
     title["parse-rrsdes"] = "read RR+SDES"; title["parse-sr31"] = "read SR, 31 blocks"; title["parse-sdes31"] = "read SDES, 31 chunks"
+    title["walk-rrsdes"] = "walk RR+SDES"; title["walk-sdes31"] = "walk SDES, 31 chunks"
     title["parse-padded"] = "read RR+SDES, padded"; title["parse-priv31"] = "read SDES, 31 PRIV items"
     title["write-rrsdes"] = "write RR+SDES"; title["write-sr31"] = "write SR, 31 blocks"; title["write-sdes31"] = "write SDES, 31 chunks"
     title["write-compound"] = "write RR+SDES by a compound writer"
@@ -144,6 +145,8 @@ END {
     print "  made before the loop, so that only `write_into`, which checks and writes, is measured; 'with its builder' makes the builders in the loop."
     print "  'with LTO' has the whole program compiled as one, so that the crate's functions are merged into the loop that reads. None of the sides is"
     print "  compiled so by default, and the best peer below is taken without it. It refuses an SDES packet with padding, so it has no such row."
+    print "- 'walk' reads the same fields by the calls of the walks, one for each packet, block, chunk and item, each walk opened as rtcp.h has it. Beside it stands"
+    print "  what rtcp-types takes to read them, which goes over them one by one too."
     print "- Our crate runs the same program as rtcp-types: the same calls of the same names, its builders made before the loop or in it."
     print "- RR and SDES are written packet after packet, and once more by a compound writer: ours holds the rules of a compound, rtcp-types' own (its"
     print "  compound builder, made before the loop) only that padding comes last. pion writes a datagram by its compound in any case, which holds the rules;"

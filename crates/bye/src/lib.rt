@@ -3,7 +3,7 @@ pub mod write;
 
 use utils::error::RtcpParseError;
 ghost use mathlib.Core.Path.{_≡_};
-ghost use Prim.Native.Nat.{_+_, _-_, _<_};
+ghost use Prim.Native.Nat.{_+_, _-_};
 ghost use lib.ListN.{take, drop};
 ghost use Rattle.rfc3550.specs.Answer.{mapOk};
 ghost use Rattle.rfc3550.specs.Read.{BYE, readAs, readSourceAt};
@@ -29,12 +29,6 @@ pub enum ParsedBye {
 pub enum ParsedSource {
     Source(u32),
     Refused(RtcpParseError),
-}
-
-fn wide(b: u8) -> usize
-    ensures { λ r. ⌜ (r ≡ b) × (r < 256) ⌝ }
-{
-    b as usize
 }
 
 impl Bye {
@@ -66,7 +60,7 @@ impl Bye {
                 padding_len,
             };
         }
-        let reason_len = wide(s[end]);
+        let reason_len = utils::parser::wide(s[end]);
         let reason = end + 1;
         if body < reason + reason_len {
             return Bye::none();
@@ -113,7 +107,7 @@ impl Bye {
         if actual == end {
             return RtcpParseError::NothingLeft;
         }
-        let reason_len = wide(s[end]);
+        let reason_len = utils::parser::wide(s[end]);
         let expected = end + 1 + reason_len;
         if actual < expected {
             return RtcpParseError::Truncated { expected, actual };

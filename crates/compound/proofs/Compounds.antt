@@ -6,10 +6,10 @@ use mathlib.Core.List.{List, [], _∷_}
 use Prim.Native.Nat.{ℕ, zero, suc, _+_, _-_, _<_, _≤_, _^_}
 use native.Mathlib.Nat.{zero-add, add-zero}
 use native.Mathlib.Omega.{arith}
-use borrow.Author.Tests.{lt-leb, le-leb, lt-ltb, le-ltb, eq-eqb, ne-eqb, eqb-true, leb-true, not-true, not-false}
+use borrow.Author.Tests.{lt-leb, le-leb, lt-ltb, le-ltb, eq-eqb, ne-eqb, eqb-true, leb-true, ltb-true, not-true, not-false}
 use lib.ListN.{length, take, drop, getD, length-drop, drop-of-length-le}
 use lib.Seq.{length-take-le, take-all, drop-drop, getD-take, drop-cons}
-use lib.Dec.{eqb}
+use lib.Dec.{eqb, ltb}
 use Rattle.rfc3550.specs.Answer.{Refusal, refusal, Answer, ok, refused, refuse, need, _>>_, _>>=_, mapOk, pick}
 use Rattle.rfc3550.specs.Packet.{Packet as Read, hasCname, some}
 use Rattle.rfc3550.specs.Read.{kindOf, versionIn, padded, typeIn, lowIn, stated, readAs}
@@ -22,14 +22,12 @@ use Rattle.utils.specs.declared.error.RtcpParseError.{RtcpParseError}
 use Rattle.utils.proofs.Reading.{mapOk-refused}
 use Rattle.utils.proofs.Values.{value-came, none-came, number-came}
 use Rattle.compound.specs.Packet.{packetView, parsedOf, verdictOf, verdict}
-use Rattle.compound.specs.Compound.{paddingLast, reportFirst, frame, readOf, checkedOf, withLength, compoundView, parsedCompoundOf, walkAt, stepView}
+use Rattle.compound.specs.Compound.{paddingLast, reportFirst, frame, frameAt, checkedOf, withLength, compoundView, parsedCompoundOf, walkAt, stepView}
 use Rattle.compound.specs.declared.packet.Packet.{Packet}
 use Rattle.compound.specs.declared.packet.ParsedPacket.{ParsedPacket}
 use Rattle.compound.specs.declared.packet.ParsedPacket.the-variants as parsed
 use Rattle.compound.specs.declared.compound.CheckedPacket.{CheckedPacket}
 use Rattle.compound.specs.declared.compound.CheckedPacket.the-variants as checked
-use Rattle.compound.specs.declared.compound.ReadPacket.{ReadPacket}
-use Rattle.compound.specs.declared.compound.ReadPacket.the-variants as read
 use Rattle.compound.specs.declared.compound.Compound.{Compound}
 use Rattle.compound.specs.declared.compound.ParsedCompound.{ParsedCompound}
 use Rattle.compound.specs.declared.compound.ParsedCompound.the-variants as compound
@@ -201,26 +199,10 @@ module _ (first : Bool) (s : List ℕ) (n : ℕ) (h : n ≡ orZero (frame first 
     unfolding _>>=_
     behind = framed first s ∙ rw (number-came (frame first s) n h z, kind-cut n s (frame-is .long))
 
-    module _ (q : ParsedPacket) (g : parsedOf q ≡ mapOk packetView (readAs (kindOf (typeIn (take n s)) (lowIn (take n s))) (take n s))) where
-      pub packet-refused : (v : RtcpParseError) (r : Refusal) → q ≡ parsed.Refused v → r ≡ refusalIn (parsedOf q) → refused r ≡ mapOk (withLength packetView s) (readPacket first s)
-      unfolding mapOk
-      packet-refused v r w k = rw (behind, mapOk-refused packetView within (sym g ∙ ap parsedOf w ∙ ap refused (sym (k ∙ ap (λ (q : ParsedPacket). refusalIn (parsedOf q)) w))))
-
-      pub packet-read : (p : Packet) → q ≡ parsed.Packet p → ok (p, n) ≡ mapOk (withLength packetView s) (readPacket first s)
-      unfolding mapOk
-      packet-read p w = rw behind (go within (sym (ap parsedOf w) ∙ g) (frame-is .stated))
-        where
-          go : (m : Answer Read) → ok p ≡ mapOk packetView m → n ≡ stated s → ok (p, n) ≡ mapOk (withLength packetView s) m
-          go (ok x) k st = let y : p ≡ packetView x = ok-injective k in rw (y, st)
-          go (refused x) k st = absurd (refused≢ok (sym k))
-
     module _ (m : ℕ) (g : m ≡ valueOr 0 verdict (readAs (kindOf (typeIn (take n s)) (lowIn (take n s))) (take n s))) where
-      pub verdict-refused : (q : ParsedPacket) (r : Refusal) → m ≡ 0 → parsedOf q ≡ mapOk packetView (readAs (kindOf (typeIn (take n s)) (lowIn (take n s))) (take n s)) → r ≡ refusalIn (parsedOf q)
-          → refused r ≡ mapOk (withLength hasCname s) (readPacket first s)
+      pub verdict-refused : (r : Refusal) → m ≡ 0 → r ≡ refusalIn (readAs (kindOf (typeIn (take n s)) (lowIn (take n s))) (take n s)) → refused r ≡ mapOk (withLength hasCname s) (readPacket first s)
       unfolding mapOk
-      verdict-refused q r e f k =
-          let w : within ≡ refused (refusalIn within) = none-came 0 verdict (λ n. n) refl verdict-some within m g e in
-          rw (behind, w) (ap refused (k ∙ ap refusalIn (f ∙ ap (mapOk packetView) w)))
+      verdict-refused r e k = let w = none-came 0 verdict (λ n. n) refl verdict-some within m g e in rw (behind, w) (ap refused k)
 
       pub verdict-passed : (m ≡ 0 → ⊥) → ok (eqb m 2, n) ≡ mapOk (withLength hasCname s) (readPacket first s)
       unfolding mapOk
@@ -419,29 +401,84 @@ module _ (s : List ℕ) (at n : ℕ) (c : Bool) (g : Loop s at n c) where
 -- ---- a walk
 
 module _ (s : List ℕ) (at : ℕ) where
-  pub step-none : length s ≤ at → refuse 25 0 0 ≡ mapOk stepView (step s at)
-  unfolding step need _>>_ mapOk
-  step-none h = simp (le-ltb _ _ h)
+  at-end : length s ≤ at → refuse 25 0 0 ≡ frameAt s at
+  unfolding frameAt need _>>_
+  at-end h = simp (le-ltb _ _ h)
 
-  module _ (h : at < length s) (q : ReadPacket) (g : readOf q ≡ mapOk (withLength packetView (take (length s - at) (drop at s))) (readPacket (eqb at 0) (take (length s - at) (drop at s)))) where
-    pub step-refused : (v : RtcpParseError) (r : Refusal) → q ≡ read.Refused v → r ≡ refusalIn (readOf q) → refused r ≡ mapOk stepView (step s at)
-    unfolding step need _>>_ _>>=_ mapOk
-    step-refused v r e z =
-        rw (
-          lt-ltb at (length s) h,
-          gone packetView (eqb at 0) (drop at s) (readOf q) r (here packetView s at (readOf q) g) (ap readOf e ∙ ap refused (sym (z ∙ ap (λ (q : ReadPacket). refusalIn (readOf q)) e))),
-        )
+  pub len-none : length s ≤ at → 0 ≡ orZero (frameAt s at)
+  len-none h = ap orZero (at-end h)
 
-    pub step-some : (p : Packet) (k : ℕ) → q ≡ read.Packet p k → ok (p, walkAt (at + k)) ≡ mapOk stepView (step s at)
-    unfolding step need _>>_ _>>=_ mapOk
-    step-some p k e =
-        let w = came packetView (eqb at 0) (drop at s) (readOf q) p k (here packetView s at (readOf q) g) (ap readOf e) in
-        rw (lt-ltb at (length s) h, w .is-read, w .span, w .view)
+  pub len-none-why : length s ≤ at → refusal 25 0 0 ≡ refusalIn (frameAt s at)
+  len-none-why h = ap refusalIn (at-end h)
 
-    pub step-fits : (p : Packet) (k : ℕ) → q ≡ read.Packet p k → length s < 2 ^ 64 → at + k < 2 ^ 64
-    step-fits p k e b =
-        let w = came packetView (eqb at 0) (drop at s) (readOf q) p k (here packetView s at (readOf q) g) (ap readOf e) in
-        omega (arith, came-within packetView s at p k h w .1)
+  module _ (h : at < length s) where
+    at-place : frame (eqb at 0) (take (length s - at) (drop at s)) ≡ frameAt s at
+    unfolding frameAt need _>>_
+    at-place = rw (rest-is s at, lt-ltb at (length s) h)
+
+    pub len-here : (n : ℕ) → n ≡ orZero (frame (eqb at 0) (take (length s - at) (drop at s))) → n ≡ orZero (frameAt s at)
+    len-here n q = q ∙ ap orZero at-place
+
+    pub len-here-why : (r : Refusal) → r ≡ refusalIn (frame (eqb at 0) (take (length s - at) (drop at s))) → r ≡ refusalIn (frameAt s at)
+    len-here-why r q = q ∙ ap refusalIn at-place
+
+  module _ (n : ℕ) (h : n ≡ orZero (frameAt s at)) where
+    -- none is left, or the frame refuses
+    step-unframed : n ≡ 0 → step s at ≡ refused (refusalIn (frameAt s at))
+    unfolding step frameAt need _>>_ _>>=_
+    step-unframed z = go (ltb at (length s)) refl
+      where
+        go : (b : Bool) → ltb at (length s) ≡ b → step s at ≡ refused (refusalIn (frameAt s at))
+        go false e = rw e
+        go true e = rw (e, unframed (eqb at 0) (drop at s) n (rw e at h) z)
+
+    pub step-none : (r : Refusal) → n ≡ 0 → r ≡ refusalIn (frameAt (take (length s - 0) (drop 0 s)) at) → refused r ≡ mapOk stepView (step s at)
+    unfolding mapOk
+    step-none r z q = rw (step-unframed z) (ap refused (q ∙ ap (λ (s : List ℕ). refusalIn (frameAt s at)) (rest-is s 0)))
+
+    module _ (z : n ≡ 0 → ⊥) where
+      came-at : (at < length s) × (frame (eqb at 0) (drop at s) ≡ ok n)
+      unfolding frameAt
+      came-at = let a = need-inv _ _ _ _ _ (number-came (frameAt s at) n h z) in (ltb-true at (length s) (a .0), a .1)
+
+      here-framed : Framed (eqb at 0) (drop at s) n
+      here-framed = frame-inv (eqb at 0) (drop at s) n (sym (came-at .1))
+
+      pub step-start : at ≤ length s
+      step-start = let l = came-at .0 in omega arith
+
+      pub step-within : at + n ≤ length s
+      step-within = let f = here-framed in let l = came-at .0 in omega (arith, f .within, length-drop at s)
+
+      pub step-fits : length s < 2 ^ 64 → at + n < 2 ^ 64
+      step-fits l = let w = step-within in omega arith
+
+      abbrev there-read : Answer Read
+      there-read = readAs (kindOf (typeIn (take (at + n - at) (drop at s))) (lowIn (take (at + n - at) (drop at s)))) (take (at + n - at) (drop at s))
+
+      -- the step is the reading of the packet there
+      step-is : step s at ≡ (there-read >>= λ (p : Read). ok (p, at + n))
+      unfolding step need _>>_
+      step-is =
+          let m : at + n - at ≡ n = omega arith in
+          rw (lt-ltb at (length s) (came-at .0), m, behind (eqb at 0) (drop at s) n (sym (ap orZero (came-at .1))) z, ← here-framed .stated)
+
+      pub stepped : (a : Answer Packet) → a ≡ mapOk packetView there-read → mapOk (λ (p : Packet). (p, walkAt (at + n))) a ≡ mapOk stepView (step s at)
+      unfolding mapOk _>>=_
+      stepped a e = rw (step-is, e) (go there-read)
+        where
+          go : (m : Answer Read) → mapOk (λ (p : Packet). (p, walkAt (at + n))) (mapOk packetView m) ≡ mapOk stepView (m >>= λ (p : Read). ok (p, at + n))
+          go (ok p) = refl
+          go (refused r) = refl
+
+      module _ (q : ParsedPacket) (g : parsedOf q ≡ mapOk packetView there-read) where
+        pub step-refused : (v : RtcpParseError) (r : Refusal) → q ≡ parsed.Refused v → r ≡ refusalIn (parsedOf q) → refused r ≡ mapOk stepView (step s at)
+        unfolding mapOk
+        step-refused v r e w = stepped (refused r) (ap refused (w ∙ ap (λ (q : ParsedPacket). refusalIn (parsedOf q)) e) ∙ sym (ap parsedOf e) ∙ g)
+
+        pub step-some : (p : Packet) → q ≡ parsed.Packet p → ok (p, walkAt (at + n)) ≡ mapOk stepView (step s at)
+        unfolding mapOk
+        step-some p e = stepped (ok p) (sym (ap parsedOf e) ∙ g)
 
 module _ (s : List ℕ) (q : ParsedCompound) (g : parsedCompoundOf q ≡ answer s) where
   pub open-refused : (v : RtcpParseError) (r : Refusal) → q ≡ compound.Refused v → r ≡ refusalIn (parsedCompoundOf q) → refused r ≡ mapOk walkAt (openWalk s)
@@ -454,6 +491,6 @@ module _ (s : List ℕ) (q : ParsedCompound) (g : parsedCompoundOf q ≡ answer 
   unfolding openWalk _>>=_ mapOk
   open-ok x e = rw (mapOk-inv compoundView (readCompound s) (sym g ∙ ap parsedCompoundOf e) .1)
 
-pub ruleset frames = (needs, not-true, not-false, padding-set, padding-clear, later, sender-first, receiver-first, frame-short-len, frame-short-why, frame-version-len, frame-version-why, frame-past-len, frame-past-why, frame-padding-len, frame-padding-why, frame-report-len, frame-report-why, frame-passed-len, frame-passed-why, frame-refused, frame-within, frame-length, packet-refused, packet-read, verdict-refused, verdict-passed)
+pub ruleset frames = (needs, not-true, not-false, padding-set, padding-clear, later, sender-first, receiver-first, frame-short-len, frame-short-why, frame-version-len, frame-version-why, frame-past-len, frame-past-why, frame-padding-len, frame-padding-why, frame-report-len, frame-report-why, frame-passed-len, frame-passed-why, frame-refused, frame-within, frame-length, verdict-refused, verdict-passed)
 
-pub ruleset compounds = (needs, not-true, not-false, no-byte, loop-start, loop-named, loop-unnamed, loop-refused, loop-fits, loop-counts, loop-less, loop-again, step-none, step-refused, step-some, step-fits, open-refused, open-ok)
+pub ruleset compounds = (needs, not-true, not-false, no-byte, loop-start, loop-named, loop-unnamed, loop-refused, loop-fits, loop-counts, loop-less, loop-again, len-none, len-none-why, len-here, len-here-why, step-none, step-start, step-within, step-fits, step-refused, step-some, open-refused, open-ok)

@@ -3,13 +3,11 @@ use mathlib.Core.Path.{_≡_, refl, ap}
 use Rattle.utils.proofs.Injective.{parsed-injective, parseRefusal-back}
 use Rattle.compound.specs.Unknown.{parsedUnknownOf}
 use Rattle.compound.specs.Packet.{parsedOf}
-use Rattle.compound.specs.Compound.{readOf, checkedOf, parsedCompoundOf, openedOf, steppedOf}
+use Rattle.compound.specs.Compound.{checkedOf, parsedCompoundOf, openedOf, steppedOf}
 use Rattle.compound.specs.declared.unknown.ParsedUnknown.{ParsedUnknown}
 use Rattle.compound.specs.declared.unknown.ParsedUnknown.the-variants as unknown
 use Rattle.compound.specs.declared.packet.ParsedPacket.{ParsedPacket}
 use Rattle.compound.specs.declared.packet.ParsedPacket.the-variants as packet
-use Rattle.compound.specs.declared.compound.ReadPacket.{ReadPacket}
-use Rattle.compound.specs.declared.compound.ReadPacket.the-variants as read
 use Rattle.compound.specs.declared.compound.CheckedPacket.{CheckedPacket}
 use Rattle.compound.specs.declared.compound.CheckedPacket.the-variants as checked
 use Rattle.compound.specs.declared.compound.ParsedCompound.{ParsedCompound}
@@ -24,9 +22,6 @@ parsedUnknownOf-injective = parsed-injective parsedUnknownOf unknown.Unknown unk
 
 pub parsedOf-injective : (o p : ParsedPacket) → parsedOf o ≡ parsedOf p → o ≡ p
 parsedOf-injective = parsed-injective parsedOf packet.Packet packet.Refused (elim [ packet.Packet a ↦ refl | packet.Refused e ↦ ap packet.Refused (parseRefusal-back e) ])
-
-pub readOf-injective : (o p : ReadPacket) → readOf o ≡ readOf p → o ≡ p
-readOf-injective = parsed-injective readOf (λ x. read.Packet (x .0) (x .1)) read.Refused (elim [ read.Packet a b ↦ refl | read.Refused e ↦ ap read.Refused (parseRefusal-back e) ])
 
 pub checkedOf-injective : (o p : CheckedPacket) → checkedOf o ≡ checkedOf p → o ≡ p
 checkedOf-injective = parsed-injective checkedOf (λ x. checked.Packet (x .0) (x .1)) checked.Refused (elim [ checked.Packet a b ↦ refl | checked.Refused e ↦ ap checked.Refused (parseRefusal-back e) ])

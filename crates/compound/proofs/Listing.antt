@@ -52,8 +52,9 @@ module _ (s : List ℕ) (at : ℕ) (h : at + 4 ≤ length s) where
     pub row-length : n ≡ stated (drop at s)
     row-length = q ∙ ap stated (rest-is s at)
 
-    pub row-laid : (l : List ℕ) (to t : ℕ) → to + 3 ≤ length l → t ≡ typeIn (take (length s - at) (drop at s)) → puts to 1 (at ∷ n ∷ []) (set l to t) ≡ store to (typeIn (drop at s) ∷ at ∷ n ∷ []) l
-    row-laid l to t m p = store-puts to t (at ∷ n ∷ []) l m ∙ ap (λ (t : ℕ). store to (t ∷ at ∷ n ∷ []) l) (p ∙ ap typeIn (rest-is s at))
+    pub row-laid : (l : List ℕ) (to t : ℕ) → to + 3 ≤ length l → t ≡ getD (take (length s - at) (drop at s)) 1 0 → puts to 1 (at ∷ n ∷ []) (set l to t) ≡ store to (typeIn (drop at s) ∷ at ∷ n ∷ []) l
+    unfolding typeIn
+    row-laid l to t m p = store-puts to t (at ∷ n ∷ []) l m ∙ ap (λ (t : ℕ). store to (t ∷ at ∷ n ∷ []) l) (p ∙ ap (λ (r : List ℕ). getD r 1 0) (rest-is s at))
 
 -- ---- the rows, one after the other: the packets that are left lie from a place on
 

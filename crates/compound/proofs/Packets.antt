@@ -7,11 +7,11 @@ use mathlib.Core.Bool.{Bool, true, false}
 use mathlib.Core.List.{List}
 use Prim.Native.Nat.{ℕ, _<_}
 use borrow.Author.Tests.{ne-eqb}
-use Rattle.rfc3550.specs.Answer.{Answer, ok, refused, mapOk, pick}
+use Rattle.rfc3550.specs.Answer.{Refusal, Answer, ok, refused, mapOk, pick}
 use Rattle.rfc3550.specs.Packet.{Content, report, sdes, bye, app, unknown, receiver, sender, Packet as Read, hasCname}
 use Rattle.rfc3550.specs.Read.{Kind, SR, RR, SDES, BYE, APP, UNKNOWN, kindFor, kindOf, typeIn, lowIn, readAs}
 use Rattle.rfc3550.proofs.Packet.{readAs-kind}
-use Rattle.utils.specs.Error.{valueOr}
+use Rattle.utils.specs.Error.{refusalIn, valueOr}
 use Rattle.report.proofs.Reports.{body-some}
 use Rattle.report.specs.Report.{senderView, receiverView, reportBody}
 use Rattle.sdes.specs.Sdes.{sdesView, noSdes}
@@ -68,7 +68,11 @@ module _ (s : List ℕ) (c : Kinds) (h : kindIn c ≡ kindOf (typeIn s) (lowIn s
   pub unknown-read : (a : Answer _) → c ≡ kind.Unknown → o ≡ mapOk unknownPacket a → a ≡ mapOk unknownView (readAs UNKNOWN s) → o ≡ whole s
   unknown-read a e = dispatched UNKNOWN unknownView unknownPacket (λ p. refl) s o a (sym (kind-found s c kind.Unknown h e))
 
-pub ruleset packets = (needs, sr-read, rr-read, sdes-read, bye-read, app-read, unknown-read)
+-- why, of a kind that a match found
+pub why-found : (s : List ℕ) (c d : Kinds) (r : Refusal) → kindIn c ≡ kindOf (typeIn s) (lowIn s) → c ≡ d → r ≡ refusalIn (readAs (kindIn d) s) → r ≡ refusalIn (readAs (kindOf (typeIn s) (lowIn s)) s)
+why-found s c d r h e q = q ∙ ap (λ (k : Kind). refusalIn (readAs k s)) (kind-found s c d h e)
+
+pub ruleset packets = (needs, why-found, sr-read, rr-read, sdes-read, bye-read, app-read, unknown-read)
 
 -- ---- what the check of a datagram asks of a packet
 

@@ -3,7 +3,7 @@ use Prim.Native.Nat.{ℕ, _+_}
 use mathlib.Core.Bool.{Bool, _||_, not}
 use mathlib.Core.List.{List, [], _∷_}
 use lib.ListN.{length, take, drop}
-use lib.Dec.{leb, eqb}
+use lib.Dec.{leb, ltb, eqb}
 use Rattle.rfc3550.specs.Answer.{Answer, ok, refused, _>>_, need}
 use Rattle.rfc3550.specs.Packet.{Packet as Read, type, layout, isReport}
 use Rattle.rfc3550.specs.Read.{versionIn, padded, typeIn, stated}
@@ -12,8 +12,6 @@ use Rattle.compound.specs.Packet.{packetView}
 use Rattle.compound.specs.declared.packet.Packet.{Packet}
 use Rattle.compound.specs.declared.compound.CheckedPacket.{CheckedPacket}
 use Rattle.compound.specs.declared.compound.CheckedPacket.the-variants as checked
-use Rattle.compound.specs.declared.compound.ReadPacket.{ReadPacket}
-use Rattle.compound.specs.declared.compound.ReadPacket.the-variants as read
 use Rattle.compound.specs.declared.compound.Compound.{Compound}
 use Rattle.compound.specs.declared.compound.ParsedCompound.{ParsedCompound}
 use Rattle.compound.specs.declared.compound.ParsedCompound.the-variants as parsed
@@ -40,11 +38,13 @@ frame first s = do
   need (reportFirst first (typeIn s)) 7 (typeIn s) 0
   ok (stated s)
 
--- ---- the packet at the start of the bytes s, and its length
+-- of the packet at a place of a datagram
+unfoldable pub frameAt : List ℕ → ℕ → Answer ℕ
+frameAt s at = do
+  need (ltb at (length s)) 25 0 0
+  frame (eqb at 0) (drop at s)
 
-abbrev pub readOf : ReadPacket → Answer (Packet × ℕ)
-readOf (read.Packet p n) = ok (p, n)
-readOf (read.Refused e) = refused (parseRefusal e)
+-- ---- the packet at the start of the bytes s, and its length
 
 abbrev pub checkedOf : CheckedPacket → Answer (Bool × ℕ)
 checkedOf (checked.Packet b n) = ok (b, n)

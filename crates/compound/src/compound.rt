@@ -17,25 +17,7 @@ ghost use Rattle.rfc3550.specs.Compound.{readPacket, readCompound};
 ghost use Rattle.rfc3550.specs.Walk.{openWalk, step};
 ghost use Rattle.utils.specs.Error.{parseRefusal, refusalIn, orZero};
 ghost use Rattle.utils.specs.List.{listedOf, layList};
-ghost use Rattle.compound.specs.Compound.{frame, paddingLast, reportFirst, readOf, checkedOf, withLength, parsedCompoundOf, compoundView, packetRows, walkAt, openedOf, steppedOf, stepView};
-ghost use Rattle.compound.specs.Packet.{packetView};
-
-// The packet at the start of the bytes left, and its length.
-enum ReadPacket {
-    Packet(Packet, usize),
-    Refused(RtcpParseError),
-}
-
-impl ReadPacket {
-    fn refusal(self) -> RtcpParseError
-        ensures { λ r. ⌜ parseRefusal r ≡ refusalIn (readOf self) ⌝ }
-    {
-        match self {
-            ReadPacket::Packet(_, _) => RtcpParseError::NothingLeft,
-            ReadPacket::Refused(e) => e,
-        }
-    }
-}
+ghost use Rattle.compound.specs.Compound.{frame, paddingLast, reportFirst, frameAt, checkedOf, withLength, parsedCompoundOf, compoundView, packetRows, walkAt, openedOf, steppedOf, stepView};
 
 // No padding, or nothing that follows the packet.
 fn padding_last(rest: &[u8], stated: usize) -> bool
@@ -115,18 +97,24 @@ fn why_frame(rest: &[u8], first: bool) -> RtcpParseError
     RtcpParseError::NothingLeft
 }
 
-fn read_packet(rest: &[u8], first: bool) -> ReadPacket
-    ensures { λ r. ⌜ readOf r ≡ mapOk (withLength packetView (now (rest .entry))) (readPacket first (now (rest .entry))) ⌝ }
+// The length of the packet at a place of a datagram, by the steps of its frame; 0 where none is left, or a step refuses.
+pub fn packet_len(s: &[u8], at: usize) -> usize
+    ensures { λ r. ⌜ r ≡ orZero (frameAt (now (s .entry)) at) ⌝ }
 {
-    let len = frame_len(rest, first);
-    if len == 0 {
-        return ReadPacket::Refused(why_frame(&rest[0..], first));
+    if s.len() <= at {
+        return 0;
     }
-    let parsed = Packet::parse(&rest[..len]);
-    let ParsedPacket::Packet(packet) = parsed else {
-        return ReadPacket::Refused(parsed.refusal());
-    };
-    ReadPacket::Packet(packet, len)
+    frame_len(&s[at..], at == 0)
+}
+
+// Why packet_len is 0; NothingLeft where it is not.
+pub fn why_len(s: &[u8], at: usize) -> RtcpParseError
+    ensures { λ r. ⌜ parseRefusal r ≡ refusalIn (frameAt (now (s .entry)) at) ⌝ }
+{
+    if s.len() <= at {
+        return RtcpParseError::NothingLeft;
+    }
+    why_frame(&s[at..], at == 0)
 }
 
 // Whether the packet at the start of the bytes left has a CNAME, and its length.
@@ -155,7 +143,7 @@ fn check_packet(rest: &[u8], first: bool) -> CheckedPacket
     }
     let verdict = Packet::verdict(&rest[..len]);
     if verdict == 0 {
-        return CheckedPacket::Refused(Packet::parse(&rest[..len]).refusal());
+        return CheckedPacket::Refused(Packet::why(&rest[..len]));
     }
     CheckedPacket::Packet(verdict == 2, len)
 }
@@ -237,9 +225,8 @@ fn list_packet_unchecked(s: &[u8], at: usize, list: &mut [u64], to: usize) -> us
     ensures { λ r. ⌜ (r ≡ stated (drop at (now (s .entry)))) × (now (list .exit) ≡ store to (typeIn (drop at (now (s .entry))) ∷ at ∷ r ∷ []) (now (list .entry))) ⌝ }
 {
     let rest = &s[at..];
-    let packet_type = utils::parser::parse_packet_type(rest);
     let len = utils::parser::parse_length(rest);
-    list[to] = packet_type as u64;
+    list[to] = utils::parser::wide(rest[1]) as u64;
     list[to + 1] = at as u64;
     list[to + 2] = len as u64;
     len
@@ -291,14 +278,15 @@ impl Walk {
         ensures { λ r. ⌜ steppedOf r ≡ mapOk stepView (step (now (s .entry)) (self .at)) ⌝ }
     {
         let at = self.at;
-        if s.len() <= at {
-            return Stepped::Refused(RtcpParseError::NothingLeft);
+        let len = packet_len(s, at);
+        if len == 0 {
+            return Stepped::Refused(why_len(&s[0..], at));
         }
-        let rest = &s[at..];
-        let answer = read_packet(rest, at == 0);
-        let ReadPacket::Packet(packet, len) = answer else {
-            return Stepped::Refused(answer.refusal());
+        let end = at + len;
+        let parsed = Packet::parse(&s[at..end]);
+        let ParsedPacket::Packet(packet) = parsed else {
+            return Stepped::Refused(parsed.refusal());
         };
-        Stepped::Packet(packet, Walk { at: at + len })
+        Stepped::Packet(packet, Walk { at: end })
     }
 }

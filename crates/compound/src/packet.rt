@@ -131,6 +131,20 @@ impl Packet {
         }
     }
 
+    // Why it is refused; NothingLeft where it is not.
+    pub fn why(s: &[u8]) -> RtcpParseError
+        ensures { λ r. ⌜ parseRefusal r ≡ refusalIn (readAs (kindOf (typeIn (now (s .entry))) (lowIn (now (s .entry)))) (now (s .entry))) ⌝ }
+    {
+        match kind_of(s) {
+            Kind::Sr => SenderReport::why(s),
+            Kind::Rr => ReceiverReport::why(s),
+            Kind::Sdes => Sdes::why(s),
+            Kind::Bye => Bye::why(s),
+            Kind::App => App::why(s),
+            Kind::Unknown => Unknown::why(s),
+        }
+    }
+
     // 0 where the packet is refused, 1 where it is accepted, 2 where it is and has a CNAME.
     pub fn verdict(s: &[u8]) -> usize
         ensures { λ r. ⌜ r ≡ valueOr 0 verdict (readAs (kindOf (typeIn (now (s .entry))) (lowIn (now (s .entry)))) (now (s .entry))) ⌝ }

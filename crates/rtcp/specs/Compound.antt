@@ -1,8 +1,16 @@
 -- Datagrams and their walk as C gets them. A packet is the numbers of its kind, with 0 where the kind has no such field; its kind is its type,
 -- or 0 where the type has no layout. A step hands on the walk after it, on a refusal the walk that went in.
 use Prim.Native.Nat.{ℕ, _-_}
+use mathlib.Core.List.{List}
 use Rattle.rfc3550.specs.Answer.{Answer}
+use Rattle.rfc3550.specs.Read.{Kind, SR, RR, SDES, BYE, APP, UNKNOWN, readAs}
 use Rattle.rfc3550.specs.Walk.{moved}
+use Rattle.utils.specs.Error.{valueOr}
+use Rattle.report.specs.Report.{senderView, noSender, receiverView, noReceiver}
+use Rattle.sdes.specs.Sdes.{sdesView, noSdes}
+use Rattle.bye.specs.Bye.{byeView, noBye}
+use Rattle.app.specs.App.{appView, noApp}
+use Rattle.compound.specs.Unknown.{unknownView, noUnknown}
 use Rattle.report.specs.declared.sender.SenderReport.{SenderReport}
 use Rattle.report.specs.declared.receiver.ReceiverReport.{ReceiverReport}
 use Rattle.sdes.specs.declared.sdes.Sdes.{Sdes}
@@ -73,6 +81,15 @@ numbersOf (packet.Sdes x) = sdesNumbers x
 numbersOf (packet.Bye x) = byeNumbers x
 numbersOf (packet.App x) = appNumbers x
 numbersOf (packet.Unknown x) = unknownNumbers x
+
+-- of what is read as a kind: with body 0 where it is refused
+abbrev pub numbersRead : Kind → List ℕ → PacketNumbers
+numbersRead SR s = srNumbers (valueOr noSender senderView (readAs SR s))
+numbersRead RR s = rrNumbers (valueOr noReceiver receiverView (readAs RR s))
+numbersRead SDES s = sdesNumbers (valueOr noSdes sdesView (readAs SDES s))
+numbersRead BYE s = byeNumbers (valueOr noBye byeView (readAs BYE s))
+numbersRead APP s = appNumbers (valueOr noApp appView (readAs APP s))
+numbersRead UNKNOWN s = unknownNumbers (valueOr noUnknown unknownView (readAs UNKNOWN s))
 
 -- ---- a datagram, and its walk
 

@@ -6,8 +6,11 @@ use bye::Bye;
 use compound::compound::Compound;
 use compound::compound::OpenedWalk;
 use compound::compound::ParsedCompound;
-use compound::compound::Stepped;
 use compound::compound::Walk;
+use compound::compound::packet_len;
+use compound::compound::why_len;
+use compound::kind::Kind;
+use compound::kind::kind_of;
 use compound::packet::Packet;
 use compound::unknown::Unknown;
 use report::receiver::ReceiverReport;
@@ -16,12 +19,13 @@ use sdes::sdes::Sdes;
 use utils::error::Code;
 ghost use mathlib.Core.Path.{_≡_};
 ghost use Rattle.rfc3550.specs.Answer.{mapOk, refused};
+ghost use Rattle.rfc3550.specs.Read.{kindOf, typeIn, lowIn};
 ghost use Rattle.rfc3550.specs.Compound.{readCompound};
 ghost use Rattle.rfc3550.specs.Walk.{openWalk, step};
 ghost use Rattle.utils.specs.Error.{codeRefusal};
 ghost use Rattle.utils.specs.List.{layList};
 ghost use Rattle.compound.specs.Compound.{compoundView, packetRows, walkAt, stepView};
-ghost use Rattle.rtcp.specs.Compound.{bareNumbers, srNumbers, rrNumbers, sdesNumbers, byeNumbers, appNumbers, unknownNumbers, numbersOf, compoundResult, walkResult, stepResult};
+ghost use Rattle.rtcp.specs.Compound.{bareNumbers, srNumbers, rrNumbers, sdesNumbers, byeNumbers, appNumbers, unknownNumbers, numbersRead, compoundResult, walkResult, stepResult};
 ghost use Rattle.rtcp.specs.WriteResult.{handedOut};
 
 #[repr(C)]
@@ -217,16 +221,17 @@ impl PacketNumbers {
         n
     }
 
-    fn of(packet: Packet) -> PacketNumbers
-        ensures { λ r. ⌜ r ≡ numbersOf packet ⌝ }
+    // With body 0, where the packet is refused.
+    fn read(s: &[u8]) -> PacketNumbers
+        ensures { λ r. ⌜ r ≡ numbersRead (kindOf (typeIn (now (s .entry))) (lowIn (now (s .entry)))) (now (s .entry)) ⌝ }
     {
-        match packet {
-            Packet::Sr(sr) => Self::of_sr(sr),
-            Packet::Rr(rr) => Self::of_rr(rr),
-            Packet::Sdes(sdes) => Self::of_sdes(sdes),
-            Packet::Bye(bye) => Self::of_bye(bye),
-            Packet::App(app) => Self::of_app(app),
-            Packet::Unknown(u) => Self::of_unknown(u),
+        match kind_of(s) {
+            Kind::Sr => Self::of_sr(SenderReport::read(s)),
+            Kind::Rr => Self::of_rr(ReceiverReport::read(s)),
+            Kind::Sdes => Self::of_sdes(Sdes::read(s)),
+            Kind::Bye => Self::of_bye(Bye::read(s)),
+            Kind::App => Self::of_app(App::read(s)),
+            Kind::Unknown => Self::of_unknown(Unknown::read(s)),
         }
     }
 }
@@ -289,34 +294,39 @@ pub extern "C" fn rtcp_walk_open(s: &[u8]) -> RtcpWalk
 pub extern "C" fn rtcp_walk_step(s: &[u8], at: u64) -> RtcpStep
     ensures { λ r. ⌜ r ≡ stepResult at (mapOk stepView (step (now (s .entry)) at)) ⌝ }
 {
-    let walk = Walk { at: at as usize };
-    match walk.step(s) {
-        Stepped::Packet(packet, next) => {
-            let n = PacketNumbers::of(packet);
-            RtcpStep {
-                number: 0,
-                first: 0,
-                second: 0,
-                kind: n.kind,
-                packet_type: n.packet_type,
-                count: n.count,
-                offset: at,
-                len: next.at as u64 - at,
-                body: n.body,
-                padding_len: n.padding_len,
-                ssrc: n.ssrc,
-                ntp_timestamp: n.ntp_timestamp,
-                rtp_timestamp: n.rtp_timestamp,
-                packet_count: n.packet_count,
-                octet_count: n.octet_count,
-                extension: n.extension,
-                has_cname: n.has_cname,
-                has_reason: n.has_reason,
-                reason: n.reason,
-                reason_len: n.reason_len,
-                at: next.at as u64,
-            }
-        }
-        Stepped::Refused(e) => RtcpStep::coded(e.code(), at),
+    let from = at as usize;
+    let len = packet_len(s, from);
+    if len == 0 {
+        let why = why_len(&s[0..], from);
+        return RtcpStep::coded(why.code(), at);
+    }
+    let end = from + len;
+    let n = PacketNumbers::read(&s[from..end]);
+    if n.body == 0 {
+        let why = Packet::why(&s[from..end]);
+        return RtcpStep::coded(why.code(), at);
+    }
+    RtcpStep {
+        number: 0,
+        first: 0,
+        second: 0,
+        kind: n.kind,
+        packet_type: n.packet_type,
+        count: n.count,
+        offset: at,
+        len: len as u64,
+        body: n.body,
+        padding_len: n.padding_len,
+        ssrc: n.ssrc,
+        ntp_timestamp: n.ntp_timestamp,
+        rtp_timestamp: n.rtp_timestamp,
+        packet_count: n.packet_count,
+        octet_count: n.octet_count,
+        extension: n.extension,
+        has_cname: n.has_cname,
+        has_reason: n.has_reason,
+        reason: n.reason,
+        reason_len: n.reason_len,
+        at: end as u64,
     }
 }

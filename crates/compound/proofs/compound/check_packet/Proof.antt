@@ -6,6 +6,5 @@ pub check-packet-spec : {M : Type 1} → statement M
 check-packet-spec {M} =
     let answers = tie.spec {M = M}
     (λ c κs. search frames) (λ c. search frames) (λ c. search frames) (λ c. search frames) (λ c κs. search frames) (λ c. search frames)
-    (λ c. search frames) (λ c κs. search frames) (λ c. search frames) (λ c κs. search frames) (λ c κs. search frames) (λ c. search frames)
-    (λ c. search frames) in
+    (λ c. search frames) (λ c κs. search frames) (λ c. search frames) (λ c κs. search frames) (λ c. search frames) (λ c. search frames) in
     tie.close answers

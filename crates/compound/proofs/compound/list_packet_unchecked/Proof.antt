@@ -16,7 +16,7 @@ same-length c = simp length-set (omega arith)
 pub list-packet-unchecked-spec : {M : Type 1} → statement M
 list-packet-unchecked-spec {M} =
     let answers = tie.spec {M = M}
-    (λ c. search listings) (λ c. search listings) (λ c. search listings) (λ c κs. search listings) (λ c κs. search listings) (λ c. search listings)
+    (λ c. search listings) (λ c. search listings) (λ c. search listings) (λ c κs. search listings) (λ c. search listings) (λ c κs. search listings)
     (λ c. search listings) (λ c. search listings) (λ c. search listings) (λ c. search listings) slice-write-list-2 (λ c. search listings)
     (λ c. search listings) slice-write-list-3 same-length (λ c. search listings) in
     tie.close answers
