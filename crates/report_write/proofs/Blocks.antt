@@ -124,7 +124,7 @@ module _ (fs ls ws : List ℕ) where
   lists-loss h = sym (rw (ne-eqb _ _ h))
 
   module _ (h : length ls ≡ length fs) where
-    words-differ : (length ws ≡ 5 * length fs → ⊥) → false ≡ blocksAgree (blockLists fs ls ws)
+    pub words-differ : (length ws ≡ 5 * length fs → ⊥) → false ≡ blocksAgree (blockLists fs ls ws)
     words-differ q = sym (rw (eq-eqb _ _ h, ne-eqb _ _ q))
 
     pub lists-odd : (length ws % 5 ≡ 0 → ⊥) → false ≡ blocksAgree (blockLists fs ls ws)
@@ -136,6 +136,9 @@ module _ (fs ls ws : List ℕ) where
         go : (t : Bool) → eqb (length ws / 5) (length fs) ≡ t → t ≡ blocksAgree (blockLists fs ls ws)
         go true e = let f = eqb-true (length ws / 5) (length fs) e in sym (rw (eq-eqb _ _ h, eq-eqb (length ws) (5 * length fs) (omega arith)))
         go false e = words-differ (λ f. eqb-false (length ws / 5) (length fs) e (omega arith))
+
+    pub lists-agree : length ws ≡ length fs * 5 → true ≡ blocksAgree (blockLists fs ls ws)
+    lists-agree q = sym (rw (eq-eqb _ _ h, eq-eqb (length ws) (5 * length fs) (omega arith)))
 
   module _ (a : blocksAgree (blockLists fs ls ws) ≡ true) where
     pub agree-losses : length ls ≡ length fs

@@ -23,7 +23,7 @@ use Rattle.utils.proofs.WriterStores.{stores}
 use Rattle.utils.proofs.WriterPackets.{writes, padding-most, sized, size-ok, size-refused, parts-laid, header-long, packet-laid}
 use Rattle.report_write.specs.declared.sender.SenderInfo.{SenderInfo}
 use Rattle.report_write.specs.Report.{senderOf, leastOf, blockLists, decisiveLoss, countedSize, listsSize, ReportFits, headLaid}
-use Rattle.report_write.proofs.Blocks.{length-blocks, losses-decided}
+use Rattle.report_write.proofs.Blocks.{length-blocks, losses-decided, lists-loss, words-differ, lists-agree}
 
 -- ---- the size by what decides
 
@@ -105,12 +105,34 @@ module _ (l : BlockLists) (k : ℕ) (t : Bool) (a : t ≡ blocksAgree l) where
   unfolding listsSize need _>>_
   lists-counted q least = sym (rw (← a, q))
 
-  pub lists-none : (least : ℕ) → t ≡ false → 0 ≡ orZero (listsSize least l k)
+  lists-none : (least : ℕ) → t ≡ false → 0 ≡ orZero (listsSize least l k)
   unfolding listsSize need _>>_
   lists-none least q = sym (rw (← a, q))
 
-  pub lists-size : (least x n : ℕ) → t ≡ true → lossIn x ≡ lossIn (decisiveLoss 0 (l .losses)) → n ≡ orZero (countedSize least (length (l .fractions)) x k) → n ≡ orZero (listsSize least l k)
+  lists-size : (least x n : ℕ) → t ≡ true → lossIn x ≡ lossIn (decisiveLoss 0 (l .losses)) → n ≡ orZero (countedSize least (length (l .fractions)) x k) → n ≡ orZero (listsSize least l k)
   lists-size least x n q f e = e ∙ number-same least (length (l .fractions)) x (decisiveLoss 0 (l .losses)) k f ∙ ap orZero (lists-counted q least)
+
+-- of lists whose lengths are tested one by one, after the number of blocks
+module _ (fs ls ws : List ℕ) (k least : ℕ) where
+  abbrev lent : BlockLists
+  lent = blockLists fs ls ws
+
+  pub lists-many : 31 < length fs → 0 ≡ orZero (listsSize least lent k)
+  lists-many h = go (blocksAgree lent) refl
+    where
+      go : (t : Bool) → t ≡ blocksAgree lent → 0 ≡ orZero (listsSize least lent k)
+      go false a = lists-none lent k false a least refl
+      go true a = count-none (length fs) (decisiveLoss 0 ls) k least h ∙ ap orZero (lists-counted lent k true a refl least)
+
+  pub losses-other : (length ls ≡ length fs → ⊥) → 0 ≡ orZero (listsSize least lent k)
+  losses-other h = lists-none lent k false (lists-loss fs ls ws h) least refl
+
+  module _ (h : length ls ≡ length fs) where
+    pub words-other : (length ws ≡ length fs * 5 → ⊥) → 0 ≡ orZero (listsSize least lent k)
+    words-other q = lists-none lent k false (words-differ fs ls ws h (λ e. q (omega arith))) least refl
+
+    pub lists-tested : (x n : ℕ) → length ws ≡ length fs * 5 → lossIn x ≡ lossIn (decisiveLoss 0 ls) → n ≡ orZero (countedSize least (length fs) x k) → n ≡ orZero (listsSize least lent k)
+    lists-tested x n q = lists-size lent k true (lists-agree fs ls ws h q) least x n refl
 
 -- ---- over the reporter
 
@@ -261,7 +283,7 @@ report-laid r least b k size l l₂ l₃ l₄ w q e₂ e₃ e₄ =
     let p = parts-laid 4 least (put (reporterWidths r) (reporterFields r)) (blocksBytes (blocksLent b)) h l₂ l₃ e₂ e₃ (omega arith) (omega arith) in
     packet-laid (report r (blocksLent b) []) k size (size - k) l h l₃ l₄ (omega arith) m (omega arith) (rw (n, ← same-type r (blocksLent b))) (rw append-nil p) e₄
 
-pub ruleset reports = (writes, not-true, not-false, lists-none, lists-size, agree-why, lists-why, report-size, report-refused, report-why, why-again, report-sized, report-room, report-fits, report-done, padding-fits, receiver-head, info-laid, sender-head, report-laid)
+pub ruleset reports = (writes, not-true, not-false, lists-many, losses-other, words-other, lists-tested, agree-why, lists-why, report-size, report-refused, report-why, why-again, report-sized, report-room, report-fits, report-done, padding-fits, receiver-head, info-laid, sender-head, report-laid)
 
 -- ---- the views lose nothing
 

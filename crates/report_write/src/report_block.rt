@@ -111,10 +111,17 @@ fn check_lists(fractions: &[u8], losses: &[u32], words: &[u32]) -> bool
 pub fn size_of(fractions: &[u8], losses: &[u32], words: &[u32], padding: u64, least: u8) -> usize
     ensures { λ r. ⌜ r ≡ orZero (listsSize least (blockLists (now (fractions .entry)) (now (losses .entry)) (now (words .entry))) padding) ⌝ }
 {
-    if !check_lists(fractions, losses, words) {
+    let n = fractions.len();
+    if 31 < n {
         return 0;
     }
-    size_of_count(fractions.len(), merged_losses(losses), padding, least)
+    if losses.len() != n {
+        return 0;
+    }
+    if words.len() != n * ReportBlock::WORDS {
+        return 0;
+    }
+    size_of_count(n, merged_losses(losses), padding, least)
 }
 
 // Why a report of lent blocks has no size, whoever reports; PacketTooLarge where it has one.
