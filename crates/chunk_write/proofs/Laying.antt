@@ -23,7 +23,7 @@ use Rattle.utils.proofs.Parts.{lent-again}
 use Rattle.utils.proofs.Values.{number-came}
 use Rattle.utils.proofs.WriterStores.{store-nil, store-store, store-part}
 use Rattle.utils.proofs.WriterPackets.{short-written, done-written, parts-laid}
-use Rattle.chunk_write.specs.Sizes.{lent, itemLength, sizeOf, ItemFits, Listed, part, itemsRefusal, sizesOf, closed, chunksFrom, chunksEnd, ChunksMeasured}
+use Rattle.chunk_write.specs.Sizes.{lent, itemLength, sizeOf, ItemFits, Listed, part, itemsRefusal, sizesOf, closed, chunksFrom, atMost, chunksEnd, ChunksMeasured}
 use Rattle.chunk_write.specs.Lists.{Within, PartFits, lentAt, PartLaid, laidItems, ItemsFit, ItemsLaid, laidChunk, ChunkFits, ChunkLaid, ChunkFitsAt, ChunkLaidAt, laidChunks, ChunksFit}
 use Rattle.chunk_write.specs.declared.chunks.LaidEnd.{LaidEnd}
 use Rattle.chunk_write.proofs.Items.{item-is, length-item, size-why-of, not-written}
@@ -258,16 +258,19 @@ module _ (ts ps vs bs : List ℕ) (i j from at : ℕ) (l : List ℕ) (f : ChunkF
   length-left : length (take (length l - at) (drop at l)) ≡ length l - at
   length-left = length-take-le (length l - at) (drop at l) (rw length-drop (omega arith))
 
-  pub chunk-at-within : Within ts ps vs bs i j from
-  chunk-at-within = record { order = f .order; within = f .within; lists = f .listed; bytes = f .bytes }
+  -- the lists are lent again
+  pub chunk-at-fits : Within (take (length ts - 0) ts) (take (length ps - 0) ps) (take (length vs - 0) vs) (take (length bs - 0) bs) i j from
+      × ChunkFits (part i j (take (length ts - 0) ts)) (part i j (take (length ps - 0) ps)) (part i j (take (length vs - 0) vs)) (drop from (take (length bs - 0) bs)) (length (take (length l - at) (drop at l)))
+  chunk-at-fits = rw (lent-again ts, lent-again ps, lent-again vs, lent-again bs, length-left) (record { order = f .order; within = f .within; lists = f .listed; bytes = f .bytes }, f .fits)
 
-  pub chunk-at-fits : ChunkFits (take (j - i) (drop i ts)) (take (j - i) (drop i ps)) (take (j - i) (drop i vs)) (drop from bs) (length (take (length l - at) (drop at l)))
-  chunk-at-fits = rw length-left (f .fits)
+  pub chunk-at-start : at ≤ length l
+  chunk-at-start = f .start
 
   pub chunk-at-laid : (ssrc : ℕ) (r : LaidEnd) (last : List ℕ)
-      → ChunkLaid ssrc from (take (j - i) (drop i ts)) (take (j - i) (drop i ps)) (take (j - i) (drop i vs)) (drop from bs) (take (length l - at) (drop at l)) r last
+      → ChunkLaid ssrc from (part i j (take (length ts - 0) ts)) (part i j (take (length ps - 0) ps)) (part i j (take (length vs - 0) vs)) (drop from (take (length bs - 0) bs)) (take (length l - at) (drop at l)) r last
       → ChunkLaidAt ssrc ts ps vs bs i j from at l r (take at l ++ (last ++ drop (length l - at) (drop at l)))
-  chunk-at-laid ssrc r last y =
+  chunk-at-laid ssrc r last lent =
+      let y : ChunkLaid ssrc from (part i j ts) (part i j ps) (part i j vs) (drop from bs) (take (length l - at) (drop at l)) r last = rw (lent-again ts, lent-again ps, lent-again vs, lent-again bs) at lent in
       let z : r .end ≡ length (laidChunk ssrc (take (j - i) (drop i ts)) (take (j - i) (drop i ps)) (take (j - i) (drop i vs)) (drop from bs)) = y .size in
       let b : last ≡ store 0 (laidChunk ssrc (take (j - i) (drop i ts)) (take (j - i) (drop i ps)) (take (j - i) (drop i vs)) (drop from bs)) (take (length l - at) (drop at l)) = y .bytes in
       let n = length-chunk-of ssrc (lentItems (take (j - i) (drop i ts)) (take (j - i) (drop i ps)) (take (j - i) (drop i vs)) (drop from bs)) in
@@ -392,6 +395,16 @@ module _ (o : ℕ) (ss cs ts ps vs bs l : List ℕ) (f : ChunksFit o ss cs ts ps
             rest = s ∙ (rw sp at (w .rest));
           }
 
+    module _ (h : k < length ss) where
+      pub chunking-asks : Within (take (length ts - 0) ts) (take (length ps - 0) ps) (take (length vs - 0) vs) (take (length bs - 0) bs) i (i + getD cs k 0) from
+          × ChunkFits (part i (i + getD cs k 0) (take (length ts - 0) ts)) (part i (i + getD cs k 0) (take (length ps - 0) ps)) (part i (i + getD cs k 0) (take (length vs - 0) vs)) (drop from (take (length bs - 0) bs)) (length (take (length l₁ - at) (drop at l₁)))
+      chunking-asks = chunk-at-fits ts ps vs bs i (i + getD cs k 0) from at l₁ (chunking-fits h (getD cs k 0) refl)
+
+      pub chunking-place : (r : LaidEnd) (last : List ℕ)
+          → ChunkLaid (getD ss k 0) from (part i (i + getD cs k 0) (take (length ts - 0) ts)) (part i (i + getD cs k 0) (take (length ps - 0) ps)) (part i (i + getD cs k 0) (take (length vs - 0) vs)) (drop from (take (length bs - 0) bs)) (take (length l₁ - at) (drop at l₁)) r last
+          → length l₁ < 2 ^ 64 → at + r .end < 2 ^ 64
+      chunking-place r last y n = let z = chunk-at-laid ts ps vs bs i (i + getD cs k 0) from at l₁ (chunking-fits h (getD cs k 0) refl) (getD ss k 0) r last y .ends in omega arith
+
     pub chunking-done : length ss ≤ k → l₁ ≡ store o (laidChunks ss cs ts ps vs bs) l
     unfolding lentChunks chunksGiven chunksBytes
     chunking-done h =
@@ -463,12 +476,8 @@ module _ (ssrc : ℕ) (ts ps vs bs : List ℕ) where
                   zero true e = zero-is n (eqb-true _ _ e)
                   zero false e = absurd (g (end-known 0 (length bs) (length ts ∷ []) ts ps vs d n h (eqb-false _ _ e) .bytes))
 
-      module _ (n : ℕ) (h : n ≡ chunksEnd 0 (length bs) (length ts ∷ []) ts ps vs) where
-        pub lone-over : 262140 < n → 0 ≡ orZero (chunkSize ssrc ts ps vs bs)
-        lone-over f = rw (lt-leb _ _ f) at (size-lone n h)
-
-        pub lone-size : n ≤ 262140 → n ≡ orZero (chunkSize ssrc ts ps vs bs)
-        lone-size f = rw (le-leb _ _ f) at (size-lone n h)
+      pub lone-size : (n : ℕ) → n ≡ atMost 262140 (chunksEnd 0 (length bs) (length ts ∷ []) ts ps vs) → n ≡ orZero (chunkSize ssrc ts ps vs bs)
+      lone-size n e = e ∙ size-lone _ refl
 
   module _ (t : Bool) (e : t ≡ itemsAgree ts ps vs bs) where
     pub lone-disagree : t ≡ false → refusal 24 0 0 ≡ sizeRefusal (chunkSize ssrc ts ps vs bs)
@@ -533,4 +542,4 @@ module _ (ssrc : ℕ) (ts ps vs bs : List ℕ) where
   pub lone-laid : (l l₁ : List ℕ) → l₁ ≡ store 0 (laidChunks (ssrc ∷ []) (length ts ∷ []) ts ps vs bs) l → l₁ ≡ store 0 (laidChunk ssrc ts ps vs bs) l
   lone-laid l l₁ e = rw (only ssrc ts ps vs bs) at e
 
-pub ruleset chunks = (ends, part-fits, part-laid, range-start, range-fits, range-again, range-done, chunk-items, chunk-start, chunk-boundary, chunk-fill, chunk-laid, chunk-at-within, chunk-at-fits, chunk-at-laid, chunking-start, chunking-fits, chunking-add, chunking-again, chunking-done, lone-prefixes, lone-values, lone-measured, lone-over, lone-size, lone-disagree, lone-why, lone-why-lent, lone-refused, lone-not-written, lone-sized, lone-fits, lone-short, lone-done, lone-chunks, lone-laid)
+pub ruleset chunks = (ends, part-fits, part-laid, range-start, range-fits, range-again, range-done, chunk-items, chunk-start, chunk-boundary, chunk-fill, chunk-laid, chunk-at-start, chunk-at-laid, chunking-start, chunking-asks, chunking-place, chunking-fits, chunking-add, chunking-again, chunking-done, lone-prefixes, lone-values, lone-measured, lone-size, lone-disagree, lone-why, lone-why-lent, lone-refused, lone-not-written, lone-sized, lone-fits, lone-short, lone-done, lone-chunks, lone-laid)

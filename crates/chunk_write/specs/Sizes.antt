@@ -81,6 +81,10 @@ chunksEnd at left (c ∷ cs) ts ps vs =
     (pick (eqb (itemsEnd (at + 4) left (take c ts) (take c ps) (take c vs) .end) 0) 0
     (chunksEnd (closed (itemsEnd (at + 4) left (take c ts) (take c ps) (take c vs) .end)) (itemsEnd (at + 4) left (take c ts) (take c ps) (take c vs) .left) cs (drop c ts) (drop c ps) (drop c vs)))
 
+-- up to a limit, and else 0
+abbrev pub atMost : ℕ → ℕ → ℕ
+atMost limit n = pick (leb n limit) n 0
+
 -- ---- what the code is given and gives
 
 pub record ItemsMeasured (at left : ℕ) (ts ps vs : List ℕ) (i j : ℕ) : Type 0 where
