@@ -6,7 +6,8 @@ use mathlib.Core.Logic.{_⊎_, inl, inr}
 use mathlib.Core.List.{List, [], _∷_, _++_}
 use native.Mathlib.Omega.{arith}
 use borrow.Author.Tests.{le-leb, lt-leb, leb-true, eq-eqb, ne-eqb, eqb-true, eqb-false, not-true, not-false}
-use lib.ListN.{length, take, drop, set, length-append, length-set}
+use lib.ListN.{length, take, drop, set, length-append, length-set, take-append-drop}
+use lib.Seq.{length-take-le}
 use lib.Dec.{leb, eqb}
 use Rattle.rfc3550.specs.Answer.{Refusal, Answer, ok, refused, refusal, need, _>>_, _>>=_, pick}
 use Rattle.rfc3550.specs.Bytes.{store}
@@ -24,7 +25,7 @@ use Rattle.utils.proofs.WriterStores.{store-puts, store-store, store-part}
 use Rattle.utils.proofs.Parts.{lent-again}
 use Rattle.utils.proofs.Values.{number-came}
 use Rattle.utils.proofs.WriterPackets.{short-written, done-written}
-use Rattle.chunk_write.specs.Sizes.{lent, itemLength, sizeOf, ItemFits}
+use Rattle.chunk_write.specs.Sizes.{lent, itemLength, sizeOf, privHead, ItemFits}
 
 -- ---- the size
 
@@ -168,14 +169,21 @@ item-why t p v k e = e ∙ sym (ap sizeRefusal (item-is t p v))
 pub plain-laid : (t : ℕ) (v l l₁ : List ℕ) → 2 + length v ≤ length l → l₁ ≡ store 2 v (set (set l 0 t) 1 (length v)) → l₁ ≡ store 0 (itemBytes (item t v)) l
 plain-laid t v l l₁ h e = e ∙ rw (store-puts 0 t (length v ∷ []) l (omega arith)) (store-store 0 2 (t ∷ length v ∷ []) v l refl (omega arith))
 
-pub priv-laid : (p v l l₁ l₂ : List ℕ) → 3 + length p + length v ≤ length l → l₁ ≡ store 3 p (set (set (set l 0 8) 1 (1 + length p + length v)) 2 (length p)) → l₂ ≡ store (3 + length p) v l₁
-    → l₂ ≡ store 0 (itemBytes (priv p v)) l
-priv-laid p v l l₁ l₂ h e₁ e₂ =
-    let n : length (itemBytes (priv p v)) ≡ 3 + length p + length v = simp length-append (omega arith) in
-    let m : 1 + length p + length v ≡ suc (length (p ++ v)) = rw length-append (omega arith) in
-    let s : l₁ ≡ store 0 (8 ∷ (1 + length p + length v) ∷ length p ∷ p) l =
-    e₁ ∙ rw (store-puts 0 8 ((1 + length p + length v) ∷ length p ∷ []) l (omega arith)) (store-store 0 3 (8 ∷ (1 + length p + length v) ∷ length p ∷ []) p l refl (omega arith)) in
-    e₂ ∙ rw (s, store-store 0 (3 + length p) (8 ∷ (1 + length p + length v) ∷ length p ∷ p) v l (omega arith) (omega arith), m)
+pub priv-head-laid : (p n : ℕ) (l : List ℕ) → 3 ≤ length l → set (set (set l 0 8) 1 (1 + n)) 2 p ≡ store 0 (privHead p n) l
+priv-head-laid p n l h = store-puts 0 8 ((1 + n) ∷ p ∷ []) l (omega arith)
+
+pub priv-text-laid : (p : ℕ) (t l l₀ l₁ : List ℕ) → p ≤ length t → 3 + length t ≤ length l → l₀ ≡ store 0 (privHead p (length t)) l → l₁ ≡ store 3 t l₀ → l₁ ≡ store 0 (itemBytes (priv (take p t) (drop p t))) l
+priv-text-laid p t l l₀ l₁ f h e₁ e₂ =
+    let a : take p t ++ drop p t ≡ t = take-append-drop p t in
+    let b : length (take p t) ≡ p = length-take-le p t f in
+    let m : 1 + length t ≡ suc (length t) = omega arith in
+    e₂ ∙ rw (e₁, a, b, store-store 0 3 (privHead p (length t)) t l refl (omega arith), m)
+
+pub priv-laid : (p v l l₀ l₁ l₂ : List ℕ) → 3 + length p + length v ≤ length l → l₀ ≡ store 0 (privHead (length p) (length p + length v)) l → l₁ ≡ store 3 p l₀ → l₂ ≡ store (3 + length p) v l₁ → l₂ ≡ store 0 (itemBytes (priv p v)) l
+priv-laid p v l l₀ l₁ l₂ h e₀ e₁ e₂ =
+    let m : 1 + (length p + length v) ≡ suc (length (p ++ v)) = rw length-append (omega arith) in
+    let s : l₁ ≡ store 0 (8 ∷ (1 + (length p + length v)) ∷ length p ∷ p) l = e₁ ∙ rw e₀ (store-store 0 3 (privHead (length p) (length p + length v)) p l refl (omega arith)) in
+    e₂ ∙ rw (s, store-store 0 (3 + length p) (8 ∷ (1 + (length p + length v)) ∷ length p ∷ p) v l (omega arith) (omega arith), m)
 
 module _ (t : ℕ) (p v : List ℕ) where
   pub priv-fits : (space : ℕ) → ItemFits t (length p) (length v) space → t ≡ 8 → (length p + length v ≤ 254) × (3 + length p + length v ≤ space)
@@ -229,4 +237,4 @@ module _ (t : ℕ) (p v : List ℕ) where
 pub item-why-lent : (t : ℕ) (p v : List ℕ) (k : Refusal) → k ≡ sizeRefusal (itemSize (lent t (take (length p - 0) p) (take (length v - 0) v))) → k ≡ sizeRefusal (itemSize (lent t p v))
 item-why-lent t p v k e = rw (lent-again p, lent-again v) at e
 
-pub ruleset items = (item-why-lent, writer, type-zero-number, type-zero-why, prefix-over-number, prefix-over-why, priv-over-number, priv-over-why, priv-size-number, priv-size-why, other-over-number, other-over-why, other-size-number, other-size-why, item-number, item-why, plain-laid, priv-laid, priv-fits, plain-fits, priv-done, plain-done, item-refused, item-not-written, item-sized, item-fits, item-short, item-done)
+pub ruleset items = (item-why-lent, writer, type-zero-number, type-zero-why, prefix-over-number, prefix-over-why, priv-over-number, priv-over-why, priv-size-number, priv-size-why, other-over-number, other-over-why, other-size-number, other-size-why, item-number, item-why, plain-laid, priv-head-laid, priv-text-laid, priv-laid, priv-fits, plain-fits, priv-done, plain-done, item-refused, item-not-written, item-sized, item-fits, item-short, item-done)

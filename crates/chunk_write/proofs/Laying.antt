@@ -8,25 +8,25 @@ use native.Mathlib.Numerals.{add-one}
 use native.Mathlib.Omega.{arith}
 use borrow.Author.Tests.{le-leb, lt-leb, eq-eqb, ne-eqb, eqb-true, eqb-false, not-true, not-false}
 use lib.ListN.{length, take, drop, getD, replicate, length-append, length-take, length-drop, length-replicate, drop-of-length-le}
-use lib.Seq.{drop-cons, drop-drop, getD-drop, getD-take, take-all, length-take-le}
+use lib.Seq.{drop-cons, drop-drop, getD-drop, getD-take, take-all, take-take, length-take-le}
 use lib.Dec.{leb, eqb}
 use Rattle.rfc3550.specs.Answer.{Refusal, Answer, ok, refused, refusal, need, _>>_, _>>=_, pick}
 use Rattle.rfc3550.specs.Bytes.{be, sum, store}
-use Rattle.rfc3550.specs.Packet.{Item, itemBytes, itemsBytes, Chunk, chunkBytes, chunksBytes, fill}
+use Rattle.rfc3550.specs.Packet.{Item, item, priv, itemBytes, itemsBytes, Chunk, chunkBytes, chunksBytes, fill}
 use Rattle.rfc3550.specs.Write.{LentItem, LentChunk, lentItems, lentChunks, itemGiven, itemsGiven, chunkGiven, chunksGiven, itemTests, itemsTests, itemsAgree, itemSize, chunkSize, writeChunk}
 use Rattle.rfc3550.proofs.Answer.{need-inv, then-inv, ok-injective}
 use Rattle.rfc3550.proofs.Bytes.{length-be, length-store}
 use Rattle.utils.specs.Error.{orZero}
 use Rattle.utils.specs.Writer.{sizeRefusal}
 use Rattle.utils.specs.declared.writer.Written.the-variants.{Size}
-use Rattle.utils.proofs.Parts.{lent-again}
+use Rattle.utils.proofs.Parts.{lent-again, drop-take}
 use Rattle.utils.proofs.Values.{number-came}
 use Rattle.utils.proofs.WriterStores.{store-nil, store-store, store-part}
 use Rattle.utils.proofs.WriterPackets.{short-written, done-written, parts-laid}
 use Rattle.chunk_write.specs.Sizes.{lent, itemLength, sizeOf, ItemFits, Listed, part, itemsRefusal, sizesOf, closed, chunksFrom, atMost, chunksEnd, ChunksMeasured}
 use Rattle.chunk_write.specs.Lists.{Within, PartFits, lentAt, PartLaid, laidItems, ItemsFit, ItemsLaid, laidChunk, ChunkFits, ChunkLaid, ChunkFitsAt, ChunkLaidAt, laidChunks, ChunksFit}
 use Rattle.chunk_write.specs.declared.chunks.LaidEnd.{LaidEnd}
-use Rattle.chunk_write.proofs.Items.{item-is, length-item, size-why-of, not-written}
+use Rattle.chunk_write.proofs.Items.{SizeKnown, size-known, item-is, length-item, size-why-of, not-written}
 use Rattle.chunk_write.proofs.Sizes.{ends, sum-next, sum-split, agreed, items-take, items-drop, tests-split, length-chunk-of, chunks-are, refusal-of, EndKnown, end-known, end-none}
 
 -- ---- one item among others
@@ -41,19 +41,52 @@ module _ (t p v from : ℕ) (bs : List ℕ) (at : ℕ) (l : List ℕ) (f : PartF
   value-long : length (take v (drop (from + p) bs)) ≡ v
   value-long = length-take-le v (drop (from + p) bs) (rw length-drop (omega (arith, f .bytes)))
 
-  pub part-fits : ItemFits t (length (take (from + p - from) (drop from bs))) (length (take (from + p + v - (from + p)) (drop (from + p) bs))) (length (take (length l - at) (drop at l)))
-  part-fits = rw (add-sub-cancel-left from p, add-sub-cancel-left (from + p) v, prefix-long, value-long, length-part) (record { passed = f .passed; room = omega (arith, f .room) })
-
-  pub part-laid : (r : ℕ) (last : List ℕ)
-      → (r ≡ itemLength t (length (take (from + p - from) (drop from bs))) (length (take (from + p + v - (from + p)) (drop (from + p) bs)))) × (last ≡ store 0 (itemBytes (itemGiven (lent t (take (from + p - from) (drop from bs)) (take (from + p + v - (from + p)) (drop (from + p) bs))))) (take (length l - at) (drop at l)))
-      → PartLaid t p v from bs at l r (take at l ++ (last ++ drop (length l - at) (drop at l)))
-  part-laid r last y =
-      let a = add-sub-cancel-left from p in
-      let d = add-sub-cancel-left (from + p) v in
-      let z : r ≡ itemLength t p v = rw (a, d, prefix-long, value-long) at (y .0) in
+  laid : (r : ℕ) (last : List ℕ) → r ≡ itemLength t p v → last ≡ store 0 (itemBytes (itemGiven (lentAt t p v from bs))) (take (length l - at) (drop at l)) → PartLaid t p v from bs at l r (take at l ++ (last ++ drop (length l - at) (drop at l)))
+  laid r last z b =
       let n : length (itemBytes (itemGiven (lentAt t p v from bs))) ≡ itemLength t p v = length-item t (take p (drop from bs)) (take v (drop (from + p) bs)) ∙ rw (prefix-long, value-long) in
-      let b : last ≡ store 0 (itemBytes (itemGiven (lentAt t p v from bs))) (take (length l - at) (drop at l)) = rw (a, d) at (y .1) in
       record { size = z; bytes = rw b (store-part at (itemBytes (itemGiven (lentAt t p v from bs))) l (omega (arith, n, f .room))); ends = omega (arith, f .room); taken = f .bytes }
+
+  known : SizeKnown t p v (itemLength t p v)
+  known = size-known t p v (itemLength t p v) (f .passed)
+
+  module _ (z : t ≡ 8) where
+    text : take (from + p + v - from) (drop from bs) ≡ take (p + v) (drop from bs)
+    text = let n : from + p + v - from ≡ p + v = omega arith in rw n
+
+    text-long : length (take (p + v) (drop from bs)) ≡ p + v
+    text-long = length-take-le (p + v) (drop from bs) (rw length-drop (omega (arith, f .bytes)))
+
+    priv-long : itemLength t p v ≡ 3 + p + v
+    priv-long = rw (eq-eqb _ _ z)
+
+    pub part-priv-fits : (p ≤ length (take (from + p + v - from) (drop from bs))) × (length (take (from + p + v - from) (drop from bs)) ≤ 254) × (3 + length (take (from + p + v - from) (drop from bs)) ≤ length (take (length l - at) (drop at l)))
+    part-priv-fits = rw (text, text-long, length-part) (omega arith, known .priv z, omega (arith, priv-long, f .room))
+
+    pub part-priv-laid : (last : List ℕ)
+        → last ≡ store 0 (itemBytes (priv (take p (take (from + p + v - from) (drop from bs))) (drop p (take (from + p + v - from) (drop from bs))))) (take (length l - at) (drop at l))
+        → PartLaid t p v from bs at l (3 + p + v) (take at l ++ (last ++ drop (length l - at) (drop at l)))
+    part-priv-laid last y =
+        let a : take p (take (p + v) (drop from bs)) ≡ take p (drop from bs) = take-take p (p + v) (drop from bs) (omega arith) in
+        let b : drop p (take (p + v) (drop from bs)) ≡ take v (drop (from + p) bs) = drop-take p (p + v) (drop from bs) ∙ rw (add-sub-cancel-left p v, drop-drop p from bs) in
+        let e : itemGiven (lentAt t p v from bs) ≡ priv (take p (drop from bs)) (take v (drop (from + p) bs)) = rw (eq-eqb _ _ z) in
+        laid (3 + p + v) last (sym priv-long) (rw e (rw (text, a, b) at y))
+
+  module _ (z : t ≡ 8 → ⊥) where
+    other : take (from + p + v - (from + p)) (drop (from + p) bs) ≡ take v (drop (from + p) bs)
+    other = rw (add-sub-cancel-left (from + p) v)
+
+    other-long : itemLength t p v ≡ 2 + v
+    other-long = rw (ne-eqb _ _ z)
+
+    pub part-other-fits : (length (take (from + p + v - (from + p)) (drop (from + p) bs)) ≤ 255) × (2 + length (take (from + p + v - (from + p)) (drop (from + p) bs)) ≤ length (take (length l - at) (drop at l)))
+    part-other-fits = rw (other, value-long, length-part) (known .plain z, omega (arith, other-long, f .room))
+
+    pub part-other-laid : (last : List ℕ)
+        → last ≡ store 0 (itemBytes (item t (take (from + p + v - (from + p)) (drop (from + p) bs)))) (take (length l - at) (drop at l))
+        → PartLaid t p v from bs at l (2 + v) (take at l ++ (last ++ drop (length l - at) (drop at l)))
+    part-other-laid last y =
+        let e : itemGiven (lentAt t p v from bs) ≡ item t (take v (drop (from + p) bs)) = rw (ne-eqb _ _ z) in
+        laid (2 + v) last (sym other-long) (rw e (rw other at y))
 
 -- ---- items one after the other
 
@@ -542,4 +575,4 @@ module _ (ssrc : ℕ) (ts ps vs bs : List ℕ) where
   pub lone-laid : (l l₁ : List ℕ) → l₁ ≡ store 0 (laidChunks (ssrc ∷ []) (length ts ∷ []) ts ps vs bs) l → l₁ ≡ store 0 (laidChunk ssrc ts ps vs bs) l
   lone-laid l l₁ e = rw (only ssrc ts ps vs bs) at e
 
-pub ruleset chunks = (ends, part-fits, part-laid, range-start, range-fits, range-again, range-done, chunk-items, chunk-start, chunk-boundary, chunk-fill, chunk-laid, chunk-at-start, chunk-at-laid, chunking-start, chunking-asks, chunking-place, chunking-fits, chunking-add, chunking-again, chunking-done, lone-prefixes, lone-values, lone-measured, lone-size, lone-disagree, lone-why, lone-why-lent, lone-refused, lone-not-written, lone-sized, lone-fits, lone-short, lone-done, lone-chunks, lone-laid)
+pub ruleset chunks = (ends, part-priv-fits, part-priv-laid, part-other-fits, part-other-laid, range-start, range-fits, range-again, range-done, chunk-items, chunk-start, chunk-boundary, chunk-fill, chunk-laid, chunk-at-start, chunk-at-laid, chunking-start, chunking-asks, chunking-place, chunking-fits, chunking-add, chunking-again, chunking-done, lone-prefixes, lone-values, lone-measured, lone-size, lone-disagree, lone-why, lone-why-lent, lone-refused, lone-not-written, lone-sized, lone-fits, lone-short, lone-done, lone-chunks, lone-laid)

@@ -18,6 +18,10 @@ lent t p v = record { type = t; prefix = p; value = v }
 abbrev pub itemLength : ℕ → ℕ → ℕ → ℕ
 itemLength t p v = pick (eqb t 8) (3 + p + v) (2 + v)
 
+-- what stands before the prefix and the value of a PRIV item, from their lengths
+abbrev pub privHead : ℕ → ℕ → List ℕ
+privHead p n = 8 ∷ (1 + n) ∷ p ∷ []
+
 -- 23, 21, 20
 unfoldable pub sizeOf : ℕ → ℕ → ℕ → Answer ℕ
 sizeOf t p v = do

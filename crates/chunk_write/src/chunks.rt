@@ -1,6 +1,7 @@
 // The chunks of lent lists, one after the other: one SSRC and one item count for each chunk; for each item a type, a prefix length and a
 // value length; one run of bytes, item by item, prefix then value.
 use crate::item;
+use sdes_chunk::item::SdesItem;
 use utils::error::RtcpWriteError;
 use utils::writer;
 ghost use mathlib.Core.Path.{_≡_};
@@ -207,12 +208,12 @@ fn write_item_at(
 {
     let middle = from + prefix_len;
     let end = middle + value_len;
-    item::write_into_unchecked(
-        &mut buf[at..],
-        item_type,
-        &bytes[from..middle],
-        &bytes[middle..end],
-    )
+    if item_type == SdesItem::PRIV {
+        item::write_priv_text_unchecked(&mut buf[at..], prefix_len, &bytes[from..end]);
+        return 3 + prefix_len + value_len;
+    }
+    item::write_other_unchecked(&mut buf[at..], item_type, &bytes[middle..end]);
+    2 + value_len
 }
 
 // The index after what was laid, and the index after the lent bytes that it took.
