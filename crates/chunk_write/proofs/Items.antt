@@ -1,7 +1,7 @@
 -- The cases of an item's size and bytes, each from what the code has tested or called.
 use Prim.Native.Nat.{ℕ, zero, suc, _+_, _-_, _*_, _/_, _%_, _<_, _≤_, _^_}
 use mathlib.Core.Path.{_≡_, refl, sym, ap, _∙_}
-use mathlib.Core.Bool.{Bool, true, false, _||_, not}
+use mathlib.Core.Bool.{Bool, true, false, _||_, _&&_, not}
 use mathlib.Core.Logic.{_⊎_, inl, inr}
 use mathlib.Core.List.{List, [], _∷_, _++_}
 use native.Mathlib.Omega.{arith}
@@ -13,7 +13,7 @@ use Rattle.rfc3550.specs.Answer.{Refusal, Answer, ok, refused, refusal, need, _
 use Rattle.rfc3550.specs.Bytes.{store}
 use Rattle.rfc3550.specs.Packet.{item, priv, itemBytes}
 use Rattle.rfc3550.specs.Write.{LentItem, itemGiven, itemTests, itemSize, room, written, writeItem}
-use Rattle.rfc3550.proofs.Answer.{need-inv, need-ok, then-inv, then-assoc, ok-injective}
+use Rattle.rfc3550.proofs.Answer.{need-inv, and-inv, ok-injective}
 use Rattle.rfc3550.proofs.Bytes.{length-store}
 use Rattle.utils.specs.Error.{writeRefusal, orZero}
 use Rattle.utils.specs.Writer.{writtenOf, sizeRefusal}
@@ -96,6 +96,36 @@ module _ (t p v : ℕ) where
 
       pub other-size-why : v ≤ 255 → refusal 22 0 0 ≡ sizeRefusal (sizeOf t p v)
       other-size-why f = ap sizeRefusal (plain-size z n f)
+
+  pub not-alone : t ≡ 0 → false ≡ (not (eqb t 0) && not (eqb t 8))
+  not-alone e = rw (eq-eqb _ _ e)
+
+  pub alone : (t ≡ 0 → ⊥) → not (eqb t 8) ≡ (not (eqb t 0) && not (eqb t 8))
+  alone z = rw (ne-eqb _ _ z)
+
+  module _ (u : Bool) (e : u ≡ (not (eqb t 0) && not (eqb t 8))) where
+    module _ (q : u ≡ true) where
+      both : (not (eqb t 0) ≡ true) × (not (eqb t 8) ≡ true)
+      both = and-inv (not (eqb t 0)) (not (eqb t 8)) (sym e ∙ q)
+
+      pub alone-over : 255 < v → 0 ≡ orZero (sizeOf t p v)
+      alone-over f = other-over-number (eqb-false _ _ (not-true _ (both .0))) (eqb-false _ _ (not-true _ (both .1))) f
+
+      pub alone-size : v ≤ 255 → 2 + v ≡ orZero (sizeOf t p v)
+      alone-size f = other-size-number (eqb-false _ _ (not-true _ (both .0))) (eqb-false _ _ (not-true _ (both .1))) f
+
+    pub left-priv : u ≡ false → (t ≡ 0 → ⊥) → t ≡ 8
+    left-priv q z = eqb-true _ _ (not-false _ (alone z ∙ sym e ∙ q))
+
+    module _ (q : u ≡ false) (z : t ≡ 0 → ⊥) where
+      pub left-prefix-over : 254 < p → 0 ≡ orZero (sizeOf t p v)
+      left-prefix-over f = prefix-over-number z (left-priv q z) f
+
+      pub left-over : p ≤ 254 → 254 - p < v → 0 ≡ orZero (sizeOf t p v)
+      left-over f g = priv-over-number z (left-priv q z) f g
+
+      pub left-size : p ≤ 254 → v ≤ 254 - p → 3 + p + v ≡ orZero (sizeOf t p v)
+      left-size f g = priv-size-number z (left-priv q z) f g
 
 -- what a size says
 pub record SizeKnown (t p v n : ℕ) : Type 0 where
@@ -237,4 +267,4 @@ module _ (t : ℕ) (p v : List ℕ) where
 pub item-why-lent : (t : ℕ) (p v : List ℕ) (k : Refusal) → k ≡ sizeRefusal (itemSize (lent t (take (length p - 0) p) (take (length v - 0) v))) → k ≡ sizeRefusal (itemSize (lent t p v))
 item-why-lent t p v k e = rw (lent-again p, lent-again v) at e
 
-pub ruleset items = (item-why-lent, writer, type-zero-number, type-zero-why, prefix-over-number, prefix-over-why, priv-over-number, priv-over-why, priv-size-number, priv-size-why, other-over-number, other-over-why, other-size-number, other-size-why, item-number, item-why, plain-laid, priv-head-laid, priv-text-laid, priv-laid, priv-fits, plain-fits, priv-done, plain-done, item-refused, item-not-written, item-sized, item-fits, item-short, item-done)
+pub ruleset items = (item-why-lent, writer, type-zero-number, type-zero-why, prefix-over-why, priv-over-why, priv-size-why, other-over-why, other-size-why, not-alone, alone, alone-over, alone-size, left-prefix-over, left-over, left-size, item-number, item-why, plain-laid, priv-head-laid, priv-text-laid, priv-laid, priv-fits, plain-fits, priv-done, plain-done, item-refused, item-not-written, item-sized, item-fits, item-short, item-done)

@@ -4,7 +4,9 @@ use utils::error::RtcpWriteError;
 use utils::writer;
 use utils::writer::Written;
 ghost use mathlib.Core.Path.{_≡_};
+ghost use mathlib.Core.Bool.{_&&_, not};
 ghost use Prim.Native.Nat.{_+_, _≤_};
+ghost use lib.Dec.{eqb};
 ghost use lib.ListN.{length, take, drop};
 ghost use Rattle.rfc3550.specs.Bytes.{store};
 ghost use Rattle.rfc3550.specs.Packet.{priv, item, itemBytes};
@@ -13,26 +15,36 @@ ghost use Rattle.utils.specs.Error.{writeRefusal, orZero};
 ghost use Rattle.utils.specs.Writer.{writtenOf, sizeRefusal};
 ghost use Rattle.chunk_write.specs.Sizes.{lent, sizeOf, itemLength, privHead, ItemFits};
 
+// Neither 0 nor PRIV: behind its length such an item has its value alone.
+fn has_value_alone(item_type: u8) -> bool
+    ensures { λ r. ⌜ r ≡ (not (eqb «item_type» 0) && not (eqb «item_type» 8)) ⌝ }
+{
+    if item_type == 0 {
+        return false;
+    }
+    item_type != SdesItem::PRIV
+}
+
 // The size of an item of a type and two lengths; 0 where it is refused.
 pub fn size_of_lengths(item_type: u8, prefix_len: u64, value_len: u64) -> usize
     ensures { λ r. ⌜ r ≡ orZero (sizeOf «item_type» «prefix_len» «value_len») ⌝ }
 {
+    if has_value_alone(item_type) {
+        if 255 < value_len {
+            return 0;
+        }
+        return (2 + value_len) as usize;
+    }
     if item_type == 0 {
         return 0;
     }
-    if item_type == SdesItem::PRIV {
-        if 254 < prefix_len {
-            return 0;
-        }
-        if 254 - prefix_len < value_len {
-            return 0;
-        }
-        return (3 + prefix_len + value_len) as usize;
-    }
-    if 255 < value_len {
+    if 254 < prefix_len {
         return 0;
     }
-    (2 + value_len) as usize
+    if 254 - prefix_len < value_len {
+        return 0;
+    }
+    (3 + prefix_len + value_len) as usize
 }
 
 // Why it is refused; PacketTooLarge where it is not.
