@@ -1,18 +1,19 @@
 -- The cases of an item's size and bytes, each from what the code has tested or called.
 use Prim.Native.Nat.{ℕ, zero, suc, _+_, _-_, _*_, _/_, _%_, _<_, _≤_, _^_}
 use mathlib.Core.Path.{_≡_, refl, sym, ap, _∙_}
-use mathlib.Core.Bool.{Bool, true, false, _||_, not}
+use mathlib.Core.Bool.{Bool, true, false, _||_, _&&_, not}
 use mathlib.Core.Logic.{_⊎_, inl, inr}
 use mathlib.Core.List.{List, [], _∷_, _++_}
 use native.Mathlib.Omega.{arith}
 use borrow.Author.Tests.{le-leb, lt-leb, leb-true, eq-eqb, ne-eqb, eqb-true, eqb-false, not-true, not-false}
-use lib.ListN.{length, take, drop, set, length-append, length-set}
+use lib.ListN.{length, take, drop, set, length-append, length-set, take-append-drop}
+use lib.Seq.{length-take-le}
 use lib.Dec.{leb, eqb}
 use Rattle.rfc3550.specs.Answer.{Refusal, Answer, ok, refused, refusal, need, _>>_, _>>=_, pick}
 use Rattle.rfc3550.specs.Bytes.{store}
 use Rattle.rfc3550.specs.Packet.{item, priv, itemBytes}
 use Rattle.rfc3550.specs.Write.{LentItem, itemGiven, itemTests, itemSize, room, written, writeItem}
-use Rattle.rfc3550.proofs.Answer.{need-inv, need-ok, then-inv, then-assoc, ok-injective}
+use Rattle.rfc3550.proofs.Answer.{need-inv, and-inv, ok-injective}
 use Rattle.rfc3550.proofs.Bytes.{length-store}
 use Rattle.utils.specs.Error.{writeRefusal, orZero}
 use Rattle.utils.specs.Writer.{writtenOf, sizeRefusal}
@@ -24,7 +25,7 @@ use Rattle.utils.proofs.WriterStores.{store-puts, store-store, store-part}
 use Rattle.utils.proofs.Parts.{lent-again}
 use Rattle.utils.proofs.Values.{number-came}
 use Rattle.utils.proofs.WriterPackets.{short-written, done-written}
-use Rattle.chunk_write.specs.Sizes.{lent, itemLength, sizeOf, ItemFits}
+use Rattle.chunk_write.specs.Sizes.{lent, itemLength, sizeOf, privHead, ItemFits}
 
 -- ---- the size
 
@@ -95,6 +96,36 @@ module _ (t p v : ℕ) where
 
       pub other-size-why : v ≤ 255 → refusal 22 0 0 ≡ sizeRefusal (sizeOf t p v)
       other-size-why f = ap sizeRefusal (plain-size z n f)
+
+  pub not-alone : t ≡ 0 → false ≡ (not (eqb t 0) && not (eqb t 8))
+  not-alone e = rw (eq-eqb _ _ e)
+
+  pub alone : (t ≡ 0 → ⊥) → not (eqb t 8) ≡ (not (eqb t 0) && not (eqb t 8))
+  alone z = rw (ne-eqb _ _ z)
+
+  module _ (u : Bool) (e : u ≡ (not (eqb t 0) && not (eqb t 8))) where
+    module _ (q : u ≡ true) where
+      both : (not (eqb t 0) ≡ true) × (not (eqb t 8) ≡ true)
+      both = and-inv (not (eqb t 0)) (not (eqb t 8)) (sym e ∙ q)
+
+      pub alone-over : 255 < v → 0 ≡ orZero (sizeOf t p v)
+      alone-over f = other-over-number (eqb-false _ _ (not-true _ (both .0))) (eqb-false _ _ (not-true _ (both .1))) f
+
+      pub alone-size : v ≤ 255 → 2 + v ≡ orZero (sizeOf t p v)
+      alone-size f = other-size-number (eqb-false _ _ (not-true _ (both .0))) (eqb-false _ _ (not-true _ (both .1))) f
+
+    pub left-priv : u ≡ false → (t ≡ 0 → ⊥) → t ≡ 8
+    left-priv q z = eqb-true _ _ (not-false _ (alone z ∙ sym e ∙ q))
+
+    module _ (q : u ≡ false) (z : t ≡ 0 → ⊥) where
+      pub left-prefix-over : 254 < p → 0 ≡ orZero (sizeOf t p v)
+      left-prefix-over f = prefix-over-number z (left-priv q z) f
+
+      pub left-over : p ≤ 254 → 254 - p < v → 0 ≡ orZero (sizeOf t p v)
+      left-over f g = priv-over-number z (left-priv q z) f g
+
+      pub left-size : p ≤ 254 → v ≤ 254 - p → 3 + p + v ≡ orZero (sizeOf t p v)
+      left-size f g = priv-size-number z (left-priv q z) f g
 
 -- what a size says
 pub record SizeKnown (t p v n : ℕ) : Type 0 where
@@ -168,14 +199,21 @@ item-why t p v k e = e ∙ sym (ap sizeRefusal (item-is t p v))
 pub plain-laid : (t : ℕ) (v l l₁ : List ℕ) → 2 + length v ≤ length l → l₁ ≡ store 2 v (set (set l 0 t) 1 (length v)) → l₁ ≡ store 0 (itemBytes (item t v)) l
 plain-laid t v l l₁ h e = e ∙ rw (store-puts 0 t (length v ∷ []) l (omega arith)) (store-store 0 2 (t ∷ length v ∷ []) v l refl (omega arith))
 
-pub priv-laid : (p v l l₁ l₂ : List ℕ) → 3 + length p + length v ≤ length l → l₁ ≡ store 3 p (set (set (set l 0 8) 1 (1 + length p + length v)) 2 (length p)) → l₂ ≡ store (3 + length p) v l₁
-    → l₂ ≡ store 0 (itemBytes (priv p v)) l
-priv-laid p v l l₁ l₂ h e₁ e₂ =
-    let n : length (itemBytes (priv p v)) ≡ 3 + length p + length v = simp length-append (omega arith) in
-    let m : 1 + length p + length v ≡ suc (length (p ++ v)) = rw length-append (omega arith) in
-    let s : l₁ ≡ store 0 (8 ∷ (1 + length p + length v) ∷ length p ∷ p) l =
-    e₁ ∙ rw (store-puts 0 8 ((1 + length p + length v) ∷ length p ∷ []) l (omega arith)) (store-store 0 3 (8 ∷ (1 + length p + length v) ∷ length p ∷ []) p l refl (omega arith)) in
-    e₂ ∙ rw (s, store-store 0 (3 + length p) (8 ∷ (1 + length p + length v) ∷ length p ∷ p) v l (omega arith) (omega arith), m)
+pub priv-head-laid : (p n : ℕ) (l : List ℕ) → 3 ≤ length l → set (set (set l 0 8) 1 (1 + n)) 2 p ≡ store 0 (privHead p n) l
+priv-head-laid p n l h = store-puts 0 8 ((1 + n) ∷ p ∷ []) l (omega arith)
+
+pub priv-text-laid : (p : ℕ) (t l l₀ l₁ : List ℕ) → p ≤ length t → 3 + length t ≤ length l → l₀ ≡ store 0 (privHead p (length t)) l → l₁ ≡ store 3 t l₀ → l₁ ≡ store 0 (itemBytes (priv (take p t) (drop p t))) l
+priv-text-laid p t l l₀ l₁ f h e₁ e₂ =
+    let a : take p t ++ drop p t ≡ t = take-append-drop p t in
+    let b : length (take p t) ≡ p = length-take-le p t f in
+    let m : 1 + length t ≡ suc (length t) = omega arith in
+    e₂ ∙ rw (e₁, a, b, store-store 0 3 (privHead p (length t)) t l refl (omega arith), m)
+
+pub priv-laid : (p v l l₀ l₁ l₂ : List ℕ) → 3 + length p + length v ≤ length l → l₀ ≡ store 0 (privHead (length p) (length p + length v)) l → l₁ ≡ store 3 p l₀ → l₂ ≡ store (3 + length p) v l₁ → l₂ ≡ store 0 (itemBytes (priv p v)) l
+priv-laid p v l l₀ l₁ l₂ h e₀ e₁ e₂ =
+    let m : 1 + (length p + length v) ≡ suc (length (p ++ v)) = rw length-append (omega arith) in
+    let s : l₁ ≡ store 0 (8 ∷ (1 + (length p + length v)) ∷ length p ∷ p) l = e₁ ∙ rw e₀ (store-store 0 3 (privHead (length p) (length p + length v)) p l refl (omega arith)) in
+    e₂ ∙ rw (s, store-store 0 (3 + length p) (8 ∷ (1 + (length p + length v)) ∷ length p ∷ p) v l (omega arith) (omega arith), m)
 
 module _ (t : ℕ) (p v : List ℕ) where
   pub priv-fits : (space : ℕ) → ItemFits t (length p) (length v) space → t ≡ 8 → (length p + length v ≤ 254) × (3 + length p + length v ≤ space)
@@ -229,4 +267,4 @@ module _ (t : ℕ) (p v : List ℕ) where
 pub item-why-lent : (t : ℕ) (p v : List ℕ) (k : Refusal) → k ≡ sizeRefusal (itemSize (lent t (take (length p - 0) p) (take (length v - 0) v))) → k ≡ sizeRefusal (itemSize (lent t p v))
 item-why-lent t p v k e = rw (lent-again p, lent-again v) at e
 
-pub ruleset items = (item-why-lent, writer, type-zero-number, type-zero-why, prefix-over-number, prefix-over-why, priv-over-number, priv-over-why, priv-size-number, priv-size-why, other-over-number, other-over-why, other-size-number, other-size-why, item-number, item-why, plain-laid, priv-laid, priv-fits, plain-fits, priv-done, plain-done, item-refused, item-not-written, item-sized, item-fits, item-short, item-done)
+pub ruleset items = (item-why-lent, writer, type-zero-number, type-zero-why, prefix-over-why, priv-over-why, priv-size-why, other-over-why, other-size-why, not-alone, alone, alone-over, alone-size, left-prefix-over, left-over, left-size, item-number, item-why, plain-laid, priv-head-laid, priv-text-laid, priv-laid, priv-fits, plain-fits, priv-done, plain-done, item-refused, item-not-written, item-sized, item-fits, item-short, item-done)

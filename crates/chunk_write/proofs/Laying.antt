@@ -8,25 +8,25 @@ use native.Mathlib.Numerals.{add-one}
 use native.Mathlib.Omega.{arith}
 use borrow.Author.Tests.{le-leb, lt-leb, eq-eqb, ne-eqb, eqb-true, eqb-false, not-true, not-false}
 use lib.ListN.{length, take, drop, getD, replicate, length-append, length-take, length-drop, length-replicate, drop-of-length-le}
-use lib.Seq.{drop-cons, drop-drop, getD-drop, getD-take, take-all, length-take-le}
+use lib.Seq.{drop-cons, drop-drop, getD-drop, getD-take, take-all, take-take, length-take-le}
 use lib.Dec.{leb, eqb}
 use Rattle.rfc3550.specs.Answer.{Refusal, Answer, ok, refused, refusal, need, _>>_, _>>=_, pick}
 use Rattle.rfc3550.specs.Bytes.{be, sum, store}
-use Rattle.rfc3550.specs.Packet.{Item, itemBytes, itemsBytes, Chunk, chunkBytes, chunksBytes, fill}
+use Rattle.rfc3550.specs.Packet.{Item, item, priv, itemBytes, itemsBytes, Chunk, chunkBytes, chunksBytes, fill}
 use Rattle.rfc3550.specs.Write.{LentItem, LentChunk, lentItems, lentChunks, itemGiven, itemsGiven, chunkGiven, chunksGiven, itemTests, itemsTests, itemsAgree, itemSize, chunkSize, writeChunk}
 use Rattle.rfc3550.proofs.Answer.{need-inv, then-inv, ok-injective}
 use Rattle.rfc3550.proofs.Bytes.{length-be, length-store}
 use Rattle.utils.specs.Error.{orZero}
 use Rattle.utils.specs.Writer.{sizeRefusal}
 use Rattle.utils.specs.declared.writer.Written.the-variants.{Size}
-use Rattle.utils.proofs.Parts.{lent-again}
+use Rattle.utils.proofs.Parts.{lent-again, drop-take}
 use Rattle.utils.proofs.Values.{number-came}
 use Rattle.utils.proofs.WriterStores.{store-nil, store-store, store-part}
 use Rattle.utils.proofs.WriterPackets.{short-written, done-written, parts-laid}
-use Rattle.chunk_write.specs.Sizes.{lent, itemLength, sizeOf, ItemFits, Listed, part, itemsRefusal, sizesOf, closed, chunksFrom, chunksEnd, ChunksMeasured}
+use Rattle.chunk_write.specs.Sizes.{lent, itemLength, sizeOf, ItemFits, Listed, part, itemsRefusal, sizesOf, closed, chunksFrom, atMost, chunksEnd, ChunksMeasured}
 use Rattle.chunk_write.specs.Lists.{Within, PartFits, lentAt, PartLaid, laidItems, ItemsFit, ItemsLaid, laidChunk, ChunkFits, ChunkLaid, ChunkFitsAt, ChunkLaidAt, laidChunks, ChunksFit}
 use Rattle.chunk_write.specs.declared.chunks.LaidEnd.{LaidEnd}
-use Rattle.chunk_write.proofs.Items.{item-is, length-item, size-why-of, not-written}
+use Rattle.chunk_write.proofs.Items.{SizeKnown, size-known, item-is, length-item, size-why-of, not-written}
 use Rattle.chunk_write.proofs.Sizes.{ends, sum-next, sum-split, agreed, items-take, items-drop, tests-split, length-chunk-of, chunks-are, refusal-of, EndKnown, end-known, end-none}
 
 -- ---- one item among others
@@ -41,19 +41,52 @@ module _ (t p v from : ℕ) (bs : List ℕ) (at : ℕ) (l : List ℕ) (f : PartF
   value-long : length (take v (drop (from + p) bs)) ≡ v
   value-long = length-take-le v (drop (from + p) bs) (rw length-drop (omega (arith, f .bytes)))
 
-  pub part-fits : ItemFits t (length (take (from + p - from) (drop from bs))) (length (take (from + p + v - (from + p)) (drop (from + p) bs))) (length (take (length l - at) (drop at l)))
-  part-fits = rw (add-sub-cancel-left from p, add-sub-cancel-left (from + p) v, prefix-long, value-long, length-part) (record { passed = f .passed; room = omega (arith, f .room) })
-
-  pub part-laid : (r : ℕ) (last : List ℕ)
-      → (r ≡ itemLength t (length (take (from + p - from) (drop from bs))) (length (take (from + p + v - (from + p)) (drop (from + p) bs)))) × (last ≡ store 0 (itemBytes (itemGiven (lent t (take (from + p - from) (drop from bs)) (take (from + p + v - (from + p)) (drop (from + p) bs))))) (take (length l - at) (drop at l)))
-      → PartLaid t p v from bs at l r (take at l ++ (last ++ drop (length l - at) (drop at l)))
-  part-laid r last y =
-      let a = add-sub-cancel-left from p in
-      let d = add-sub-cancel-left (from + p) v in
-      let z : r ≡ itemLength t p v = rw (a, d, prefix-long, value-long) at (y .0) in
+  laid : (r : ℕ) (last : List ℕ) → r ≡ itemLength t p v → last ≡ store 0 (itemBytes (itemGiven (lentAt t p v from bs))) (take (length l - at) (drop at l)) → PartLaid t p v from bs at l r (take at l ++ (last ++ drop (length l - at) (drop at l)))
+  laid r last z b =
       let n : length (itemBytes (itemGiven (lentAt t p v from bs))) ≡ itemLength t p v = length-item t (take p (drop from bs)) (take v (drop (from + p) bs)) ∙ rw (prefix-long, value-long) in
-      let b : last ≡ store 0 (itemBytes (itemGiven (lentAt t p v from bs))) (take (length l - at) (drop at l)) = rw (a, d) at (y .1) in
       record { size = z; bytes = rw b (store-part at (itemBytes (itemGiven (lentAt t p v from bs))) l (omega (arith, n, f .room))); ends = omega (arith, f .room); taken = f .bytes }
+
+  known : SizeKnown t p v (itemLength t p v)
+  known = size-known t p v (itemLength t p v) (f .passed)
+
+  module _ (z : t ≡ 8) where
+    text : take (from + p + v - from) (drop from bs) ≡ take (p + v) (drop from bs)
+    text = let n : from + p + v - from ≡ p + v = omega arith in rw n
+
+    text-long : length (take (p + v) (drop from bs)) ≡ p + v
+    text-long = length-take-le (p + v) (drop from bs) (rw length-drop (omega (arith, f .bytes)))
+
+    priv-long : itemLength t p v ≡ 3 + p + v
+    priv-long = rw (eq-eqb _ _ z)
+
+    pub part-priv-fits : (p ≤ length (take (from + p + v - from) (drop from bs))) × (length (take (from + p + v - from) (drop from bs)) ≤ 254) × (3 + length (take (from + p + v - from) (drop from bs)) ≤ length (take (length l - at) (drop at l)))
+    part-priv-fits = rw (text, text-long, length-part) (omega arith, known .priv z, omega (arith, priv-long, f .room))
+
+    pub part-priv-laid : (last : List ℕ)
+        → last ≡ store 0 (itemBytes (priv (take p (take (from + p + v - from) (drop from bs))) (drop p (take (from + p + v - from) (drop from bs))))) (take (length l - at) (drop at l))
+        → PartLaid t p v from bs at l (3 + p + v) (take at l ++ (last ++ drop (length l - at) (drop at l)))
+    part-priv-laid last y =
+        let a : take p (take (p + v) (drop from bs)) ≡ take p (drop from bs) = take-take p (p + v) (drop from bs) (omega arith) in
+        let b : drop p (take (p + v) (drop from bs)) ≡ take v (drop (from + p) bs) = drop-take p (p + v) (drop from bs) ∙ rw (add-sub-cancel-left p v, drop-drop p from bs) in
+        let e : itemGiven (lentAt t p v from bs) ≡ priv (take p (drop from bs)) (take v (drop (from + p) bs)) = rw (eq-eqb _ _ z) in
+        laid (3 + p + v) last (sym priv-long) (rw e (rw (text, a, b) at y))
+
+  module _ (z : t ≡ 8 → ⊥) where
+    other : take (from + p + v - (from + p)) (drop (from + p) bs) ≡ take v (drop (from + p) bs)
+    other = rw (add-sub-cancel-left (from + p) v)
+
+    other-long : itemLength t p v ≡ 2 + v
+    other-long = rw (ne-eqb _ _ z)
+
+    pub part-other-fits : (length (take (from + p + v - (from + p)) (drop (from + p) bs)) ≤ 255) × (2 + length (take (from + p + v - (from + p)) (drop (from + p) bs)) ≤ length (take (length l - at) (drop at l)))
+    part-other-fits = rw (other, value-long, length-part) (known .plain z, omega (arith, other-long, f .room))
+
+    pub part-other-laid : (last : List ℕ)
+        → last ≡ store 0 (itemBytes (item t (take (from + p + v - (from + p)) (drop (from + p) bs)))) (take (length l - at) (drop at l))
+        → PartLaid t p v from bs at l (2 + v) (take at l ++ (last ++ drop (length l - at) (drop at l)))
+    part-other-laid last y =
+        let e : itemGiven (lentAt t p v from bs) ≡ item t (take v (drop (from + p) bs)) = rw (ne-eqb _ _ z) in
+        laid (2 + v) last (sym other-long) (rw e (rw other at y))
 
 -- ---- items one after the other
 
@@ -258,16 +291,19 @@ module _ (ts ps vs bs : List ℕ) (i j from at : ℕ) (l : List ℕ) (f : ChunkF
   length-left : length (take (length l - at) (drop at l)) ≡ length l - at
   length-left = length-take-le (length l - at) (drop at l) (rw length-drop (omega arith))
 
-  pub chunk-at-within : Within ts ps vs bs i j from
-  chunk-at-within = record { order = f .order; within = f .within; lists = f .listed; bytes = f .bytes }
+  -- the lists are lent again
+  pub chunk-at-fits : Within (take (length ts - 0) ts) (take (length ps - 0) ps) (take (length vs - 0) vs) (take (length bs - 0) bs) i j from
+      × ChunkFits (part i j (take (length ts - 0) ts)) (part i j (take (length ps - 0) ps)) (part i j (take (length vs - 0) vs)) (drop from (take (length bs - 0) bs)) (length (take (length l - at) (drop at l)))
+  chunk-at-fits = rw (lent-again ts, lent-again ps, lent-again vs, lent-again bs, length-left) (record { order = f .order; within = f .within; lists = f .listed; bytes = f .bytes }, f .fits)
 
-  pub chunk-at-fits : ChunkFits (take (j - i) (drop i ts)) (take (j - i) (drop i ps)) (take (j - i) (drop i vs)) (drop from bs) (length (take (length l - at) (drop at l)))
-  chunk-at-fits = rw length-left (f .fits)
+  pub chunk-at-start : at ≤ length l
+  chunk-at-start = f .start
 
   pub chunk-at-laid : (ssrc : ℕ) (r : LaidEnd) (last : List ℕ)
-      → ChunkLaid ssrc from (take (j - i) (drop i ts)) (take (j - i) (drop i ps)) (take (j - i) (drop i vs)) (drop from bs) (take (length l - at) (drop at l)) r last
+      → ChunkLaid ssrc from (part i j (take (length ts - 0) ts)) (part i j (take (length ps - 0) ps)) (part i j (take (length vs - 0) vs)) (drop from (take (length bs - 0) bs)) (take (length l - at) (drop at l)) r last
       → ChunkLaidAt ssrc ts ps vs bs i j from at l r (take at l ++ (last ++ drop (length l - at) (drop at l)))
-  chunk-at-laid ssrc r last y =
+  chunk-at-laid ssrc r last lent =
+      let y : ChunkLaid ssrc from (part i j ts) (part i j ps) (part i j vs) (drop from bs) (take (length l - at) (drop at l)) r last = rw (lent-again ts, lent-again ps, lent-again vs, lent-again bs) at lent in
       let z : r .end ≡ length (laidChunk ssrc (take (j - i) (drop i ts)) (take (j - i) (drop i ps)) (take (j - i) (drop i vs)) (drop from bs)) = y .size in
       let b : last ≡ store 0 (laidChunk ssrc (take (j - i) (drop i ts)) (take (j - i) (drop i ps)) (take (j - i) (drop i vs)) (drop from bs)) (take (length l - at) (drop at l)) = y .bytes in
       let n = length-chunk-of ssrc (lentItems (take (j - i) (drop i ts)) (take (j - i) (drop i ps)) (take (j - i) (drop i vs)) (drop from bs)) in
@@ -392,6 +428,16 @@ module _ (o : ℕ) (ss cs ts ps vs bs l : List ℕ) (f : ChunksFit o ss cs ts ps
             rest = s ∙ (rw sp at (w .rest));
           }
 
+    module _ (h : k < length ss) where
+      pub chunking-asks : Within (take (length ts - 0) ts) (take (length ps - 0) ps) (take (length vs - 0) vs) (take (length bs - 0) bs) i (i + getD cs k 0) from
+          × ChunkFits (part i (i + getD cs k 0) (take (length ts - 0) ts)) (part i (i + getD cs k 0) (take (length ps - 0) ps)) (part i (i + getD cs k 0) (take (length vs - 0) vs)) (drop from (take (length bs - 0) bs)) (length (take (length l₁ - at) (drop at l₁)))
+      chunking-asks = chunk-at-fits ts ps vs bs i (i + getD cs k 0) from at l₁ (chunking-fits h (getD cs k 0) refl)
+
+      pub chunking-place : (r : LaidEnd) (last : List ℕ)
+          → ChunkLaid (getD ss k 0) from (part i (i + getD cs k 0) (take (length ts - 0) ts)) (part i (i + getD cs k 0) (take (length ps - 0) ps)) (part i (i + getD cs k 0) (take (length vs - 0) vs)) (drop from (take (length bs - 0) bs)) (take (length l₁ - at) (drop at l₁)) r last
+          → length l₁ < 2 ^ 64 → at + r .end < 2 ^ 64
+      chunking-place r last y n = let z = chunk-at-laid ts ps vs bs i (i + getD cs k 0) from at l₁ (chunking-fits h (getD cs k 0) refl) (getD ss k 0) r last y .ends in omega arith
+
     pub chunking-done : length ss ≤ k → l₁ ≡ store o (laidChunks ss cs ts ps vs bs) l
     unfolding lentChunks chunksGiven chunksBytes
     chunking-done h =
@@ -463,12 +509,8 @@ module _ (ssrc : ℕ) (ts ps vs bs : List ℕ) where
                   zero true e = zero-is n (eqb-true _ _ e)
                   zero false e = absurd (g (end-known 0 (length bs) (length ts ∷ []) ts ps vs d n h (eqb-false _ _ e) .bytes))
 
-      module _ (n : ℕ) (h : n ≡ chunksEnd 0 (length bs) (length ts ∷ []) ts ps vs) where
-        pub lone-over : 262140 < n → 0 ≡ orZero (chunkSize ssrc ts ps vs bs)
-        lone-over f = rw (lt-leb _ _ f) at (size-lone n h)
-
-        pub lone-size : n ≤ 262140 → n ≡ orZero (chunkSize ssrc ts ps vs bs)
-        lone-size f = rw (le-leb _ _ f) at (size-lone n h)
+      pub lone-size : (n : ℕ) → n ≡ atMost 262140 (chunksEnd 0 (length bs) (length ts ∷ []) ts ps vs) → n ≡ orZero (chunkSize ssrc ts ps vs bs)
+      lone-size n e = e ∙ size-lone _ refl
 
   module _ (t : Bool) (e : t ≡ itemsAgree ts ps vs bs) where
     pub lone-disagree : t ≡ false → refusal 24 0 0 ≡ sizeRefusal (chunkSize ssrc ts ps vs bs)
@@ -533,4 +575,4 @@ module _ (ssrc : ℕ) (ts ps vs bs : List ℕ) where
   pub lone-laid : (l l₁ : List ℕ) → l₁ ≡ store 0 (laidChunks (ssrc ∷ []) (length ts ∷ []) ts ps vs bs) l → l₁ ≡ store 0 (laidChunk ssrc ts ps vs bs) l
   lone-laid l l₁ e = rw (only ssrc ts ps vs bs) at e
 
-pub ruleset chunks = (ends, part-fits, part-laid, range-start, range-fits, range-again, range-done, chunk-items, chunk-start, chunk-boundary, chunk-fill, chunk-laid, chunk-at-within, chunk-at-fits, chunk-at-laid, chunking-start, chunking-fits, chunking-add, chunking-again, chunking-done, lone-prefixes, lone-values, lone-measured, lone-over, lone-size, lone-disagree, lone-why, lone-why-lent, lone-refused, lone-not-written, lone-sized, lone-fits, lone-short, lone-done, lone-chunks, lone-laid)
+pub ruleset chunks = (ends, part-priv-fits, part-priv-laid, part-other-fits, part-other-laid, range-start, range-fits, range-again, range-done, chunk-items, chunk-start, chunk-boundary, chunk-fill, chunk-laid, chunk-at-start, chunk-at-laid, chunking-start, chunking-asks, chunking-place, chunking-fits, chunking-add, chunking-again, chunking-done, lone-prefixes, lone-values, lone-measured, lone-size, lone-disagree, lone-why, lone-why-lent, lone-refused, lone-not-written, lone-sized, lone-fits, lone-short, lone-done, lone-chunks, lone-laid)

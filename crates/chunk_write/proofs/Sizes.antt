@@ -20,7 +20,7 @@ use Rattle.utils.specs.Error.{orZero}
 use Rattle.utils.specs.Writer.{sizeRefusal}
 use Rattle.utils.proofs.Values.{number-came}
 use Rattle.utils.proofs.WriterCases.{writer}
-use Rattle.chunk_write.specs.Sizes.{lent, itemLength, sizeOf, Listed, part, itemsRefusal, sizesOf, closed, chunksFrom, nowhere, itemsEnd, chunksEnd, ItemsMeasured, ItemsEnded, ChunksMeasured}
+use Rattle.chunk_write.specs.Sizes.{lent, itemLength, sizeOf, Listed, part, itemsRefusal, sizesOf, closed, chunksFrom, atMost, nowhere, itemsEnd, chunksEnd, ItemsMeasured, ItemsEnded, ChunksMeasured}
 use Rattle.chunk_write.specs.Lists.{laidItems, laidChunks}
 use Rattle.chunk_write.specs.declared.chunks.ItemsEnd.{ItemsEnd}
 use Rattle.chunk_write.proofs.Items.{size-known, size-most, item-is}
@@ -316,9 +316,9 @@ module _ (at₀ left₀ : ℕ) (ts ps vs : List ℕ) (i₀ j : ℕ) (f : ItemsMe
 
 -- ---- chunks in numbers
 
-pub record Counting (start left₀ : ℕ) (cs ts ps vs : List ℕ) (k i at left : ℕ) : Type 0 where
+pub record Counting (start left₀ : ℕ) (cs ts ps vs : List ℕ) (k i at left more : ℕ) : Type 0 where
   pub within : k ≤ length cs
-  pub items : i ≤ length ts
+  pub items : i + more ≡ length ts
   pub rest : chunksEnd at left (drop k cs) (drop i ts) (drop i ps) (drop i vs) ≡ chunksEnd start left₀ cs ts ps vs
   pub room : at + left + 3 * (length ts - i) + 8 * (length cs - k) ≤ start + left₀ + 3 * length ts + 8 * length cs
 
@@ -329,10 +329,10 @@ room-next : (e l at left c x y b m : ℕ) → e + l ≤ at + 4 + left + 3 * c �
 room-next e l at left c x y b m f g h = omega arith
 
 module _ (start left₀ : ℕ) (cs ts ps vs : List ℕ) (f : ChunksMeasured start cs ts ps vs left₀) where
-  pub counting-start : Counting start left₀ cs ts ps vs 0 0 start left₀
+  pub counting-start : Counting start left₀ cs ts ps vs 0 0 start left₀ (length ts)
   counting-start = record { within = omega arith; items = omega arith; rest = refl; room = omega arith }
 
-  module _ (k i at left : ℕ) (w : Counting start left₀ cs ts ps vs k i at left) where
+  module _ (k i at left more : ℕ) (w : Counting start left₀ cs ts ps vs k i at left more) where
     module _ (h : k < length cs) where
       counts-next : pick (ltb (length ts - i) (getD cs k 0)) 0 (pick (eqb (itemsEnd (at + 4) left (take (getD cs k 0) (drop i ts)) (take (getD cs k 0) (drop i ps)) (take (getD cs k 0) (drop i vs)) .end) 0) 0
           (chunksEnd (closed (itemsEnd (at + 4) left (take (getD cs k 0) (drop i ts)) (take (getD cs k 0) (drop i ps)) (take (getD cs k 0) (drop i vs)) .end)) (itemsEnd (at + 4) left (take (getD cs k 0) (drop i ts)) (take (getD cs k 0) (drop i ps)) (take (getD cs k 0) (drop i vs)) .left) (drop (k + 1) cs) (drop (i + getD cs k 0) ts) (drop (i + getD cs k 0) ps) (drop (i + getD cs k 0) vs)))
@@ -340,10 +340,10 @@ module _ (start left₀ : ℕ) (cs ts ps vs : List ℕ) (f : ChunksMeasured star
       unfolding chunksEnd
       counts-next = simp add-one (simp (drop-cons cs k 0 h, length-drop, drop-drop) at (w .rest))
 
-      pub counting-over : length ts - i < getD cs k 0 → 0 ≡ chunksEnd start left₀ cs ts ps vs
-      counting-over g = rw (lt-ltb _ _ g) at counts-next
+      pub counting-over : more < getD cs k 0 → 0 ≡ chunksEnd start left₀ cs ts ps vs
+      counting-over g = let b : ltb (length ts - i) (getD cs k 0) ≡ true = lt-ltb (length ts - i) (getD cs k 0) (omega (arith, w .items)) in rw b at counts-next
 
-      module _ (g : getD cs k 0 ≤ length ts - i) where
+      module _ (g : getD cs k 0 ≤ more) where
         pub counting-add : length ts < 2 ^ 64 → i + getD cs k 0 < 2 ^ 64
         counting-add q = omega (arith, w .items)
 
@@ -358,7 +358,7 @@ module _ (start left₀ : ℕ) (cs ts ps vs : List ℕ) (f : ChunksMeasured star
           same = rw (add-sub-cancel-left i (getD cs k 0)) at (y .is)
 
           next : pick (eqb (r .end) 0) 0 (chunksEnd (closed (r .end)) (r .left) (drop (k + 1) cs) (drop (i + getD cs k 0) ts) (drop (i + getD cs k 0) ps) (drop (i + getD cs k 0) vs)) ≡ chunksEnd start left₀ cs ts ps vs
-          next = rw (le-ltb _ _ g, ← same) at counts-next
+          next = let b : ltb (length ts - i) (getD cs k 0) ≡ false = le-ltb (length ts - i) (getD cs k 0) (omega (arith, w .items)) in rw (b, ← same) at counts-next
 
           pub counting-refused : r .end ≡ 0 → 0 ≡ chunksEnd start left₀ cs ts ps vs
           counting-refused z = rw (eq-eqb _ _ z) at next
@@ -366,7 +366,7 @@ module _ (start left₀ : ℕ) (cs ts ps vs : List ℕ) (f : ChunksMeasured star
           pub counting-end : closed (r .end) < 2 ^ 64
           counting-end = omega (arith, y .most, w .room, f .room)
 
-          pub counting-again : (r .end ≡ 0 → ⊥) → (m : ℕ) → m ≡ closed (r .end) → Counting start left₀ cs ts ps vs (k + 1) (i + getD cs k 0) m (r .left)
+          pub counting-again : (r .end ≡ 0 → ⊥) → (m : ℕ) → m ≡ closed (r .end) → Counting start left₀ cs ts ps vs (k + 1) (i + getD cs k 0) m (r .left) (more - getD cs k 0)
           counting-again z m q =
               let a : length ts - i ≡ getD cs k 0 + (length ts - (i + getD cs k 0)) = omega (arith, w .items) in
               let b : length cs - k ≡ 1 + (length cs - (k + 1)) = omega arith in
@@ -383,18 +383,32 @@ module _ (start left₀ : ℕ) (cs ts ps vs : List ℕ) (f : ChunksMeasured star
       unfolding chunksEnd
       counts-last = let z : drop k cs ≡ [] = drop-of-length-le cs {i = k} h in rw length-drop at (rw z at (w .rest))
 
-      pub counting-items : (i ≡ length ts → ⊥) → 0 ≡ chunksEnd start left₀ cs ts ps vs
+      pub counting-items : (more ≡ 0 → ⊥) → 0 ≡ chunksEnd start left₀ cs ts ps vs
       counting-items g = let b : eqb 0 (length ts - i) ≡ false = ne-eqb 0 (length ts - i) (λ e. g (omega (arith, w .items))) in rw b at counts-last
 
-      module _ (g : i ≡ length ts) where
+      module _ (g : more ≡ 0) where
         all : eqb 0 (length ts - i) ≡ true
-        all = eq-eqb 0 (length ts - i) (omega arith)
+        all = eq-eqb 0 (length ts - i) (omega (arith, w .items))
 
         pub counting-bytes : (left ≡ 0 → ⊥) → 0 ≡ chunksEnd start left₀ cs ts ps vs
         counting-bytes z = let b : eqb 0 left ≡ false = ne-eqb 0 left (λ e. z (sym e)) in rw (all, b) at counts-last
 
-        pub counting-done : left ≡ 0 → at ≡ chunksEnd start left₀ cs ts ps vs
-        counting-done z = let b : eqb 0 left ≡ true = eq-eqb 0 left (sym z) in rw (all, b) at counts-last
+        module _ (z : left ≡ 0) (limit : ℕ) where
+          whole : at ≡ chunksEnd start left₀ cs ts ps vs
+          whole = let b : eqb 0 left ≡ true = eq-eqb 0 left (sym z) in rw (all, b) at counts-last
+
+          pub counting-past : limit < at → 0 ≡ atMost limit (chunksEnd start left₀ cs ts ps vs)
+          counting-past o = rw (← whole, lt-leb _ _ o)
+
+          pub counting-done : at ≤ limit → at ≡ atMost limit (chunksEnd start left₀ cs ts ps vs)
+          counting-done o = rw (← whole, le-leb _ _ o)
+
+none : {A : Type 0} (b : Bool) (x : A) → pick b x x ≡ x
+none true x = refl
+none false x = refl
+
+pub none-at-most : (limit n : ℕ) → 0 ≡ n → 0 ≡ atMost limit n
+none-at-most limit n e = rw (← e) (sym (none (leb 0 limit) 0))
 
 -- ---- the numbers are the definition's
 
@@ -419,10 +433,6 @@ leb-same a b c d f g = go (leb a b) refl
         either : (y : Bool) → ltb d c ≡ y → b < a → d < c
         either true e h = ltb-true _ _ e
         either false e h = let k : c ≤ d = ltb-false _ _ e in absurd (omega (arith, g k))
-
-none : {A : Type 0} (b : Bool) (x : A) → pick b x x ≡ x
-none true x = refl
-none false x = refl
 
 sizes-least : (n : ℕ) (ts ps vs : List ℕ) (m : ℕ) → sizesOf n ts ps vs ≡ ok m → n ≤ m
 unfolding sizesOf
@@ -532,4 +542,4 @@ module _ (start left : ℕ) (cs ts ps vs : List ℕ) (d : Listed ts ps vs) (n : 
   pub end-none : sum cs ≡ length ts → sum ps + sum vs ≡ left → n ≡ orZero (chunksFrom start cs ts ps vs)
   end-none c b = h ∙ ends-are start left cs ts ps vs (d .prefixes) (d .values) ∙ rw (eq-eqb _ _ c, eq-eqb _ _ b)
 
-pub ruleset ends = (writer, not-true, not-false, agreed-listed, summing-start, summing-over, summing-again, summing-done, both-start, both-over, both-over-value, both-again, both-done, prefixes-other, values-other, sums-agree, asking-start, asking-told, asking-again, asking-done, ending-start, ending-refused, ending-over, ending-over-value, ending-again, ending-fits, ending-done, counting-start, counting-over, counting-add, counting-place, counting-fits, counting-refused, counting-end, counting-again, counting-items, counting-bytes, counting-done)
+pub ruleset ends = (writer, not-true, not-false, agreed-listed, summing-start, summing-over, summing-again, summing-done, both-start, both-over, both-over-value, both-again, both-done, prefixes-other, values-other, sums-agree, asking-start, asking-told, asking-again, asking-done, ending-start, ending-refused, ending-over, ending-over-value, ending-again, ending-fits, ending-done, counting-start, counting-over, counting-add, counting-place, counting-fits, counting-refused, counting-end, counting-again, counting-items, counting-bytes, counting-past, counting-done, none-at-most)

@@ -18,6 +18,10 @@ lent t p v = record { type = t; prefix = p; value = v }
 abbrev pub itemLength : ℕ → ℕ → ℕ → ℕ
 itemLength t p v = pick (eqb t 8) (3 + p + v) (2 + v)
 
+-- what stands before the prefix and the value of a PRIV item, from their lengths
+abbrev pub privHead : ℕ → ℕ → List ℕ
+privHead p n = 8 ∷ (1 + n) ∷ p ∷ []
+
 -- 23, 21, 20
 unfoldable pub sizeOf : ℕ → ℕ → ℕ → Answer ℕ
 sizeOf t p v = do
@@ -80,6 +84,10 @@ chunksEnd at left (c ∷ cs) ts ps vs =
     pick (ltb (length ts) c) 0
     (pick (eqb (itemsEnd (at + 4) left (take c ts) (take c ps) (take c vs) .end) 0) 0
     (chunksEnd (closed (itemsEnd (at + 4) left (take c ts) (take c ps) (take c vs) .end)) (itemsEnd (at + 4) left (take c ts) (take c ps) (take c vs) .left) cs (drop c ts) (drop c ps) (drop c vs)))
+
+-- up to a limit, and else 0
+abbrev pub atMost : ℕ → ℕ → ℕ
+atMost limit n = pick (leb n limit) n 0
 
 -- ---- what the code is given and gives
 

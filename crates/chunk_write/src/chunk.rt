@@ -10,6 +10,9 @@ ghost use Rattle.utils.specs.Error.{writeRefusal, orZero};
 ghost use Rattle.utils.specs.Writer.{writtenOf, sizeRefusal};
 ghost use Rattle.chunk_write.specs.Lists.{laidChunk, ChunkFits};
 
+// What a packet of the greatest length has behind its header.
+const MAX_CHUNK_LEN: usize = 262140;
+
 // The size of a lone chunk; 0 where it is refused.
 pub fn size_of(ssrc: u32, types: &[u8], prefixes: &[u64], values: &[u64], bytes: &[u8]) -> usize
     ensures { λ r. ⌜ r ≡ orZero (chunkSize ssrc (now (types .entry)) (now (prefixes .entry)) (now (values .entry)) (now (bytes .entry))) ⌝ }
@@ -21,11 +24,15 @@ pub fn size_of(ssrc: u32, types: &[u8], prefixes: &[u64], values: &[u64], bytes:
         return 0;
     }
     let counts = [types.len() as u64];
-    let size = chunks::chunks_end_unchecked(0, &counts, types, prefixes, values, bytes.len());
-    if 262140 < size {
-        return 0;
-    }
-    size
+    chunks::chunks_end_unchecked(
+        0,
+        MAX_CHUNK_LEN,
+        &counts,
+        types,
+        prefixes,
+        values,
+        bytes.len(),
+    )
 }
 
 // Why it is refused; PacketTooLarge where it is not.

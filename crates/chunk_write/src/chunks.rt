@@ -1,6 +1,7 @@
 // The chunks of lent lists, one after the other: one SSRC and one item count for each chunk; for each item a type, a prefix length and a
 // value length; one run of bytes, item by item, prefix then value.
 use crate::item;
+use sdes_chunk::item::SdesItem;
 use utils::error::RtcpWriteError;
 use utils::writer;
 ghost use mathlib.Core.Path.{_≡_};
@@ -10,8 +11,8 @@ ghost use lib.ListN.{length, take, drop, getD};
 ghost use Rattle.rfc3550.specs.Bytes.{sum, store};
 ghost use Rattle.rfc3550.specs.Write.{itemsAgree};
 ghost use Rattle.utils.specs.Error.{writeRefusal};
-ghost use Rattle.chunk_write.specs.Sizes.{Listed, part, closed, chunksEnd, ItemsMeasured, ItemsEnded, ChunksMeasured, itemsRefusal};
-ghost use Rattle.chunk_write.specs.Lists.{Within, PartFits, PartLaid, ItemsFit, ItemsLaid, ChunkFits, ChunkLaid, ChunkFitsAt, ChunkLaidAt, ChunksFit, laidChunks};
+ghost use Rattle.chunk_write.specs.Sizes.{Listed, part, closed, atMost, chunksEnd, ItemsMeasured, ItemsEnded, ChunksMeasured, itemsRefusal};
+ghost use Rattle.chunk_write.specs.Lists.{Within, PartFits, PartLaid, ItemsFit, ItemsLaid, ChunkFits, ChunkLaid, ChunksFit, laidChunks};
 
 // Whether the numbers sum to the total.
 pub fn sum_is(xs: &[u64], total: u64) -> bool
@@ -136,9 +137,10 @@ fn boundary_after(at: usize) -> usize
     at + (4 - at % 4)
 }
 
-// The index after the chunks, if they start at index start; 0 where an item is refused or the lists disagree.
+// The index after the chunks, if they start at index start; 0 where an item is refused, the lists disagree or that index is past the limit.
 pub fn chunks_end_unchecked(
     start: usize,
+    limit: usize,
     counts: &[u64],
     types: &[u8],
     prefixes: &[u64],
@@ -146,18 +148,20 @@ pub fn chunks_end_unchecked(
     bytes_len: usize,
 ) -> usize
     requires { ⌜ ChunksMeasured start (now counts) (now types) (now prefixes) (now values) «bytes_len» ⌝ }
-    ensures { λ r. ⌜ r ≡ chunksEnd start «bytes_len» (now (counts .entry)) (now (types .entry)) (now (prefixes .entry)) (now (values .entry)) ⌝ }
+    ensures { λ r. ⌜ r ≡ atMost limit (chunksEnd start «bytes_len» (now (counts .entry)) (now (types .entry)) (now (prefixes .entry)) (now (values .entry))) ⌝ }
 {
     let n = counts.len();
     let mut k: usize = 0;
     let mut i: usize = 0;
     let mut at = start;
     let mut left = bytes_len as u64;
+    let mut rest = types.len() as u64;
     while k < n {
         let c = counts[k];
-        if ((types.len() - i) as u64) < c {
+        if rest < c {
             return 0;
         }
+        rest -= c;
         let j = i + c as usize;
         let items = items_end(at + 4, left, types, prefixes, values, i, j);
         if items.end == 0 {
@@ -168,10 +172,13 @@ pub fn chunks_end_unchecked(
         i = j;
         k += 1;
     }
-    if i != types.len() {
+    if rest != 0 {
         return 0;
     }
     if left != 0 {
+        return 0;
+    }
+    if limit < at {
         return 0;
     }
     at
@@ -201,12 +208,12 @@ fn write_item_at(
 {
     let middle = from + prefix_len;
     let end = middle + value_len;
-    item::write_into_unchecked(
-        &mut buf[at..],
-        item_type,
-        &bytes[from..middle],
-        &bytes[middle..end],
-    )
+    if item_type == SdesItem::PRIV {
+        item::write_priv_text_unchecked(&mut buf[at..], prefix_len, &bytes[from..end]);
+        return 3 + prefix_len + value_len;
+    }
+    item::write_other_unchecked(&mut buf[at..], item_type, &bytes[middle..end]);
+    2 + value_len
 }
 
 // The index after what was laid, and the index after the lent bytes that it took.
@@ -270,36 +277,8 @@ fn write_chunk(
     }
 }
 
-// Lays it at index at: into the part of buf from there on.
-fn write_chunk_at(
-    buf: &mut [u8],
-    at: usize,
-    ssrc: u32,
-    types: &[u8],
-    prefixes: &[u64],
-    values: &[u64],
-    bytes: &[u8],
-    first: usize,
-    last: usize,
-    from: usize,
-) -> LaidEnd
-    requires { ⌜ ChunkFitsAt (now types) (now prefixes) (now values) (now bytes) first last from at (length (now buf)) ⌝ }
-    ensures { λ r. ⌜ ChunkLaidAt ssrc (now (types .entry)) (now (prefixes .entry)) (now (values .entry)) (now (bytes .entry)) first last from at (now (buf .entry)) r (now (buf .exit)) ⌝ }
-{
-    write_chunk(
-        &mut buf[at..],
-        ssrc,
-        types,
-        prefixes,
-        values,
-        bytes,
-        first,
-        last,
-        from,
-    )
-}
-
-// Lays the chunks of lists that have a size, from index start on.
+// Lays the chunks of lists that have a size, from index start on, each into the part of buf from its start on. The lists are lent again: so this
+// function is compiled to one that takes them in registers.
 pub fn write_chunks_unchecked(
     buf: &mut [u8],
     start: usize,
@@ -319,15 +298,15 @@ pub fn write_chunks_unchecked(
     let mut at = start;
     let mut from: usize = 0;
     while k < n {
-        let j = i + element_unchecked(counts, k);
-        let laid = write_chunk_at(
-            buf,
-            at,
+        let c = counts[k];
+        let j = i + c as usize;
+        let laid = write_chunk(
+            &mut buf[at..],
             ssrcs[k],
-            types,
-            prefixes,
-            values,
-            bytes,
+            &types[0..],
+            &prefixes[0..],
+            &values[0..],
+            &bytes[0..],
             i,
             j,
             from,

@@ -4,35 +4,47 @@ use utils::error::RtcpWriteError;
 use utils::writer;
 use utils::writer::Written;
 ghost use mathlib.Core.Path.{_≡_};
+ghost use mathlib.Core.Bool.{_&&_, not};
 ghost use Prim.Native.Nat.{_+_, _≤_};
-ghost use lib.ListN.{length};
+ghost use lib.Dec.{eqb};
+ghost use lib.ListN.{length, take, drop};
 ghost use Rattle.rfc3550.specs.Bytes.{store};
 ghost use Rattle.rfc3550.specs.Packet.{priv, item, itemBytes};
 ghost use Rattle.rfc3550.specs.Write.{itemGiven, itemSize, writeItem};
 ghost use Rattle.utils.specs.Error.{writeRefusal, orZero};
 ghost use Rattle.utils.specs.Writer.{writtenOf, sizeRefusal};
-ghost use Rattle.chunk_write.specs.Sizes.{lent, sizeOf, itemLength, ItemFits};
+ghost use Rattle.chunk_write.specs.Sizes.{lent, sizeOf, itemLength, privHead, ItemFits};
+
+// Neither 0 nor PRIV: behind its length such an item has its value alone.
+fn has_value_alone(item_type: u8) -> bool
+    ensures { λ r. ⌜ r ≡ (not (eqb «item_type» 0) && not (eqb «item_type» 8)) ⌝ }
+{
+    if item_type == 0 {
+        return false;
+    }
+    item_type != SdesItem::PRIV
+}
 
 // The size of an item of a type and two lengths; 0 where it is refused.
 pub fn size_of_lengths(item_type: u8, prefix_len: u64, value_len: u64) -> usize
     ensures { λ r. ⌜ r ≡ orZero (sizeOf «item_type» «prefix_len» «value_len») ⌝ }
 {
+    if has_value_alone(item_type) {
+        if 255 < value_len {
+            return 0;
+        }
+        return (2 + value_len) as usize;
+    }
     if item_type == 0 {
         return 0;
     }
-    if item_type == SdesItem::PRIV {
-        if 254 < prefix_len {
-            return 0;
-        }
-        if 254 - prefix_len < value_len {
-            return 0;
-        }
-        return (3 + prefix_len + value_len) as usize;
-    }
-    if 255 < value_len {
+    if 254 < prefix_len {
         return 0;
     }
-    (2 + value_len) as usize
+    if 254 - prefix_len < value_len {
+        return 0;
+    }
+    (3 + prefix_len + value_len) as usize
 }
 
 // Why it is refused; PacketTooLarge where it is not.
@@ -67,21 +79,37 @@ pub fn why_lengths(item_type: u8, prefix_len: u64, value_len: u64) -> RtcpWriteE
     RtcpWriteError::PacketTooLarge
 }
 
+// Lays what stands before the prefix and the value of a PRIV item.
+fn write_priv_head(buf: &mut [u8], prefix_len: usize, text_len: usize)
+    requires { ⌜ («prefix_len» ≤ «text_len») × («text_len» ≤ 254) × (3 ≤ length (now buf)) ⌝ }
+    ensures { λ _. ⌜ now (buf .exit) ≡ store 0 (privHead «prefix_len» «text_len») (now (buf .entry)) ⌝ }
+{
+    buf[0] = SdesItem::PRIV;
+    buf[1] = (1 + text_len) as u8;
+    buf[2] = prefix_len as u8;
+}
+
 fn write_priv(buf: &mut [u8], prefix: &[u8], value: &[u8])
     requires { ⌜ (length (now prefix) + length (now value) ≤ 254) × (3 + length (now prefix) + length (now value) ≤ length (now buf)) ⌝ }
     ensures { λ _. ⌜ now (buf .exit) ≡ store 0 (itemBytes (priv (now (prefix .entry)) (now (value .entry)))) (now (buf .entry)) ⌝ }
 {
     let p = prefix.len();
-    let v = value.len();
-    buf[0] = SdesItem::PRIV;
-    buf[1] = (1 + p + v) as u8;
-    buf[2] = p as u8;
+    write_priv_head(buf, p, p + value.len());
     writer::write_bytes_unchecked(buf, 3, prefix);
     writer::write_bytes_unchecked(buf, 3 + p, value);
 }
 
+// Lays a PRIV item whose prefix and value stand side by side.
+pub fn write_priv_text_unchecked(buf: &mut [u8], prefix_len: usize, text: &[u8])
+    requires { ⌜ («prefix_len» ≤ length (now text)) × (length (now text) ≤ 254) × (3 + length (now text) ≤ length (now buf)) ⌝ }
+    ensures { λ _. ⌜ now (buf .exit) ≡ store 0 (itemBytes (priv (take «prefix_len» (now (text .entry))) (drop «prefix_len» (now (text .entry))))) (now (buf .entry)) ⌝ }
+{
+    write_priv_head(buf, prefix_len, text.len());
+    writer::write_bytes_unchecked(buf, 3, text);
+}
+
 // Lays an item that is not PRIV.
-fn write_other(buf: &mut [u8], item_type: u8, value: &[u8])
+pub fn write_other_unchecked(buf: &mut [u8], item_type: u8, value: &[u8])
     requires { ⌜ (length (now value) ≤ 255) × (2 + length (now value) ≤ length (now buf)) ⌝ }
     ensures { λ _. ⌜ now (buf .exit) ≡ store 0 (itemBytes (item «item_type» (now (value .entry)))) (now (buf .entry)) ⌝ }
 {
@@ -99,7 +127,7 @@ pub fn write_into_unchecked(buf: &mut [u8], item_type: u8, prefix: &[u8], value:
         write_priv(buf, prefix, value);
         return 3 + prefix.len() + value.len();
     }
-    write_other(buf, item_type, value);
+    write_other_unchecked(buf, item_type, value);
     2 + value.len()
 }
 

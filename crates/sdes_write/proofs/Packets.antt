@@ -4,13 +4,13 @@ use mathlib.Core.Path.{_≡_, refl, sym, ap, _∙_}
 use mathlib.Core.Bool.{Bool, true, false, _&&_}
 use mathlib.Core.List.{List, [], _∷_}
 use native.Mathlib.Omega.{arith}
-use borrow.Author.Tests.{le-leb, lt-leb, leb-true, eq-eqb, ne-eqb, eqb-true, not-true, not-false}
+use borrow.Author.Tests.{le-leb, lt-leb, leb-true, leb-false, eq-eqb, ne-eqb, eqb-true, eqb-false, not-true, not-false}
 use lib.ListN.{length, take, drop, getD}
 use lib.Dec.{leb, eqb}
-use Rattle.rfc3550.specs.Answer.{Refusal, Answer, ok, refused, refusal, need, _>>_}
+use Rattle.rfc3550.specs.Answer.{Refusal, Answer, ok, refused, refusal, need, _>>_, pick}
 use Rattle.rfc3550.specs.Bytes.{sum, store}
 use Rattle.rfc3550.specs.Packet.{Content, sdes, contentBytes, layout}
-use Rattle.rfc3550.specs.Write.{Lists, LentItem, lentItems, lentChunks, Given, giveSdes, chunksGiven, packetGiven, paddingBytes, paddingOk, itemsTests, itemsAgree, listsAgree, ownTests, calculateSize}
+use Rattle.rfc3550.specs.Write.{Lists, LentItem, lentItems, lentChunks, Given, giveSdes, chunksGiven, packetGiven, paddingBytes, paddingOk, itemsTests, itemsAgree, listsAgree, ownTests, calculateSize, write}
 use Rattle.rfc3550.proofs.Answer.{need-inv, then-inv, and-inv, ok-injective}
 use Rattle.rfc3550.proofs.Bytes.{length-store}
 use Rattle.utils.specs.Error.{orZero}
@@ -19,11 +19,11 @@ use Rattle.utils.specs.declared.writer.Written.{Written}
 use Rattle.utils.specs.declared.writer.Written.the-variants.{Size}
 use Rattle.utils.proofs.Parts.{lent-again}
 use Rattle.utils.proofs.WriterPackets.{writes, padding-most, sized, size-ok, size-over, size-refused, header-last, header-long, packet-laid}
-use Rattle.utils.proofs.Sizes.{sizes, size-why, write-why, size-came, why-last}
-use Rattle.chunk_write.specs.Sizes.{Listed, itemsRefusal, chunksFrom, chunksEnd, ChunksMeasured}
+use Rattle.utils.proofs.Sizes.{size-why, write-why, size-came, write-room, write-laid, why-last}
+use Rattle.chunk_write.specs.Sizes.{Listed, itemsRefusal, chunksFrom, atMost, chunksEnd, ChunksMeasured}
 use Rattle.chunk_write.specs.Lists.{laidChunks, ChunksFit}
 use Rattle.chunk_write.proofs.Sizes.{Agreed, agreed, chunks-are, refusal-of, EndKnown, end-known, end-none}
-use Rattle.sdes_write.specs.Packets.{lists, EndsFit, SdesFits}
+use Rattle.sdes_write.specs.Packets.{lists, withPadding, EndsFit, SdesFits}
 
 -- ---- 24
 
@@ -134,7 +134,7 @@ module _ (ss cs ts ps vs bs : List ℕ) (k : ℕ) where
         d : Listed ts ps vs
         d = record { prefixes = sym ep; values = sym ev }
 
-        pub size-none : n ≡ 0 → 0 ≡ orZero (calculateSize given)
+        size-none : n ≡ 0 → 0 ≡ orZero (calculateSize given)
         unfolding _>>_
         size-none z = go (listsAgree (lists ss cs ts ps vs bs)) refl
           where
@@ -166,11 +166,20 @@ module _ (ss cs ts ps vs bs : List ℕ) (k : ℕ) where
           unfolding contentBytes
           size-is-of = omega (arith, passed .1)
 
-          pub size-large : 262144 - k < n → 0 ≡ orZero (calculateSize given)
-          size-large f = ap orZero (size-over given (n + k) (passed .0) size-is-of (omega (arith, padding-most u k eu qu)))
+          end-large : 262144 - k < n → 0 ≡ orZero (calculateSize given)
+          end-large f = ap orZero (size-over given (n + k) (passed .0) size-is-of (omega (arith, padding-most u k eu qu)))
 
-          pub size-sum : n ≤ 262144 - k → n + k ≡ orZero (calculateSize given)
-          size-sum f = ap orZero (size-ok given (n + k) (passed .0) size-is-of (omega (arith, padding-most u k eu qu)))
+          end-sum : n ≤ 262144 - k → n + k ≡ orZero (calculateSize given)
+          end-sum f = ap orZero (size-ok given (n + k) (passed .0) size-is-of (omega (arith, padding-most u k eu qu)))
+
+      pub end-is : length ts ≡ length ps → length ts ≡ length vs → length ss ≡ length cs → (n : ℕ) → n ≡ atMost (262144 - k) (chunksEnd 4 (length bs) cs ts ps vs) → withPadding k n ≡ orZero (calculateSize given)
+      end-is ep ev ec n g = rw g (go (eqb (chunksEnd 4 (length bs) cs ts ps vs) 0) refl (leb (chunksEnd 4 (length bs) cs ts ps vs) (262144 - k)) refl)
+        where
+          go : (x : Bool) → eqb (chunksEnd 4 (length bs) cs ts ps vs) 0 ≡ x → (y : Bool) → leb (chunksEnd 4 (length bs) cs ts ps vs) (262144 - k) ≡ y → withPadding k (pick y (chunksEnd 4 (length bs) cs ts ps vs) 0) ≡ orZero (calculateSize given)
+          go true q true f = rw q (size-none ep ev _ refl (eqb-true _ _ q))
+          go true q false f = size-none ep ev _ refl (eqb-true _ _ q)
+          go false q true f = rw q (end-sum ep ev _ refl ec (eqb-false _ _ q) (leb-true _ _ f))
+          go false q false f = end-large ep ev _ refl ec (eqb-false _ _ q) (leb-false _ _ f)
 
   pub size-measured : length ss ≡ length cs → length ts ≡ length ps → length ts ≡ length vs → length ss ≤ 31 → length bs + 3 * length ts + 252 < 2 ^ 64 → ChunksMeasured 4 cs ts ps vs (length bs)
   size-measured ec ep ev h f = record { listed = record { prefixes = sym ep; values = sym ev }; room = omega arith }
@@ -217,6 +226,40 @@ module _ (ss cs ts ps vs bs : List ℕ) (k : ℕ) where
   pub size-fits : (n space : ℕ) → n ≡ orZero (calculateSize given) → (n ≡ 0 → ⊥) → n ≤ space → SdesFits ss cs ts ps vs bs k n space
   size-fits n space e z h = fits-of n space (size-came given n e z) h
 
+  -- ---- from the index after the chunks, or 0
+
+  module _ (n : ℕ) (e : withPadding k n ≡ orZero (calculateSize given)) where
+    pub end-zero : n ≡ 0 → 0 ≡ orZero (calculateSize given)
+    end-zero z = let b : eqb n 0 ≡ true = eq-eqb n 0 z in rw b at e
+
+    pub end-why : n ≡ 0 → (r : Refusal) → r ≡ sizeRefusal (calculateSize given) → refused r ≡ calculateSize given
+    end-why z r q = size-why given 0 (end-zero z) r refl q
+
+    pub end-not-written : n ≡ 0 → (r : Refusal) (l : List ℕ) → r ≡ sizeRefusal (calculateSize given) → (refused r, l) ≡ write given l
+    end-not-written z r l q = write-why given 0 (end-zero z) r l refl q
+
+    module _ (z : n ≡ 0 → ⊥) where
+      pub end-size : n + k ≡ orZero (calculateSize given)
+      end-size = let b : eqb n 0 ≡ false = ne-eqb n 0 z in rw b at e
+
+      some : n + k ≡ 0 → ⊥
+      some y = z (omega arith)
+
+      pub end-within : n + k < 2 ^ 64
+      end-within = let y = sized given (n + k) (size-came given (n + k) end-size some) .most in omega arith
+
+      pub end-sized : ok (n + k) ≡ calculateSize given
+      end-sized = sym (size-came given (n + k) end-size some)
+
+      pub end-room : (space : ℕ) → n + k ≤ space → SdesFits ss cs ts ps vs bs k (n + k) space
+      end-room space h = size-fits (n + k) space end-size some h
+
+      pub end-short : (l : List ℕ) → length l < n + k → (refused (refusal 10 (n + k) 0), l) ≡ write given l
+      end-short l f = write-room given (n + k) end-size some l f
+
+      pub end-laid : (l l₁ : List ℕ) → n + k ≤ length l → l₁ ≡ store 0 (layout (packetGiven given)) l → (ok (n + k), l₁) ≡ write given l
+      end-laid l l₁ f q = write-laid given (n + k) end-size some l l₁ f q
+
   module _ (size : ℕ) (l : List ℕ) (f : SdesFits ss cs ts ps vs bs k size (length l)) where
     pub sdes-chunks : ChunksFit 4 ss cs ts ps vs bs (length l)
     sdes-chunks =
@@ -244,4 +287,4 @@ module _ (count k size : ℕ) (l l₁ : List ℕ) (f : EndsFit count k size (len
   pub ends-laid : (l₂ : List ℕ) → l₂ ≡ store (size - k) (paddingBytes k) l₁ → l₂ ≡ store (size - k) (paddingBytes k) (store 0 (header k count 202 size) l)
   ends-laid l₂ q = q ∙ rw e
 
-pub ruleset sdess = (writes, sizes, not-true, not-false, size-why, write-why, counts-other, counts-sum, counts-agree, lists-listed, why-disagree, size-counts, size-prefixes, size-values, size-many, why-many, size-padding, why-padding, why-items, why-lent, size-none, size-large, size-sum, size-measured, padding-small, size-fits, sdes-chunks, sdes-ends, sdes-laid, ends-padding, ends-laid)
+pub ruleset sdess = (writes, not-true, not-false, counts-other, counts-sum, counts-agree, lists-listed, why-disagree, size-counts, size-prefixes, size-values, size-many, why-many, size-padding, why-padding, why-items, why-lent, end-is, end-zero, end-why, end-not-written, end-size, end-within, end-sized, end-room, end-short, end-laid, size-measured, padding-small, sdes-chunks, sdes-ends, sdes-laid, ends-padding, ends-laid)

@@ -3,11 +3,17 @@ use Prim.Native.Nat.{ℕ, _+_, _-_, _≤_}
 use mathlib.Core.Path.{_≡_}
 use mathlib.Core.List.{List}
 use lib.ListN.{length}
+use lib.Dec.{eqb}
+use Rattle.rfc3550.specs.Answer.{pick}
 use Rattle.rfc3550.specs.Write.{Lists}
 use Rattle.chunk_write.specs.Lists.{laidChunks, ChunksFit}
 
 abbrev pub lists : List ℕ → List ℕ → List ℕ → List ℕ → List ℕ → List ℕ → Lists
 lists ss cs ts ps vs bs = record { ssrcs = ss; counts = cs; types = ts; prefixes = ps; values = vs; bytes = bs }
+
+-- so many bytes and the padding behind them; 0 where there are none
+abbrev pub withPadding : ℕ → ℕ → ℕ
+withPadding k n = pick (eqb n 0) 0 (n + k)
 
 -- a header and padding around the chunks
 pub record EndsFit (count k n space : ℕ) : Type 0 where

@@ -12,9 +12,11 @@ ghost use Rattle.rfc3550.specs.Packet.{layout};
 ghost use Rattle.rfc3550.specs.Write.{Lists, giveSdes, listsAgree, packetGiven, paddingBytes, calculateSize, write};
 ghost use Rattle.utils.specs.Error.{writeRefusal, orZero};
 ghost use Rattle.utils.specs.Writer.{writtenOf, sizeRefusal, header};
-ghost use Rattle.sdes_write.specs.Packets.{lists, EndsFit, SdesFits};
+ghost use Rattle.sdes_write.specs.Packets.{lists, withPadding, EndsFit, SdesFits};
 
 const MAX_COUNT: u8 = 31;
+
+const MAX_PACKET_LEN: usize = 262144;
 
 // The lists of a packet agree.
 fn lists_agree(
@@ -36,8 +38,8 @@ fn lists_agree(
     chunks::items_agree(types, prefixes, values, bytes)
 }
 
-// The size of an SDES; 0 where it is refused.
-pub fn size_of(
+// The index after the chunks of an SDES, its header before them; 0 where it is refused.
+fn end_of(
     ssrcs: &[u32],
     counts: &[u64],
     types: &[u8],
@@ -46,7 +48,7 @@ pub fn size_of(
     bytes: &[u8],
     padding: u64,
 ) -> usize
-    ensures { λ r. ⌜ r ≡ orZero (calculateSize (giveSdes (lists (now (ssrcs .entry)) (now (counts .entry)) (now (types .entry)) (now (prefixes .entry)) (now (values .entry)) (now (bytes .entry))) padding)) ⌝ }
+    ensures { λ r. ⌜ withPadding padding r ≡ orZero (calculateSize (giveSdes (lists (now (ssrcs .entry)) (now (counts .entry)) (now (types .entry)) (now (prefixes .entry)) (now (values .entry)) (now (bytes .entry))) padding)) ⌝ }
 {
     if ssrcs.len() != counts.len() {
         return 0;
@@ -63,18 +65,31 @@ pub fn size_of(
     if !writer::check_padding(padding) {
         return 0;
     }
-    let end = chunks::chunks_end_unchecked(
+    chunks::chunks_end_unchecked(
         Sdes::MIN_PACKET_LEN,
+        MAX_PACKET_LEN - padding as usize,
         counts,
         types,
         prefixes,
         values,
         bytes.len(),
-    );
+    )
+}
+
+// The size of an SDES; 0 where it is refused.
+pub fn size_of(
+    ssrcs: &[u32],
+    counts: &[u64],
+    types: &[u8],
+    prefixes: &[u64],
+    values: &[u64],
+    bytes: &[u8],
+    padding: u64,
+) -> usize
+    ensures { λ r. ⌜ r ≡ orZero (calculateSize (giveSdes (lists (now (ssrcs .entry)) (now (counts .entry)) (now (types .entry)) (now (prefixes .entry)) (now (values .entry)) (now (bytes .entry))) padding)) ⌝ }
+{
+    let end = end_of(ssrcs, counts, types, prefixes, values, bytes, padding);
     if end == 0 {
-        return 0;
-    }
-    if 262144 - (padding as usize) < end {
         return 0;
     }
     end + padding as usize
@@ -120,8 +135,8 @@ pub fn calculate_size(
 ) -> Written
     ensures { λ r. ⌜ writtenOf r ≡ calculateSize (giveSdes (lists (now (ssrcs .entry)) (now (counts .entry)) (now (types .entry)) (now (prefixes .entry)) (now (values .entry)) (now (bytes .entry))) padding) ⌝ }
 {
-    let size = size_of(ssrcs, counts, types, prefixes, values, bytes, padding);
-    if size == 0 {
+    let end = end_of(ssrcs, counts, types, prefixes, values, bytes, padding);
+    if end == 0 {
         return Written::Refused(why_size(
             &ssrcs[0..],
             &counts[0..],
@@ -132,7 +147,7 @@ pub fn calculate_size(
             padding,
         ));
     }
-    Written::Size(size)
+    Written::Size(end + padding as usize)
 }
 
 // Lays the header of a packet of so many chunks and bytes, and its padding, around chunks that are laid.
@@ -185,8 +200,8 @@ pub fn write_into(
 ) -> Written
     ensures { λ r. ⌜ (writtenOf r, now (buf .exit)) ≡ write (giveSdes (lists (now (ssrcs .entry)) (now (counts .entry)) (now (types .entry)) (now (prefixes .entry)) (now (values .entry)) (now (bytes .entry))) padding) (now (buf .entry)) ⌝ }
 {
-    let size = size_of(ssrcs, counts, types, prefixes, values, bytes, padding);
-    if size == 0 {
+    let end = end_of(ssrcs, counts, types, prefixes, values, bytes, padding);
+    if end == 0 {
         return Written::Refused(why_size(
             &ssrcs[0..],
             &counts[0..],
@@ -197,6 +212,7 @@ pub fn write_into(
             padding,
         ));
     }
+    let size = end + padding as usize;
     if buf.len() < size {
         return Written::Refused(RtcpWriteError::OutputTooSmall(size as u64));
     }

@@ -8,5 +8,5 @@ calculate-size-spec {M} =
     (λ c κs. search sdess) (λ c. search sdess) (λ c. search sdess) (λ c. search sdess) (λ c. search sdess) (λ c. search sdess) (λ c. search sdess)
     (λ c. search sdess) (λ c. search sdess) (λ c. search sdess) (λ c. search sdess) (λ c. search sdess) (λ c. search sdess) (λ c. search sdess)
     (λ c. search sdess) (λ c. search sdess) (λ c. search sdess) (λ c. search sdess) (λ c. search sdess) (λ c κs. search sdess) (λ c. search sdess)
-    (λ c. search sdess) in
+    (λ c. search sdess) (λ c. search sdess) in
     tie.close answers

@@ -8,5 +8,5 @@ write-into-spec {M} =
     (λ c κs. search sdess) (λ c. search sdess) (λ c. search sdess) (λ c. search sdess) (λ c. search sdess) (λ c. search sdess) (λ c. search sdess)
     (λ c. search sdess) (λ c. search sdess) (λ c. search sdess) (λ c. search sdess) (λ c. search sdess) (λ c. search sdess) (λ c. search sdess)
     (λ c. search sdess) (λ c. search sdess) (λ c. search sdess) (λ c. search sdess) (λ c. search sdess) (λ c κs. search sdess) (λ c. search sdess)
-    (λ c. search sdess) (λ c κs. search sdess) (λ c. search sdess) (λ c. search sdess) in
+    (λ c. search sdess) (λ c. search sdess) (λ c κs. search sdess) (λ c. search sdess) (λ c. search sdess) in
     tie.close answers

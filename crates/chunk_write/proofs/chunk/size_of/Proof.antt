@@ -5,5 +5,5 @@ use Rattle.chunk_write.proofs.chunk.size_of.Tie as tie
 pub size-of-spec : {M : Type 1} → statement M
 size-of-spec {M} =
     let answers = tie.spec {M = M}
-    (λ c. search chunks) (λ c. search chunks) (λ c. search chunks) (λ c κs. search chunks) (λ c. search chunks) (λ c. search chunks) in
+    (λ c. search chunks) (λ c. search chunks) (λ c. search chunks) (λ c κs. search chunks) (λ c. search chunks) in
     tie.close answers

@@ -5,15 +5,15 @@ use Rattle.chunk_write.proofs.chunks.chunks_end_unchecked.Statement.{st
 use Rattle.chunk_write.proofs.chunks.chunks_end_unchecked.Tie as tie
 
 abbrev Inv-loop : tie.InvT-loop
-Inv-loop start counts types prefixes values bytes-len n k₀ i₀ at₀ left₀ k i at left = Counting start bytes-len counts types prefixes values k i at left
+Inv-loop start limit counts types prefixes values bytes-len n k₀ i₀ at₀ left₀ rest₀ k i at left rest = Counting start bytes-len counts types prefixes values k i at left rest
 
 abbrev μ-loop : tie.MeasureT-loop
-μ-loop start counts types prefixes values bytes-len n k₀ i₀ at₀ left₀ k i at left = length counts - k
+μ-loop start limit counts types prefixes values bytes-len n k₀ i₀ at₀ left₀ rest₀ k i at left rest = length counts - k
 
 pub chunks-end-unchecked-spec : {M : Type 1} → statement M
 chunks-end-unchecked-spec {M} =
     let answers = tie.spec {M = M}
     Inv-loop μ-loop (λ c. search ends) (λ c. search ends) (λ c. search ends) (λ c. search ends) (λ c. search ends) (λ c. search ends)
-    (λ c. search ends) (λ c κs. search ends) (λ c. search ends) (λ c κs. search ends) (λ c. search ends) (λ c. search ends) (λ c. search ends)
+    (λ c κs. search ends) (λ c. search ends) (λ c κs. search ends) (λ c. search ends) (λ c. search ends) (λ c. search ends) (λ c. search ends)
     (λ c. search ends) (λ c. search ends) (λ c. search ends) in
     tie.close answers

@@ -13,15 +13,15 @@ add-result-2 c = let f = priv-fits (c .before .before .before .before .before .b
 returns : tie.Need-returns
 returns c = priv-done (c .before .before .before .before .before .before .before .before .args .item-type) (c .before .before .before .before .before .before .before .before .args .prefix .now) (c .before .before .before .before .before .before .before .before .args .value .now) (c .before .before .before .before .before .before .before .before .args .buf .now) _ (c .before .before .before .before .if1 .taken) (c .before .before .write-priv .ensures)
 
-write-other-requires : tie.Need-write-other-requires
-write-other-requires c κs = plain-fits (c .before .before .before .before .before .args .item-type) (c .before .before .before .before .before .args .prefix .now) (c .before .before .before .before .before .args .value .now) _ (c .before .before .before .before .before .pre) (c .before .if1 .left)
+write-other-unchecked-requires : tie.Need-write-other-unchecked-requires
+write-other-unchecked-requires c κs = plain-fits (c .before .before .before .before .before .args .item-type) (c .before .before .before .before .before .args .prefix .now) (c .before .before .before .before .before .args .value .now) _ (c .before .before .before .before .before .pre) (c .before .if1 .left)
 
 returns-2 : tie.Need-returns-2
-returns-2 c = plain-done (c .before .before .before .before .before .before .before .before .args .item-type) (c .before .before .before .before .before .before .before .before .args .prefix .now) (c .before .before .before .before .before .before .before .before .args .value .now) (c .before .before .before .before .before .before .before .before .args .buf .now) _ (c .before .before .before .before .if1 .left) (c .before .before .write-other .ensures)
+returns-2 c = plain-done (c .before .before .before .before .before .before .before .before .args .item-type) (c .before .before .before .before .before .before .before .before .args .prefix .now) (c .before .before .before .before .before .before .before .before .args .value .now) (c .before .before .before .before .before .before .before .before .args .buf .now) _ (c .before .before .before .before .if1 .left) (c .before .before .write-other-unchecked .ensures)
 
 pub write-into-unchecked-spec : {M : Type 1} → statement M
 write-into-unchecked-spec {M} =
     let answers = tie.spec {M = M}
-    write-priv-requires (λ c. search needs) add-result-2 (λ c. search needs) returns write-other-requires (λ c. search needs) (λ c. search needs)
+    write-priv-requires (λ c. search needs) add-result-2 (λ c. search needs) returns write-other-unchecked-requires (λ c. search needs) (λ c. search needs)
     returns-2 in
     tie.close answers

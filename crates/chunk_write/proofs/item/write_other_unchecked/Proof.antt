@@ -3,8 +3,8 @@ use mathlib.Core.Path.{_∙_}
 use native.Mathlib.Omega.{arith}
 use Rattle.chunk_write.proofs.Items.{items}
 use borrow.Author.Needs.{needs}
-use Rattle.chunk_write.proofs.item.write_other.Statement.{statement}
-use Rattle.chunk_write.proofs.item.write_other.Tie as tie
+use Rattle.chunk_write.proofs.item.write_other_unchecked.Statement.{statement}
+use Rattle.chunk_write.proofs.item.write_other_unchecked.Tie as tie
 
 slice-write-buf-2 : tie.Need-slice-write-buf-2
 slice-write-buf-2 c = simp length-set (omega arith)
@@ -12,8 +12,8 @@ slice-write-buf-2 c = simp length-set (omega arith)
 same-length : tie.Need-same-length
 same-length c = c .before .before .write-bytes-unchecked .kept .0 ∙ simp length-set
 
-pub write-other-spec : {M : Type 1} → statement M
-write-other-spec {M} =
+pub write-other-unchecked-spec : {M : Type 1} → statement M
+write-other-unchecked-spec {M} =
     let answers = tie.spec {M = M}
     (λ c. search needs) (λ c. search needs) slice-write-buf-2 (λ c κs. search needs) same-length (λ c. search items) in
     tie.close answers
