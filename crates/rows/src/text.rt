@@ -1,5 +1,7 @@
 // The words of a row, which one blank sets apart, and what they stand for.
 use super::lists;
+use super::lists::Numbers;
+use super::lists::Words;
 ghost use Prim.Native.Nat.{_<_, _≤_};
 ghost use mathlib.Core.Path.{_≡_};
 ghost use lib.ListN.{length};
@@ -112,41 +114,48 @@ pub fn repeat(out: &mut [u8], from: usize, b: u8, count: u64) -> usize
     at
 }
 
+// The first byte of a word, or 0, and what follows it.
+fn first(word: &[u8]) -> u8 {
+    if 0 < word.len() { word[0] } else { 0 }
+}
+
+fn tail(word: &[u8]) -> &[u8] {
+    if 0 < word.len() {
+        &word[1..]
+    } else {
+        &word[0..]
+    }
+}
+
 // Bytes are digits after an `x`, and `*N` is the last byte N times more.
 fn put_bytes(word: &[u8], out: &mut [u8], from: usize) -> usize
     requires { ⌜ from ≤ length (now out) ⌝ }
     ensures { λ r. ⌜ r ≤ length (now (out .exit)) ⌝ }
 {
-    if word.len() == 0 {
+    let mark = first(word);
+    if mark == b'x' {
+        return unhex(tail(word), out, from);
+    }
+    if mark != b'*' {
         return from;
     }
-    if word[0] == b'x' {
-        return unhex(&word[1..], out, from);
+    if from == 0 {
+        return from;
     }
-    if word[0] == b'*' {
-        if 0 < from {
-            let last = out[from - 1];
-            return repeat(out, from, last, number(&word[1..]));
-        }
-    }
-    from
+    let last = out[from - 1];
+    repeat(out, from, last, number(tail(word)))
 }
 
 // Any other word is a number.
-fn put_number(word: &[u8], numbers: &mut [u64], words: &mut [u32], i: usize) -> usize {
-    if word.len() == 0 {
+fn put_number(word: &[u8], numbers: &mut Numbers, words: &mut Words, i: usize) -> usize {
+    let digit = first(word);
+    if digit < b'0' {
         return i;
     }
-    if b'9' < word[0] {
+    if b'9' < digit {
         return i;
     }
-    if word[0] == b'*' {
-        return i;
-    }
-    if numbers.len() <= i {
-        return i;
-    }
-    if words.len() <= i {
+    if 4095 < i {
         return i;
     }
     let n = number(word);
@@ -156,7 +165,7 @@ fn put_number(word: &[u8], numbers: &mut [u64], words: &mut [u32], i: usize) -> 
 }
 
 // Puts the words of a row into lists, a number into two, and says how many bytes there are.
-pub fn parse(line: &[u8], numbers: &mut [u64], words: &mut [u32], bytes: &mut [u8]) -> usize
+pub fn parse(line: &[u8], numbers: &mut Numbers, words: &mut Words, bytes: &mut [u8]) -> usize
     ensures { λ r. ⌜ Counts r (now (bytes .exit)) ⌝ }
 {
     let mut n = 0;

@@ -227,18 +227,24 @@ fn writer(op: usize, state: &mut [u64; 4], n: &Numbers) {
     }
 }
 
+fn report(op: usize, state: &mut [u64; 4], buf: &mut [u8], n: &Numbers, w: &Words, s: &[u8]) {
+    match op {
+        39 | 44 | 47 | 52 => rr(op, state, buf, n, w, s),
+        40 | 45 | 48 | 53 => sr(op, state, buf, n, w, s),
+        _ => print(b" no such operation"),
+    }
+}
+
 // 37 chunk_write, 38 item_write; rr, sr, sdes, bye, app: from 39 on written, from 47 on added; 44, 45 and 52, 53 reports of records.
 fn run(op: usize, state: &mut [u64; 4], buf: &mut [u8], n: &Numbers, w: &Words, s: &[u8]) {
     match op {
         37 => chunk(buf, n, w, s),
         38 => item(buf, n, s),
-        39 | 44 | 47 | 52 => rr(op, state, buf, n, w, s),
-        40 | 45 | 48 | 53 => sr(op, state, buf, n, w, s),
         41 | 49 => sdes(op, state, buf, n, w, s),
         42 | 50 => bye(op, state, buf, n, w, s),
         43 | 51 => app(op, state, buf, n, w, s),
         46 | 54 | 55 => writer(op, state, n),
-        _ => print(b" no such operation"),
+        _ => report(op, state, buf, n, w, s),
     }
 }
 

@@ -7,7 +7,7 @@ use Rattle.rows.proofs.text.parse.Statement.{statement}
 use Rattle.rows.proofs.text.parse.Tie as tie
 
 abbrev Inv-loop : tie.InvT-loop
-Inv-loop line numbers₀ words₀ bytes₀ n₀ i₀ at₀ numbers words bytes n i at = (n ≤ length bytes) × (at ≤ length line + 1) × (length bytes ≡ length bytes₀) × (length numbers ≡ length numbers₀) × (length words ≡ length words₀)
+Inv-loop line numbers₀ words₀ bytes₀ n₀ i₀ at₀ numbers words bytes n i at = (n ≤ length bytes) × (at ≤ length line + 1) × (length bytes ≡ length bytes₀)
 
 abbrev μ-loop : tie.MeasureT-loop
 μ-loop line numbers₀ words₀ bytes₀ n₀ i₀ at₀ numbers words bytes n i at = length line - at
@@ -19,4 +19,4 @@ pub parse-spec : {M : Type 1} → statement M
 parse-spec = tie.close
     (tie.spec Inv-loop μ-loop (λ c. search needs) (λ c κs. search needs) (λ c. search needs) (λ c. search needs) (λ c. search needs)
     (λ c κs. search needs) (λ c. search needs) (λ c. search needs) (λ c. search needs) (λ c κs. search needs) (λ c. search needs)
-    (λ c. search needs) (λ c. search needs) (λ c. search needs) (λ c. search needs) (λ c. search needs) returns)
+    (λ c. search needs) (λ c. search needs) (λ c. search needs) returns)
