@@ -10,7 +10,7 @@ use Rattle.rfc3550.specs.Answer.{Refusal, ok, refused, mapOk}
 use Rattle.rfc3550.specs.Bytes.{val}
 use Rattle.rfc3550.specs.Packet.{Content, app, Packet}
 use Rattle.rfc3550.specs.Read.{APP, lowIn, checkPacket, readContent, readAs}
-use Rattle.rfc3550.proofs.Answer.{ok-injective}
+use Rattle.rfc3550.proofs.Answers.{ok-injective}
 use Rattle.utils.specs.Error.{refusalIn, valueOr, orZero}
 use Rattle.utils.proofs.Headers.{Accepted}
 use Rattle.utils.proofs.Values.{value-is, none-is}

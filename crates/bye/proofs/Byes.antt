@@ -15,7 +15,7 @@ use Rattle.rfc3550.specs.Answer.{Refusal, refusal, Answer, ok, refused, refuse,
 use Rattle.rfc3550.specs.Bytes.{val, get}
 use Rattle.rfc3550.specs.Packet.{Leaving, no-reason, reason, bye, Content, Packet}
 use Rattle.rfc3550.specs.Read.{BYE, lowIn, checkPacket, readLeaving, readContent, readAs, readSourceAt}
-use Rattle.rfc3550.proofs.Answer.{refused≢ok}
+use Rattle.rfc3550.proofs.Answers.{refused≢ok}
 use Rattle.rfc3550.proofs.Bytes.{length-get, sum-replicate}
 use Rattle.utils.specs.Error.{refusalIn, valueOr, orZero}
 use Rattle.utils.proofs.Headers.{Accepted}

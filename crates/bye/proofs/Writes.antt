@@ -13,7 +13,7 @@ use Rattle.rfc3550.specs.Answer.{Refusal, refusal, ok, refused, need, _>>_}
 use Rattle.rfc3550.specs.Bytes.{be, put, store}
 use Rattle.rfc3550.specs.Packet.{bye, contentBytes, layout, leavingBytes}
 use Rattle.rfc3550.specs.Write.{Given, giveBye, write, leavingOf, packetGiven, paddingBytes, paddingOk, ownTests, calculateSize}
-use Rattle.rfc3550.proofs.Answer.{need-inv, need-ok}
+use Rattle.rfc3550.proofs.Answers.{need-inv, need-ok}
 use Rattle.rfc3550.proofs.Bytes.{length-be, length-store}
 use Rattle.utils.specs.Error.{orZero}
 use Rattle.utils.specs.Writer.{sizeRefusal, header}

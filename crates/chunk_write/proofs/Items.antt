@@ -1,27 +1,23 @@
 -- The cases of an item's size and bytes, each from what the code has tested or called.
-use Prim.Native.Nat.{ℕ, zero, suc, _+_, _-_, _*_, _/_, _%_, _<_, _≤_, _^_}
+use Prim.Native.Nat.{ℕ, suc, _+_, _-_, _<_, _≤_}
 use mathlib.Core.Path.{_≡_, refl, sym, ap, _∙_}
 use mathlib.Core.Bool.{Bool, true, false, _||_, _&&_, not}
-use mathlib.Core.Logic.{_⊎_, inl, inr}
 use mathlib.Core.List.{List, [], _∷_, _++_}
 use native.Mathlib.Omega.{arith}
 use borrow.Author.Tests.{le-leb, lt-leb, leb-true, eq-eqb, ne-eqb, eqb-true, eqb-false, not-true, not-false}
-use lib.ListN.{length, take, drop, set, length-append, length-set, take-append-drop}
+use lib.ListN.{length, take, drop, set, length-append, take-append-drop}
 use lib.Seq.{length-take-le}
 use lib.Dec.{leb, eqb}
 use Rattle.rfc3550.specs.Answer.{Refusal, Answer, ok, refused, refusal, need, _>>_, _>>=_, pick}
 use Rattle.rfc3550.specs.Bytes.{store}
 use Rattle.rfc3550.specs.Packet.{item, priv, itemBytes}
-use Rattle.rfc3550.specs.Write.{LentItem, itemGiven, itemTests, itemSize, room, written, writeItem}
-use Rattle.rfc3550.proofs.Answer.{need-inv, and-inv, ok-injective}
-use Rattle.rfc3550.proofs.Bytes.{length-store}
-use Rattle.utils.specs.Error.{writeRefusal, orZero}
-use Rattle.utils.specs.Writer.{writtenOf, sizeRefusal}
-use Rattle.utils.specs.declared.error.RtcpWriteError.{RtcpWriteError}
-use Rattle.utils.specs.declared.writer.Written.{Written}
-use Rattle.utils.specs.declared.writer.Written.the-variants.{Size, Refused}
+use Rattle.rfc3550.specs.Write.{itemGiven, itemTests, itemSize, room, written, writeItem}
+use Rattle.rfc3550.proofs.Answers.{need-inv, and-inv, ok-injective}
+use Rattle.utils.specs.Error.{orZero}
+use Rattle.utils.specs.Writer.{sizeRefusal}
+use Rattle.utils.specs.declared.writer.Written.the-variants.{Size}
 use Rattle.utils.proofs.WriterCases.{writer}
-use Rattle.utils.proofs.WriterStores.{store-puts, store-store, store-part}
+use Rattle.utils.proofs.WriterStores.{store-puts, store-store}
 use Rattle.utils.proofs.Parts.{lent-again}
 use Rattle.utils.proofs.Values.{number-came}
 use Rattle.utils.proofs.WriterPackets.{short-written, done-written}

@@ -1,20 +1,20 @@
 -- The cases of items and chunks laid one after the other, and of a lone chunk, each from what the code has tested or called.
-use Prim.Native.Nat.{ℕ, zero, suc, _+_, _-_, _*_, _/_, _%_, _<_, _≤_, _^_}
+use Prim.Native.Nat.{ℕ, zero, suc, _+_, _-_, _*_, _%_, _<_, _≤_, _^_}
 use mathlib.Core.Path.{_≡_, refl, sym, ap, _∙_}
-use mathlib.Core.Bool.{Bool, true, false, _&&_}
+use mathlib.Core.Bool.{Bool, true, false}
 use mathlib.Core.List.{List, [], _∷_, _++_, append-nil}
 use native.Mathlib.Nat.{add-zero, add-assoc, zero-add, add-sub-cancel-left}
 use native.Mathlib.Numerals.{add-one}
 use native.Mathlib.Omega.{arith}
-use borrow.Author.Tests.{le-leb, lt-leb, eq-eqb, ne-eqb, eqb-true, eqb-false, not-true, not-false}
+use borrow.Author.Tests.{eq-eqb, ne-eqb, eqb-true, eqb-false}
 use lib.ListN.{length, take, drop, getD, replicate, length-append, length-take, length-drop, length-replicate, drop-of-length-le}
 use lib.Seq.{drop-cons, drop-drop, getD-drop, getD-take, take-all, take-take, length-take-le}
 use lib.Dec.{leb, eqb}
 use Rattle.rfc3550.specs.Answer.{Refusal, Answer, ok, refused, refusal, need, _>>_, _>>=_, pick}
 use Rattle.rfc3550.specs.Bytes.{be, sum, store}
-use Rattle.rfc3550.specs.Packet.{Item, item, priv, itemBytes, itemsBytes, Chunk, chunkBytes, chunksBytes, fill}
-use Rattle.rfc3550.specs.Write.{LentItem, LentChunk, lentItems, lentChunks, itemGiven, itemsGiven, chunkGiven, chunksGiven, itemTests, itemsTests, itemsAgree, itemSize, chunkSize, writeChunk}
-use Rattle.rfc3550.proofs.Answer.{need-inv, then-inv, ok-injective}
+use Rattle.rfc3550.specs.Packet.{item, priv, itemBytes, itemsBytes, chunkBytes, chunksBytes}
+use Rattle.rfc3550.specs.Write.{LentItem, lentItems, lentChunks, itemGiven, itemsGiven, chunkGiven, chunksGiven, itemTests, itemsTests, itemsAgree, itemSize, chunkSize, writeChunk}
+use Rattle.rfc3550.proofs.Answers.{need-inv, then-inv, ok-injective}
 use Rattle.rfc3550.proofs.Bytes.{length-be, length-store}
 use Rattle.utils.specs.Error.{orZero}
 use Rattle.utils.specs.Writer.{sizeRefusal}
@@ -23,11 +23,11 @@ use Rattle.utils.proofs.Parts.{lent-again, drop-take}
 use Rattle.utils.proofs.Values.{number-came}
 use Rattle.utils.proofs.WriterStores.{store-nil, store-store, store-part}
 use Rattle.utils.proofs.WriterPackets.{short-written, done-written, parts-laid}
-use Rattle.chunk_write.specs.Sizes.{lent, itemLength, sizeOf, ItemFits, Listed, part, itemsRefusal, sizesOf, closed, chunksFrom, atMost, chunksEnd, ChunksMeasured}
+use Rattle.chunk_write.specs.Sizes.{lent, itemLength, sizeOf, Listed, part, itemsRefusal, closed, chunksFrom, atMost, chunksEnd, ChunksMeasured}
 use Rattle.chunk_write.specs.Lists.{Within, PartFits, lentAt, PartLaid, laidItems, ItemsFit, ItemsLaid, laidChunk, ChunkFits, ChunkLaid, ChunkFitsAt, ChunkLaidAt, laidChunks, ChunksFit}
 use Rattle.chunk_write.specs.declared.chunks.LaidEnd.{LaidEnd}
 use Rattle.chunk_write.proofs.Items.{SizeKnown, size-known, item-is, length-item, size-why-of, not-written}
-use Rattle.chunk_write.proofs.Sizes.{ends, sum-next, sum-split, agreed, items-take, items-drop, tests-split, length-chunk-of, chunks-are, refusal-of, EndKnown, end-known, end-none}
+use Rattle.chunk_write.proofs.Sizes.{ends, sum-next, sum-split, agreed, items-take, items-drop, tests-split, length-chunk-of, chunks-are, refusal-of, end-known, end-none}
 
 -- ---- one item among others
 

@@ -1,26 +1,26 @@
 -- The cases of the lists' sums, of the sizes of items and chunks in numbers, and of why there is none; and that the numbers are the definition's.
-use Prim.Native.Nat.{ℕ, zero, suc, _+_, _-_, _*_, _/_, _%_, _<_, _≤_, _^_}
+use Prim.Native.Nat.{ℕ, zero, suc, _+_, _-_, _*_, _%_, _<_, _≤_, _^_}
 use mathlib.Core.Path.{_≡_, refl, sym, ap, _∙_}
 use mathlib.Core.Bool.{Bool, true, false, _&&_}
 use mathlib.Core.List.{List, [], _∷_, _++_}
-use native.Mathlib.Nat.{sub-zero, add-zero, add-assoc, add-sub-cancel-left}
+use native.Mathlib.Nat.{sub-zero, add-zero, add-sub-cancel-left}
 use native.Mathlib.Numerals.{add-one}
 use native.Mathlib.Omega.{arith}
 use borrow.Author.Tests.{le-leb, lt-leb, leb-true, leb-false, eq-eqb, ne-eqb, eqb-true, eqb-false, lt-ltb, le-ltb, ltb-true, ltb-false, not-true, not-false}
 use lib.ListN.{length, take, drop, getD, length-append, length-take, length-drop, length-replicate, drop-of-length-le, take-append-drop}
 use lib.Seq.{drop-cons, drop-drop, getD-drop, length-take-le}
 use lib.Dec.{leb, ltb, eqb}
-use Rattle.rfc3550.specs.Answer.{Refusal, Answer, ok, refused, refusal, need, _>>_, _>>=_, mapOk, pick}
-use Rattle.rfc3550.specs.Bytes.{be, sum}
+use Rattle.rfc3550.specs.Answer.{Refusal, Answer, ok, refused, refusal, _>>_, _>>=_, mapOk, pick}
+use Rattle.rfc3550.specs.Bytes.{sum}
 use Rattle.rfc3550.specs.Packet.{itemBytes, itemsBytes, chunkBytes, chunksBytes}
-use Rattle.rfc3550.specs.Write.{LentItem, LentChunk, lentItems, lentChunks, itemGiven, itemsGiven, chunkGiven, chunksGiven, itemTests, itemsTests, itemsAgree, itemSize}
-use Rattle.rfc3550.proofs.Answer.{then-inv, then-assoc, and-inv, bind-elim, ok-injective}
+use Rattle.rfc3550.specs.Write.{LentItem, lentItems, lentChunks, itemGiven, itemsGiven, chunkGiven, chunksGiven, itemTests, itemsTests, itemsAgree, itemSize}
+use Rattle.rfc3550.proofs.Answers.{then-assoc, and-inv, bind-elim, ok-injective}
 use Rattle.rfc3550.proofs.Bytes.{length-be}
 use Rattle.utils.specs.Error.{orZero}
 use Rattle.utils.specs.Writer.{sizeRefusal}
 use Rattle.utils.proofs.Values.{number-came}
 use Rattle.utils.proofs.WriterCases.{writer}
-use Rattle.chunk_write.specs.Sizes.{lent, itemLength, sizeOf, Listed, part, itemsRefusal, sizesOf, closed, chunksFrom, atMost, nowhere, itemsEnd, chunksEnd, ItemsMeasured, ItemsEnded, ChunksMeasured}
+use Rattle.chunk_write.specs.Sizes.{lent, sizeOf, Listed, part, itemsRefusal, sizesOf, closed, chunksFrom, atMost, nowhere, itemsEnd, chunksEnd, ItemsMeasured, ItemsEnded, ChunksMeasured}
 use Rattle.chunk_write.specs.Lists.{laidItems, laidChunks}
 use Rattle.chunk_write.specs.declared.chunks.ItemsEnd.{ItemsEnd}
 use Rattle.chunk_write.proofs.Items.{size-known, size-most, item-is}

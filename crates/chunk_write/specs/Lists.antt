@@ -6,7 +6,7 @@ use lib.ListN.{length, take, drop}
 use Rattle.rfc3550.specs.Answer.{ok}
 use Rattle.rfc3550.specs.Bytes.{sum, store}
 use Rattle.rfc3550.specs.Packet.{itemBytes, itemsBytes, chunkBytes, chunksBytes}
-use Rattle.rfc3550.specs.Write.{LentItem, LentChunk, lentItems, lentChunks, itemGiven, itemsGiven, chunkGiven, chunksGiven, itemsTests}
+use Rattle.rfc3550.specs.Write.{LentItem, lentItems, lentChunks, itemGiven, itemsGiven, chunkGiven, chunksGiven, itemsTests}
 use Rattle.chunk_write.specs.Sizes.{lent, itemLength, sizeOf, Listed, part, closed}
 use Rattle.chunk_write.specs.declared.chunks.LaidEnd.{LaidEnd}
 

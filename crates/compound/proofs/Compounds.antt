@@ -15,8 +15,8 @@ use Rattle.rfc3550.specs.Packet.{Packet as Read, hasCname, some}
 use Rattle.rfc3550.specs.Read.{kindOf, versionIn, padded, typeIn, lowIn, stated, readAs}
 use Rattle.rfc3550.specs.Compound.{readPacket, readPackets, readCompound}
 use Rattle.rfc3550.specs.Walk.{openWalk, step}
-use Rattle.rfc3550.proofs.Answer.{need-inv, ok-injective, refused≢ok, mapOk-inv, or-assoc}
-use Rattle.rfc3550.proofs.Compound.{packet-span, packets-turns}
+use Rattle.rfc3550.proofs.Answers.{need-inv, ok-injective, mapOk-inv, or-assoc}
+use Rattle.rfc3550.proofs.Compounds.{packet-span, packets-turns}
 use Rattle.utils.specs.Error.{refusalIn, valueOr, orZero}
 use Rattle.utils.specs.declared.error.RtcpParseError.{RtcpParseError}
 use Rattle.utils.proofs.Reading.{mapOk-refused}

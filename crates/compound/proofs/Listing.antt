@@ -2,20 +2,19 @@
 use borrow.Author.Needs.{needs}
 use mathlib.Core.Path.{_≡_, refl, sym, ap, _∙_, subst}
 use mathlib.Core.List.{List, [], _∷_, _++_}
-use Prim.Native.Nat.{ℕ, zero, suc, _+_, _-_, _*_, _<_, _≤_, _^_}
-use native.Mathlib.Nat.{add-zero, add-assoc}
+use Prim.Native.Nat.{ℕ, suc, _+_, _-_, _*_, _<_, _≤_, _^_}
 use native.Mathlib.Omega.{arith}
 use lib.ListN.{length, take, drop, set, getD, length-append, length-drop}
 use lib.Seq.{drop-drop, drop-append-seam}
-use Rattle.rfc3550.specs.Answer.{Refusal, refusal, Answer, ok, refused, mapOk}
-use Rattle.rfc3550.specs.Bytes.{Bytes, store}
-use Rattle.rfc3550.specs.Packet.{Packet as Read, type, layout, layouts, Valid, All, Compound as Meets}
+use Rattle.rfc3550.specs.Answer.{Refusal, refusal, ok, refused, mapOk}
+use Rattle.rfc3550.specs.Bytes.{store}
+use Rattle.rfc3550.specs.Packet.{Packet as Read, type, layout, layouts, Valid, All}
 use Rattle.rfc3550.specs.Read.{typeIn, stated}
 use Rattle.rfc3550.specs.Compound.{readCompound}
-use Rattle.rfc3550.proofs.Answer.{mapOk-inv}
+use Rattle.rfc3550.proofs.Answers.{mapOk-inv}
 use Rattle.rfc3550.proofs.Bytes.{length-store, bytes-each}
-use Rattle.rfc3550.proofs.Packet.{length-layout}
-use Rattle.rfc3550.proofs.Compound.{follow-stated, compound-sound}
+use Rattle.rfc3550.proofs.Packets.{length-layout}
+use Rattle.rfc3550.proofs.Compounds.{follow-stated, compound-sound}
 use Rattle.utils.specs.Error.{refusalIn}
 use Rattle.utils.specs.List.{layList}
 use Rattle.utils.specs.declared.error.RtcpParseError.{RtcpParseError}

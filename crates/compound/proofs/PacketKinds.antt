@@ -14,7 +14,6 @@ use Rattle.rfc3550.specs.Read.{Kind as ReadKind, SR, RR, SDES, BYE, APP, UNKNOW
 use Rattle.utils.proofs.Parts.{split}
 use Rattle.compound.specs.Kind.{kindIn}
 use Rattle.compound.specs.declared.kind.Kind.{Kind}
-use Rattle.compound.specs.declared.kind.Kind.the-variants as kind
 
 -- ---- by the type
 

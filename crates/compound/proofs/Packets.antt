@@ -10,7 +10,7 @@ use borrow.Author.Tests.{ne-eqb}
 use Rattle.rfc3550.specs.Answer.{Refusal, Answer, ok, refused, mapOk, pick}
 use Rattle.rfc3550.specs.Packet.{Content, report, sdes, bye, app, unknown, receiver, sender, Packet as Read, hasCname}
 use Rattle.rfc3550.specs.Read.{Kind, SR, RR, SDES, BYE, APP, UNKNOWN, kindFor, kindOf, typeIn, lowIn, readAs}
-use Rattle.rfc3550.proofs.Packet.{readAs-kind}
+use Rattle.rfc3550.proofs.Packets.{readAs-kind}
 use Rattle.utils.specs.Error.{refusalIn, valueOr}
 use Rattle.report.proofs.Reports.{body-some}
 use Rattle.report.specs.Report.{senderView, receiverView, reportBody}

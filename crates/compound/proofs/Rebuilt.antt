@@ -7,15 +7,15 @@ use lib.ListN.{length, take, drop, length-append}
 use lib.Dec.{eqb}
 use Rattle.rfc3550.specs.Answer.{Answer, ok, refused, _>>_, _>>=_, mapOk}
 use Rattle.rfc3550.specs.Bytes.{Bytes}
-use Rattle.rfc3550.specs.Packet.{Block, Item, item, priv, itemType, itemsBytes, Chunk, chunkBytes, no-reason, reason, Content, report, receiver, sender, sdes, bye, app, unknown, Packet as Read}
+use Rattle.rfc3550.specs.Packet.{Block, Item, itemsBytes, Chunk, chunkBytes, no-reason, reason, Content, report, receiver, sender, sdes, bye, app, unknown, Packet as Read}
 use Rattle.rfc3550.specs.Packet.{chunksOf}
-use Rattle.rfc3550.specs.Read.{Kind, SR, RR, SDES, BYE, kindFor, stated, nth, blocksOf, sourcesOf, readAs, readBlockAt, readSourceAt, readItem, readPrefix, readChunk}
+use Rattle.rfc3550.specs.Read.{Kind, SR, RR, SDES, BYE, kindFor, stated, nth, blocksOf, sourcesOf, readAs, readBlockAt, readSourceAt, readChunk}
 use Rattle.rfc3550.specs.Compound.{readPacket, readCompound}
 use Rattle.rfc3550.specs.Walk.{SdesWalk, sdesStep, itemStep, step, gave, walked}
-use Rattle.rfc3550.proofs.Answer.{need-inv, bind-elim, ok-injective, mapOk-inv}
+use Rattle.rfc3550.proofs.Answers.{need-inv, bind-elim, ok-injective, mapOk-inv}
 use Rattle.rfc3550.proofs.Bytes.{bytes-take, bytes-drop}
-use Rattle.rfc3550.proofs.Packet.{readAs-kind}
-use Rattle.rfc3550.proofs.Walk.{walk-gives, sdes-walk-gives, item-walk-gives}
+use Rattle.rfc3550.proofs.Packets.{readAs-kind}
+use Rattle.rfc3550.proofs.Walks.{walk-gives, sdes-walk-gives, item-walk-gives}
 use Rattle.utils.specs.Parts.{partIn}
 use Rattle.report.specs.Block.{blockView}
 use Rattle.report.proofs.Reports.{receiver-extension, receiver-padding, sender-extension, sender-padding}

@@ -2,13 +2,13 @@
 use Prim.Native.Nat.{ℕ, _+_}
 use mathlib.Core.Path.{_≡_, refl, sym, ap, _∙_}
 use mathlib.Core.List.{List, [], _∷_, _++_, append-assoc, map}
-use lib.ListN.{length, take, drop, length-append}
-use Rattle.rfc3550.specs.Answer.{Answer, ok, mapOk}
+use lib.ListN.{length, take, length-append}
+use Rattle.rfc3550.specs.Answer.{ok, mapOk}
 use Rattle.rfc3550.specs.Bytes.{Bytes}
 use Rattle.rfc3550.specs.Packet.{Packet as Read, type, layout, layouts}
 use Rattle.rfc3550.specs.Compound.{readCompound}
-use Rattle.rfc3550.proofs.Answer.{mapOk-inv}
-use Rattle.rfc3550.proofs.Compound.{compound-sound}
+use Rattle.rfc3550.proofs.Answers.{mapOk-inv}
+use Rattle.rfc3550.proofs.Compounds.{compound-sound}
 use Rattle.rfc3550.proofs.Places.{at-place}
 use Rattle.utils.specs.List.{listedOf, layList}
 use Rattle.utils.specs.declared.list.Listed.{Listed}

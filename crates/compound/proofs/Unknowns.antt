@@ -10,7 +10,7 @@ use lib.Seq.{length-take-le}
 use Rattle.rfc3550.specs.Answer.{Refusal, Answer, ok, refused, _>>=_, mapOk}
 use Rattle.rfc3550.specs.Packet.{Content, unknown, Packet}
 use Rattle.rfc3550.specs.Read.{UNKNOWN, ofKind, lowIn, typeIn, checkHeader, checkPacket, readContent, readAs}
-use Rattle.rfc3550.proofs.Answer.{ok-injective}
+use Rattle.rfc3550.proofs.Answers.{ok-injective}
 use Rattle.utils.specs.Error.{refusalIn, valueOr, orZero}
 use Rattle.utils.proofs.Headers.{unnamed}
 use Rattle.utils.proofs.Reading.{packetOf, contentIn, got, none-at-header, body-accepted, body-content, parse-none, parse-read, padding-here}

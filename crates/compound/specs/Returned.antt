@@ -5,7 +5,7 @@ use mathlib.Core.List.{List}
 use lib.ListN.{take, drop}
 use Rattle.rfc3550.specs.Answer.{mapOk}
 use Rattle.rfc3550.specs.Packet.{Packet as Read}
-use Rattle.rfc3550.specs.Walk.{step, moved}
+use Rattle.rfc3550.specs.Walk.{step, walkAfter}
 use Rattle.rfc3550.specs.Returned.{Stepper}
 use Rattle.compound.specs.Packet.{packetView}
 use Rattle.compound.specs.Compound.{stepView, steppedOf}
@@ -16,7 +16,7 @@ use Rattle.compound.specs.declared.compound.Stepped.{Stepped}
 
 -- the ensures of `Walk::step` on the bytes s, and the walk that is left
 abbrev pub packetSteps : List ℕ → Stepper
-packetSteps s = record { H = Walk; R = Stepped; Meets = λ self r. steppedOf r ≡ mapOk stepView (step s (self .at)); next = λ self r. moved self (steppedOf r) }
+packetSteps s = record { H = Walk; R = Stepped; Meets = λ self r. steppedOf r ≡ mapOk stepView (step s (self .at)); next = λ self r. walkAfter self (steppedOf r) }
 
 -- the packet stands from the walk's place to the next
 abbrev pub packetSeen : List ℕ → Walk → Packet × Walk → Packet × Read

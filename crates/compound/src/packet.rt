@@ -19,7 +19,7 @@ ghost use lib.Dec.{eqb};
 ghost use Rattle.rfc3550.specs.Answer.{mapOk, pick};
 ghost use Rattle.rfc3550.specs.Read.{kindOf, typeIn, lowIn, readAs};
 ghost use Rattle.utils.specs.Error.{parseRefusal, refusalIn, valueOr};
-ghost use Rattle.report.specs.Report.{senderOf, receiverOf};
+ghost use Rattle.report.specs.Report.{parsedSenderOf, parsedReceiverOf};
 ghost use Rattle.sdes.specs.Sdes.{parsedSdesOf};
 ghost use Rattle.bye.specs.Bye.{parsedOf as byeOf};
 ghost use Rattle.app.specs.App.{parsedOf as appOf};
@@ -53,7 +53,7 @@ impl ParsedPacket {
 }
 
 fn of_sr(p: ParsedSenderReport) -> ParsedPacket
-    ensures { λ r. ⌜ parsedOf r ≡ mapOk srPacket (senderOf p) ⌝ }
+    ensures { λ r. ⌜ parsedOf r ≡ mapOk srPacket (parsedSenderOf p) ⌝ }
 {
     match p {
         ParsedSenderReport::Report(r) => ParsedPacket::Packet(Packet::Sr(r)),
@@ -62,7 +62,7 @@ fn of_sr(p: ParsedSenderReport) -> ParsedPacket
 }
 
 fn of_rr(p: ParsedReceiverReport) -> ParsedPacket
-    ensures { λ r. ⌜ parsedOf r ≡ mapOk rrPacket (receiverOf p) ⌝ }
+    ensures { λ r. ⌜ parsedOf r ≡ mapOk rrPacket (parsedReceiverOf p) ⌝ }
 {
     match p {
         ParsedReceiverReport::Report(r) => ParsedPacket::Packet(Packet::Rr(r)),

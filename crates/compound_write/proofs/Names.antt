@@ -15,8 +15,8 @@ use Rattle.rfc3550.specs.Answer.{pick}
 use Rattle.rfc3550.specs.Bytes.{sum}
 use Rattle.rfc3550.specs.Packet.{Item, item, priv, itemType, itemRest, isCname, some, chunkHasCname}
 use Rattle.rfc3550.specs.Write.{Lists, LentItem, lentItems, lentChunks, itemGiven, itemsGiven, chunksGiven, listsAgree, itemsAgree, giveSdes}
-use Rattle.rfc3550.specs.Writer.{names}
-use Rattle.rfc3550.proofs.Answer.{and-inv, or-assoc}
+use Rattle.rfc3550.specs.Writer.{givesCname}
+use Rattle.rfc3550.proofs.Answers.{and-inv, or-assoc}
 use Rattle.compound_write.specs.Names.{lentCname}
 
 -- ---- items
@@ -91,7 +91,7 @@ agreed l e =
     let d = and-inv (eqb (length (l .types)) (length (l .prefixes))) (eqb (length (l .types)) (length (l .values))) (c .0) in
     record { chunks = eqb-true _ _ (b .0); items = eqb-true _ _ (b .1); prefixes = eqb-true _ _ (d .0); values = eqb-true _ _ (d .1); bytes = eqb-true _ _ (c .1) }
 
-pub names-lent : (l : Lists) (k : ℕ) → listsAgree l ≡ true → names (giveSdes l k) ≡ lentCname (l .types) (l .values)
+pub names-lent : (l : Lists) (k : ℕ) → listsAgree l ≡ true → givesCname (giveSdes l k) ≡ lentCname (l .types) (l .values)
 names-lent l k e =
     let a = agreed l e in
     let n = length-lent (l .types) (l .prefixes) (l .values) (l .bytes) in

@@ -5,7 +5,7 @@ use Rattle.rfc3550.specs.Answer.{Answer}
 use Rattle.rfc3550.specs.Writer.{fresh}
 use Rattle.rfc3550.specs.Writer as rfc
 use Rattle.rfc3550.specs.Book.{empty}
-use Rattle.rfc3550.specs.Claim.{answers, fed, booked, compounds}
+use Rattle.rfc3550.specs.Calls.{answers, bookInput, booked, compounds}
 use Rattle.rfc3550.specs.Returned.{Called, events}
 use Rattle.rfc3550.proofs.Returned as law
 use Rattle.compound_write.specs.Writer.{writerOf, callOf}
@@ -29,5 +29,5 @@ calls w (closed r) m = m
 -- a buffer as "Calls" says: each answer is the book's, after it the datagram so far is the book's packets laid end to end, and once closed it is
 -- accepted and read as exactly these
 pub returned : (w : Writer) → writerOf w ≡ fresh → (rs : List Result) → Called writers rs w []
-    → answers compounds (events writers rs w) [] ≡ booked compounds (map (fed compounds) (events writers rs w)) empty
+    → answers compounds (events writers rs w) [] ≡ booked compounds (map (bookInput compounds) (events writers rs w)) empty
 returned w e rs m = law.returned writers calls w e rs m

@@ -12,8 +12,8 @@ use Rattle.rfc3550.specs.Answer.{Refusal, refusal, Answer, ok, refused, need, _
 use Rattle.rfc3550.specs.Bytes.{store}
 use Rattle.rfc3550.specs.Packet.{Reporter, type, layout, isReport}
 use Rattle.rfc3550.specs.Write.{BlockLists, Given, giveReport, giveSdes, giveBye, giveApp, packetGiven, contentGiven, paddingGiven, sizeGiven, listsAgree, tests, ownTests, calculateSize}
-use Rattle.rfc3550.specs.Writer.{Writer, add, close, names, addTests, closeTests, shut, call}
-use Rattle.rfc3550.proofs.Answer.{true≢false, and-inv, need-inv, refused-injective, refused≢ok}
+use Rattle.rfc3550.specs.Writer.{Writer, add, close, givesCname, addTests, closeTests, afterClose, call}
+use Rattle.rfc3550.proofs.Answers.{true≢false, and-inv, need-inv, refused-injective, refused≢ok}
 use Rattle.utils.specs.Error.{writeRefusal, orZero}
 use Rattle.utils.specs.Writer.{sizeRefusal}
 use Rattle.utils.proofs.WriterStores.{store-part}
@@ -26,9 +26,9 @@ use Rattle.sdes_write.proofs.Packets.{size-fits}
 use Rattle.utils.proofs.Parts.{lent-again}
 use Rattle.utils.proofs.WriterPackets.{sized}
 use Rattle.utils.proofs.Sizes.{size-came}
-use Rattle.rfc3550.proofs.Packet.{length-layout}
+use Rattle.rfc3550.proofs.Packets.{length-layout}
 use Rattle.utils.proofs.Injective.{writeRefusal-injective}
-use Rattle.compound_write.specs.Writer.{writerOf, outcomeOf, admits, whyNot, moved}
+use Rattle.compound_write.specs.Writer.{writerOf, outcomeOf, admits, whyNot, advanced}
 use Rattle.compound_write.specs.declared.writer.Writer as code
 use Rattle.compound_write.specs.declared.writer.Outcome.{Outcome}
 use Rattle.compound_write.specs.declared.writer.Outcome.the-variants as outcome
@@ -206,7 +206,7 @@ module _ (g : Given) (w : Writer) (l : List ℕ) (t size : ℕ) (b : Bool) (know
       rw (q, known) (tested (w .len) size (sizeGiven g) (length l) own some-bytes (w .closed) (w .padded) (ltb 0 (w .len) || isReport t) (tests g) is (why ∙ ap (λ (x : Given). sizeRefusal (calculateSize x)) same) (sym told ∙ stops)) in
       rw z (ap (λ (x : Answer (Unit {0}) × Writer). (x .0, x .1, l)) h)
 
-  pub add-done : (at : ℕ) (named : Bool) (o : Answer (Unit {0})) (w₁ : Writer) (last : List ℕ) → b ≡ true → at ≡ w .len → _≡_ {A = Answer (Unit {0}) × Writer} (o, w₁) (ok tt, moved w size (paddingGiven g) named) → names g ≡ named
+  pub add-done : (at : ℕ) (named : Bool) (o : Answer (Unit {0})) (w₁ : Writer) (last : List ℕ) → b ≡ true → at ≡ w .len → _≡_ {A = Answer (Unit {0}) × Writer} (o, w₁) (ok tt, advanced w size (paddingGiven g) named) → givesCname g ≡ named
       → last ≡ store 0 (layout (packetGiven g)) (take (length l - at) (drop at l))
       → (o, w₁, take at l ++ (last ++ drop (length l - at) (drop at l))) ≡ call (add g) w l
   unfolding call addTests calculateSize _>>_
@@ -228,7 +228,7 @@ module _ (ss cs ts ps vs bs : List ℕ) (k n : ℕ) (is : n ≡ orZero (calculat
   pub sdes-values : length ts ≡ length vs
   sdes-values = agreed (lists ss cs ts ps vs bs) lists-agree .values
 
-  pub sdes-names : (named : Bool) → named ≡ lentCname ts vs → names (giveSdes (lists ss cs ts ps vs bs) k) ≡ named
+  pub sdes-names : (named : Bool) → named ≡ lentCname ts vs → givesCname (giveSdes (lists ss cs ts ps vs bs) k) ≡ named
   sdes-names named e = names-lent (lists ss cs ts ps vs bs) k lists-agree ∙ sym e
 
 -- ---- closing
@@ -238,7 +238,7 @@ module _ (w : Writer) where
   unfolding call closeTests need _>>_
   close-closed o w₁ e h = simp e (ap (λ (x : Answer (Unit {0}) × Writer). (x .0, x .1, [])) h)
 
-  pub close-done : (w₁ : Writer) → w .closed ≡ false → w .cname ≡ true → w₁ ≡ shut w → (ok tt, w₁, []) ≡ call close w []
+  pub close-done : (w₁ : Writer) → w .closed ≡ false → w .cname ≡ true → w₁ ≡ afterClose w → (ok tt, w₁, []) ≡ call close w []
   unfolding call closeTests need _>>_
   close-done w₁ e f h = rw h (simp (e, f))
 

@@ -6,7 +6,7 @@ use Rattle.rfc3550.specs.Loss.{Loss}
 use Rattle.rfc3550.specs.Packet.{receiver}
 use Rattle.rfc3550.specs.Write.{Given, giveReport, giveSdes, giveBye, giveApp}
 use Rattle.rfc3550.specs.Writer.{Request, add, close, call}
-use Rattle.rfc3550.specs.Claim.{compounds}
+use Rattle.rfc3550.specs.Calls.{compounds}
 use Rattle.rfc3550.specs.Returned.{Caller}
 use Rattle.report_write.specs.Report.{blockLists, senderOf}
 use Rattle.report_write.specs.declared.sender.SenderInfo.{SenderInfo}
@@ -44,9 +44,9 @@ abbrev pub lent : Result → List ℕ
 lent (added g buf r out) = buf
 lent (closed r) = []
 
-abbrev pub gave : Result → Call
-gave (added g buf r out) = r
-gave (closed r) = r
+abbrev pub callReturned : Result → Call
+callReturned (added g buf r out) = r
+callReturned (closed r) = r
 
 abbrev pub left : Result → List ℕ
 left (added g buf r out) = out
@@ -63,10 +63,10 @@ writers =
       H = Writer;
       R = Result;
       Meets = Meets;
-      next = λ w r. gave r .writer;
+      next = λ w r. callReturned r .writer;
       writer = writerOf;
       request = request;
       lent = lent;
-      answer = λ r. outcomeOf (gave r .answer);
+      answer = λ r. outcomeOf (callReturned r .answer);
       left = left;
     }

@@ -35,5 +35,5 @@ whyNot w type size own n =
     (pick (ltb n (w .len)) (refusal 10 (capped (w .len)) 0) (refusal 10 (capped (w .len + size)) 0)))))
 
 -- the writer with a packet of that size, that padding and, or not, a CNAME laid down
-abbrev pub moved : rfc.Writer → ℕ → ℕ → Bool → rfc.Writer
-moved w size padding cname = record { len = w .len + size; padded = ltb 0 padding; cname = w .cname || cname; closed = w .closed }
+abbrev pub advanced : rfc.Writer → ℕ → ℕ → Bool → rfc.Writer
+advanced w size padding cname = record { len = w .len + size; padded = ltb 0 padding; cname = w .cname || cname; closed = w .closed }

@@ -23,7 +23,7 @@ ghost use Rattle.rfc3550.specs.Writer.{fresh, add, close, call};
 ghost use Rattle.utils.specs.Error.{writeRefusal};
 ghost use Rattle.report_write.specs.Report.{senderOf, blockLists};
 ghost use Rattle.sdes_write.specs.Packets.{lists};
-ghost use Rattle.compound_write.specs.Writer.{outcomeOf, writerOf, callOf, admits, whyNot, moved};
+ghost use Rattle.compound_write.specs.Writer.{outcomeOf, writerOf, callOf, admits, whyNot, advanced};
 
 pub struct Writer {
     pub len: usize,
@@ -143,7 +143,7 @@ impl Writer {
     // A packet of so many bytes was laid down.
     pub fn advance_unchecked(self, size: usize, padding: u64, cname: bool) -> Call
         requires { ⌜ self .len + size < 2 ^ 64 ⌝ }
-        ensures { λ r. ⌜ callOf r ≡ (ok tt, moved (writerOf self) size padding cname) ⌝ }
+        ensures { λ r. ⌜ callOf r ≡ (ok tt, advanced (writerOf self) size padding cname) ⌝ }
     {
         Call {
             answer: Outcome::Done,

@@ -3,7 +3,7 @@ use Prim.Native.Nat.{ℕ, _+_, _-_, _*_, _^_, _<_, _≤_}
 use mathlib.Core.Path.{_≡_, refl, sym, ap, _∙_}
 use mathlib.Core.Bool.{Bool, true, false, _&&_, _||_, not}
 use borrow.Author.Tests.{le-leb, leb-true, leb-false, lt-ltb, le-ltb, ne-eqb}
-use lib.Dec.{leb, ltb, eqb}
+use lib.Dec.{leb, ltb}
 use mathlib.Core.List.{List, [], _++_, append-nil}
 use native.Mathlib.Nat.{add-zero}
 use native.Mathlib.Omega.{arith}
@@ -16,7 +16,7 @@ use Rattle.rfc3550.specs.Packet.{Reporter as Reporting}
 use Rattle.rfc3550.specs.Write.{BlockLists, listsOf, Given, giveReport, packetGiven, contentGiven, sizeGiven, tests, calculateSize}
 use Rattle.rfc3550.specs.Writer as rfc
 use Rattle.rfc3550.specs.Writer.{add, addTests, call}
-use Rattle.rfc3550.proofs.Answer.{or-true, need-inv, bind-elim, then-inv, ok-injective}
+use Rattle.rfc3550.proofs.Answers.{or-true, need-inv, bind-elim, then-inv, ok-injective}
 use Rattle.utils.specs.Error.{writeRefusal, orZero}
 use Rattle.utils.specs.Writer.{writtenOf, sizeRefusal}
 use Rattle.utils.proofs.Values.{number-came}
@@ -26,12 +26,12 @@ use Rattle.utils.specs.declared.writer.Written.the-variants.{Size, Refused}
 use Rattle.utils.proofs.WriterStores.{store-nil}
 use Rattle.report.specs.declared.«report_block».ReportBlock.{ReportBlock}
 use Rattle.records.specs.declared.Reporter.{Reporter}
-use Rattle.records.specs.Records.{reporterOf, leastOf, recordsOf, decisiveOf, frameLaid, laidCount}
+use Rattle.records.specs.Records.{reporterOf, leastOf, recordsOf, testedOf, frameLaid, laidCount}
 use Rattle.records.proofs.Laid.{store-behind}
 use Rattle.records.proofs.Reports.{lent-size, least-some, counted-fits, frame-fits, blocks-fit, report-whole}
 use Rattle.report_write.specs.Report.{countedSize}
 use Rattle.report_write.proofs.Reports.{reason-same}
-use Rattle.compound_write.specs.Writer.{admits, whyNot, moved}
+use Rattle.compound_write.specs.Writer.{admits, whyNot, advanced}
 use Rattle.compound_write.proofs.Writers.{adds, admitted-some, admitted-room, admitted-open}
 use Rattle.records.specs.Adds.{fitted, admitted, addFramed, blocksAt, addedEnd, concluded}
 
@@ -178,7 +178,7 @@ module _ (w : rfc.Writer) (r : Written) where
     unfolding concluded
     concluded-refused e q h = rw q h
 
-    pub concluded-done : (n : ℕ) → r ≡ Size n → o ≡ (ok tt, moved w n k false) → o ≡ concluded w (writtenOf r) k
+    pub concluded-done : (n : ℕ) → r ≡ Size n → o ≡ (ok tt, advanced w n k false) → o ≡ concluded w (writtenOf r) k
     unfolding concluded
     concluded-done n q h = rw q h
 
@@ -189,7 +189,7 @@ unfolding calculateSize
 size-is g n e = ok-injective (then-inv _ _ e .1)
 
 module _ (p : Reporter) (bs : List ReportBlock) (k : ℕ) (w : rfc.Writer) (l : List ℕ) where
-  module _ (n : ℕ) (c : countedSize (leastOf p) (length bs) (decisiveOf 0 bs) k ≡ ok n) (h : w .len + n ≤ length l) where
+  module _ (n : ℕ) (c : countedSize (leastOf p) (length bs) (testedOf 0 bs) k ≡ ok n) (h : w .len + n ≤ length l) where
     room-left : n ≤ length (drop (w .len) l)
     room-left = rw (length-drop (w .len) l) (omega arith)
 
@@ -197,7 +197,7 @@ module _ (p : Reporter) (bs : List ReportBlock) (k : ℕ) (w : rfc.Writer) (l : 
     before-long = length-take-le (w .len) l (omega arith)
 
     start-in : w .len + leastOf p ≤ w .len + n
-    start-in = let f = counted-fits p (length bs) (decisiveOf 0 bs) k n (length (drop (w .len) l)) c room-left .size in omega arith
+    start-in = let f = counted-fits p (length bs) (testedOf 0 bs) k n (length (drop (w .len) l)) c room-left .size in omega arith
 
     blocks-in : length bs * 24 ≤ length (take (w .len) l ++ frameLaid p (length bs) k n (drop (w .len) l)) - (w .len + leastOf p)
     blocks-in =
@@ -213,11 +213,11 @@ module _ (p : Reporter) (bs : List ReportBlock) (k : ℕ) (w : rfc.Writer) (l : 
         ∙ sym (store-behind (w .len) 0 (take (w .len) l) (layout (packetGiven (giveReport (reporterOf p) (listsOf (recordsOf bs)) k))) (drop (w .len) l) before-long)
         ∙ rw (add-zero, take-append-drop)
 
-  given-tests : (a : Answer ℕ) → a ≡ admitted w true (countedSize (leastOf p) (length bs) (decisiveOf 0 bs) k) (length l) → addTests w (giveReport (reporterOf p) (listsOf (recordsOf bs)) k) (length l) ≡ mapOk unit a
+  given-tests : (a : Answer ℕ) → a ≡ admitted w true (countedSize (leastOf p) (length bs) (testedOf 0 bs) k) (length l) → addTests w (giveReport (reporterOf p) (listsOf (recordsOf bs)) k) (length l) ≡ mapOk unit a
   given-tests a e = add-tests w (giveReport (reporterOf p) (listsOf (recordsOf bs)) k) (length l) ∙ rw (is-report (reporterOf p) (listsOf (recordsOf bs)) k, ← lent-size p bs k, e)
 
   -- what the tests leave known of where the blocks go
-  lent-fits : (a : Answer ℕ) → a ≡ admitted w true (countedSize (leastOf p) (length bs) (decisiveOf 0 bs) k) (length l)
+  lent-fits : (a : Answer ℕ) → a ≡ admitted w true (countedSize (leastOf p) (length bs) (testedOf 0 bs) k) (length l)
       → ((laidCount a (length bs) ≤ length bs) × (laidCount a (length bs) * 24 ≤ length (addFramed (w .len) p (length bs) k a l) - blocksAt (w .len) p a)) × ((blocksAt (w .len) p a ≤ length l) × (addedEnd (w .len) a ≤ length l))
   unfolding laidCount addFramed blocksAt addedEnd
   lent-fits (refused x) e = ((omega arith, omega arith), (omega arith, omega arith))
@@ -227,7 +227,7 @@ module _ (p : Reporter) (bs : List ReportBlock) (k : ℕ) (w : rfc.Writer) (l : 
       let m = r .1 in
       ((omega arith, blocks-in n (r .0) (r .1)), (omega arith, m))
 
-  lent-added : (a : Answer ℕ) → a ≡ admitted w true (countedSize (leastOf p) (length bs) (decisiveOf 0 bs) k) (length l)
+  lent-added : (a : Answer ℕ) → a ≡ admitted w true (countedSize (leastOf p) (length bs) (testedOf 0 bs) k) (length l)
       → (concluded w a k .0, concluded w a k .1, store (blocksAt (w .len) p a) (blocksBytes (recordsOf (take (laidCount a (length bs)) bs))) (addFramed (w .len) p (length bs) k a l)) ≡ call (add (giveReport (reporterOf p) (listsOf (recordsOf bs)) k)) w l
   unfolding laidCount addFramed blocksAt concluded call mapOk blocksBytes
   lent-added (refused x) e = rw (given-tests (refused x) e, store-nil 0 l)
@@ -236,8 +236,8 @@ module _ (p : Reporter) (bs : List ReportBlock) (k : ℕ) (w : rfc.Writer) (l : 
       rw (given-tests (ok n) e, take-length bs, packet-in n (r .0) (r .1), size-is (giveReport (reporterOf p) (listsOf (recordsOf bs)) k) n (sym (lent-size p bs k) ∙ r .0))
 
   -- the same of what the calls have answered: the loss, the tests, how many blocks are laid, and where
-  module _ (a : Answer ℕ) (loss : ℕ) (l₁ : List ℕ) (d : loss ≡ decisiveOf 0 bs) (e : a ≡ admitted w true (countedSize (leastOf p) (length bs) loss k) (length l)) (f : l₁ ≡ addFramed (w .len) p (length bs) k a l) where
-    told : a ≡ admitted w true (countedSize (leastOf p) (length bs) (decisiveOf 0 bs) k) (length l)
+  module _ (a : Answer ℕ) (loss : ℕ) (l₁ : List ℕ) (d : loss ≡ testedOf 0 bs) (e : a ≡ admitted w true (countedSize (leastOf p) (length bs) loss k) (length l)) (f : l₁ ≡ addFramed (w .len) p (length bs) k a l) where
+    told : a ≡ admitted w true (countedSize (leastOf p) (length bs) (testedOf 0 bs) k) (length l)
     told = e ∙ ap (λ (x : ℕ). admitted w true (countedSize (leastOf p) (length bs) x k) (length l)) d
 
     pub start-fits : length l < 2 ^ 64 → blocksAt (w .len) p a < 2 ^ 64

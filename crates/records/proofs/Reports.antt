@@ -1,7 +1,7 @@
 -- The cases of a report of lent records, over whoever reports: its size, what stands around its blocks, and the whole written.
 use Prim.Native.Nat.{ℕ, _+_, _-_, _*_, _<_, _≤_}
 use mathlib.Core.Path.{_≡_, refl, sym, ap, _∙_}
-use mathlib.Core.List.{List, [], _∷_}
+use mathlib.Core.List.{List, []}
 use native.Mathlib.Omega.{arith}
 use native.Mathlib.Numerals.{add-one}
 use borrow.Author.Tests.{leb-true}
@@ -11,9 +11,9 @@ use Rattle.rfc3550.specs.Answer.{Answer, Refusal, ok, refused, refusal, need, _
 use Rattle.rfc3550.specs.Bytes.{be, put, store}
 use Rattle.rfc3550.specs.Packet as rfc
 use Rattle.rfc3550.specs.Write.{listsOf, giveReport, packetGiven, paddingBytes, calculateSize, room, write}
-use Rattle.rfc3550.proofs.Answer.{need-inv, bind-elim, ok-injective}
+use Rattle.rfc3550.proofs.Answers.{need-inv, bind-elim, ok-injective}
 use Rattle.rfc3550.proofs.Bytes.{length-store}
-use Rattle.rfc3550.proofs.Write.{length-paddingBytes, blocksLent-listsOf, blocksAgree-listsOf}
+use Rattle.rfc3550.proofs.Writes.{length-paddingBytes, blocksLent-listsOf, blocksAgree-listsOf}
 use Rattle.utils.specs.Error.{orZero}
 use Rattle.utils.specs.Writer.{writtenOf, header, sizeRefusal}
 use Rattle.utils.specs.declared.error.RtcpWriteError.{RtcpWriteError}
@@ -24,23 +24,23 @@ use Rattle.utils.proofs.WriterPackets.{writes, refused-written, short-written, 
 use Rattle.utils.proofs.Values.{number-came}
 use Rattle.report.specs.declared.«report_block».ReportBlock.{ReportBlock}
 use Rattle.report_write.specs.declared.sender.SenderInfo.{SenderInfo}
-use Rattle.report_write.specs.Report.{senderOf, decisiveLoss, countedSize, listsSize, headLaid}
+use Rattle.report_write.specs.Report.{senderOf, testedLoss, countedSize, listsSize, headLaid}
 use Rattle.report_write.proofs.Reports.{reason-same, lists-report, sized-fits, report-laid}
 use Rattle.report_write.proofs.Blocks.{length-blocks}
 use Rattle.records.proofs.Laid.{store-before}
 use Rattle.records.specs.declared.Reporter.{Reporter}
 use Rattle.records.specs.declared.Reporter.the-variants as reporter
-use Rattle.records.specs.Records.{noBlock, blockOf, recordsOf, reporterOf, leastOf, laterOf, decisiveOf, FrameFits, frameLaid, framed, laidCount}
+use Rattle.records.specs.Records.{noBlock, blockOf, recordsOf, reporterOf, leastOf, laterOf, testedOf, FrameFits, frameLaid, framed, laidCount}
 
 -- ---- the losses
 
-module _ (bs : List ReportBlock) (x d i : ℕ) (w : decisiveOf x (drop i bs) ≡ d) where
-  pub loss-next : i < length bs → decisiveOf (laterOf x (getD bs i noBlock)) (drop (i + 1) bs) ≡ d
-  unfolding decisiveLoss
+module _ (bs : List ReportBlock) (x d i : ℕ) (w : testedOf x (drop i bs) ≡ d) where
+  pub loss-next : i < length bs → testedOf (laterOf x (getD bs i noBlock)) (drop (i + 1) bs) ≡ d
+  unfolding testedLoss
   loss-next h = rw (add-one i) (rw (drop-cons bs i noBlock h) at w)
 
   pub loss-done : length bs ≤ i → x ≡ d
-  unfolding decisiveLoss
+  unfolding testedLoss
   loss-done h = rw (drop-of-length-le bs {i = i} h) at w
 
 count-is : (bs : List ReportBlock) → length (listsOf (recordsOf bs) .fractions) ≡ length bs
@@ -110,10 +110,10 @@ module _ (p : Reporter) where
     pub counted-sized : (n ≡ 0 → ⊥) → ok n ≡ countedSize (leastOf p) count loss k
     counted-sized z = sym (number-came (countedSize (leastOf p) count loss k) n (e ∙ ap (λ (l : ℕ). orZero (countedSize l count loss k)) s) z)
 
-  pub lent-size : (bs : List ReportBlock) (k : ℕ) → countedSize (leastOf p) (length bs) (decisiveOf 0 bs) k ≡ calculateSize (giveReport (reporterOf p) (listsOf (recordsOf bs)) k)
+  pub lent-size : (bs : List ReportBlock) (k : ℕ) → countedSize (leastOf p) (length bs) (testedOf 0 bs) k ≡ calculateSize (giveReport (reporterOf p) (listsOf (recordsOf bs)) k)
   unfolding listsSize need _>>_
   lent-size bs k =
-      let a : listsSize (leastOf p) (listsOf (recordsOf bs)) k ≡ countedSize (leastOf p) (length bs) (decisiveOf 0 bs) k = rw (blocksAgree-listsOf (recordsOf bs), count-is bs) in
+      let a : listsSize (leastOf p) (listsOf (recordsOf bs)) k ≡ countedSize (leastOf p) (length bs) (testedOf 0 bs) k = rw (blocksAgree-listsOf (recordsOf bs), count-is bs) in
       sym a ∙ lists-report (reporterOf p) (listsOf (recordsOf bs)) k
 
   -- ---- what stands around the blocks
@@ -194,9 +194,9 @@ module _ (w : Written) (count : ℕ) where
 -- ---- the blocks laid into the frame
 
 module _ (p : Reporter) (bs : List ReportBlock) (k : ℕ) where
-  module _ (n : ℕ) (l : List ℕ) (c : countedSize (leastOf p) (length bs) (decisiveOf 0 bs) k ≡ ok n) (h : n ≤ length l) where
+  module _ (n : ℕ) (l : List ℕ) (c : countedSize (leastOf p) (length bs) (testedOf 0 bs) k ≡ ok n) (h : n ≤ length l) where
     fits : FrameFits (leastOf p) (length bs) k n (length l)
-    fits = counted-fits p (length bs) (decisiveOf 0 bs) k n (length l) c h
+    fits = counted-fits p (length bs) (testedOf 0 bs) k n (length l) c h
 
     pub blocks-fit : length bs * 24 ≤ length (frameLaid p (length bs) k n l) - leastOf p
     blocks-fit = let s = fits .size in let m = frame-long p (length bs) k n l fits in omega arith
@@ -213,13 +213,13 @@ module _ (p : Reporter) (bs : List ReportBlock) (k : ℕ) where
         ∙ report-laid (reporterOf p) (leastOf p) (listsOf (recordsOf bs)) k n l (headLaid (reporterOf p) k (length bs) n l) (store (leastOf p) (rfc.blocksBytes (recordsOf bs)) (headLaid (reporterOf p) k (length bs) n l)) _ f refl (rw (count-is bs)) (rw (blocksLent-listsOf (recordsOf bs))) refl
 
   module _ (l : List ℕ) where
-    lent-fits : (a : Answer ℕ) → a ≡ room (countedSize (leastOf p) (length bs) (decisiveOf 0 bs) k) (length l)
+    lent-fits : (a : Answer ℕ) → a ≡ room (countedSize (leastOf p) (length bs) (testedOf 0 bs) k) (length l)
         → (laidCount a (length bs) ≤ length bs) × (laidCount a (length bs) * 24 ≤ length (framed p (length bs) k a l) - leastOf p)
     unfolding laidCount framed
     lent-fits (refused x) e = (omega arith, omega arith)
     lent-fits (ok n) e = let r = room-ok _ (length l) n (sym e) in (omega arith, blocks-fit n l (r .0) (r .1))
 
-    lent-written : (a : Answer ℕ) → a ≡ room (countedSize (leastOf p) (length bs) (decisiveOf 0 bs) k) (length l)
+    lent-written : (a : Answer ℕ) → a ≡ room (countedSize (leastOf p) (length bs) (testedOf 0 bs) k) (length l)
         → (a, store (leastOf p) (rfc.blocksBytes (recordsOf (take (laidCount a (length bs)) bs))) (framed p (length bs) k a l)) ≡ write (giveReport (reporterOf p) (listsOf (recordsOf bs)) k) l
     unfolding laidCount framed write rfc.blocksBytes
     lent-written (refused x) e = rw (store-nil (leastOf p) l, ← lent-size p bs k, ← e)
@@ -228,8 +228,8 @@ module _ (p : Reporter) (bs : List ReportBlock) (k : ℕ) where
         rw (take-length bs, report-whole n l (r .0) (r .1), ← lent-size p bs k, ← e)
 
     -- the same of what the calls have answered: the loss, the report, how many blocks are laid, and where
-    module _ (a : Answer ℕ) (loss n at : ℕ) (l₁ : List ℕ) (d : loss ≡ decisiveOf 0 bs) (e : a ≡ room (countedSize (leastOf p) (length bs) loss k) (length l)) (f : l₁ ≡ framed p (length bs) k a l) (c : n ≡ laidCount a (length bs)) (s : at ≡ leastOf p) where
-      told : a ≡ room (countedSize (leastOf p) (length bs) (decisiveOf 0 bs) k) (length l)
+    module _ (a : Answer ℕ) (loss n at : ℕ) (l₁ : List ℕ) (d : loss ≡ testedOf 0 bs) (e : a ≡ room (countedSize (leastOf p) (length bs) loss k) (length l)) (f : l₁ ≡ framed p (length bs) k a l) (c : n ≡ laidCount a (length bs)) (s : at ≡ leastOf p) where
+      told : a ≡ room (countedSize (leastOf p) (length bs) (testedOf 0 bs) k) (length l)
       told = e ∙ ap (λ (x : ℕ). room (countedSize (leastOf p) (length bs) x k) (length l)) d
 
       pub count-fits-in : n ≤ length bs

@@ -6,7 +6,7 @@ use lib.ListN.{take, drop}
 use lib.Dec.{leb, ltb}
 use Rattle.rfc3550.specs.Answer.{Answer, ok, refused, need, _>>_, _>>=_, capped}
 use Rattle.rfc3550.specs.Writer as rfc
-use Rattle.compound_write.specs.Writer.{moved}
+use Rattle.compound_write.specs.Writer.{advanced}
 use Rattle.records.specs.Records.{leastOf, frameLaid}
 use Rattle.records.specs.declared.Reporter.{Reporter}
 
@@ -43,5 +43,5 @@ addedEnd len (refused x) = 0
 
 -- the answer to the call, and the writer after it
 unfoldable pub concluded : rfc.Writer → Answer ℕ → ℕ → Answer (Unit {0}) × rfc.Writer
-concluded w (ok n) k = (ok tt, moved w n k false)
+concluded w (ok n) k = (ok tt, advanced w n k false)
 concluded w (refused x) k = (refused x, w)

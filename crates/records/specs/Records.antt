@@ -33,8 +33,8 @@ recordsOf bs = map blockOf bs
 abbrev pub laterOf : Loss → ReportBlock → Loss
 laterOf x b = lists.laterLoss x (b .«cumulative_lost»)
 
-abbrev pub decisiveOf : Loss → List ReportBlock → Loss
-decisiveOf x bs = lists.decisiveLoss x (listsOf (recordsOf bs) .losses)
+abbrev pub testedOf : Loss → List ReportBlock → Loss
+testedOf x bs = lists.testedLoss x (listsOf (recordsOf bs) .losses)
 
 -- ---- all of a report but its blocks
 

@@ -24,7 +24,7 @@ ghost use Rattle.rfc3550.specs.Writer.{add, call};
 ghost use Rattle.utils.specs.Writer.{writtenOf};
 ghost use Rattle.report_write.specs.Report.{countedSize, headLaid};
 ghost use Rattle.compound_write.specs.Writer.{outcomeOf, writerOf, callOf};
-ghost use Rattle.records.specs.Records.{noBlock, blockOf, recordsOf, reporterOf, leastOf, laterOf, decisiveOf, FrameFits, frameLaid, framed, laidCount};
+ghost use Rattle.records.specs.Records.{noBlock, blockOf, recordsOf, reporterOf, leastOf, laterOf, testedOf, FrameFits, frameLaid, framed, laidCount};
 ghost use Rattle.records.specs.Adds.{admitted, addFramed, blocksAt, addedEnd, concluded};
 
 // Who reports: a receiver, by its SSRC, or a sender.
@@ -48,8 +48,8 @@ fn later_loss(loss: u32, b: ReportBlock) -> u32
 }
 
 // The loss that decides for all blocks: the first that does not fit 24 bits, or else the last one.
-fn decisive_loss(blocks: &[ReportBlock]) -> u32
-    ensures { λ r. ⌜ r ≡ decisiveOf 0 (now (blocks .entry)) ⌝ }
+fn tested_loss(blocks: &[ReportBlock]) -> u32
+    ensures { λ r. ⌜ r ≡ testedOf 0 (now (blocks .entry)) ⌝ }
 {
     let n = blocks.len();
     let mut loss: u32 = 0;
@@ -127,7 +127,7 @@ fn check_report(reporter: Reporter, count: usize, loss: u32, padding: u64) -> Wr
 pub fn calculate_size(reporter: Reporter, blocks: &[ReportBlock], padding: u64) -> Written
     ensures { λ r. ⌜ writtenOf r ≡ calculateSize (giveReport (reporterOf reporter) (listsOf (recordsOf (now (blocks .entry)))) padding) ⌝ }
 {
-    let loss = decisive_loss(blocks);
+    let loss = tested_loss(blocks);
     check_report(reporter, blocks.len(), loss, padding)
 }
 
@@ -203,7 +203,7 @@ pub fn write_into(
 ) -> Written
     ensures { λ r. ⌜ (writtenOf r, now (buf .exit)) ≡ write (giveReport (reporterOf reporter) (listsOf (recordsOf (now (blocks .entry)))) padding) (now (buf .entry)) ⌝ }
 {
-    let loss = decisive_loss(blocks);
+    let loss = tested_loss(blocks);
     let answer = write_frame(buf, reporter, blocks.len(), loss, padding);
     let n = laid_count(answer, blocks.len());
     let at = start(reporter);
@@ -265,7 +265,7 @@ pub fn add_report(
 ) -> Call
     ensures { λ r. ⌜ (outcomeOf (r .answer), writerOf (r .writer), now (buf .exit)) ≡ call (add (giveReport (reporterOf reporter) (listsOf (recordsOf (now (blocks .entry)))) padding)) (writerOf writer) (now (buf .entry)) ⌝ }
 {
-    let loss = decisive_loss(blocks);
+    let loss = tested_loss(blocks);
     let tested = add_frame(writer, buf, reporter, blocks.len(), loss, padding);
     let n = laid_count(tested, blocks.len());
     let at = blocks_at(writer, reporter, tested);

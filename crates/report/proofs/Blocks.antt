@@ -1,7 +1,6 @@
 -- A report block from its seven numbers, a lone block's steps, and blocks in three lists.
 use borrow.Author.Needs.{needs}
 use mathlib.Core.Path.{_≡_, refl, sym, ap, _∙_}
-use mathlib.Core.Bool.{_&&_}
 use mathlib.Core.List.{List, [], _∷_, _++_, append-assoc, append-nil}
 use Prim.Native.Nat.{ℕ, zero, suc, _+_, _*_, _/_, _%_, _^_, _<_, _≤_}
 use native.Mathlib.Nat.{mul-suc, mul-zero}
@@ -10,21 +9,21 @@ use native.Mathlib.Omega.{arith}
 use borrow.Author.Tests.{le-leb, lt-leb}
 use lib.ListN.{length, getD, take, drop, set, length-append, length-drop}
 use lib.Seq.{drop-drop, length-take-le}
-use Rattle.rfc3550.specs.Answer.{ok, refused, refusal, refuse, need, _>>_, mapOk}
+use Rattle.rfc3550.specs.Answer.{ok, refuse, need, _>>_, mapOk}
 use Rattle.rfc3550.specs.Bytes.{val, get, store}
 use Rattle.rfc3550.specs.Loss.{lossOf}
 use Rattle.rfc3550.specs.Packet.{Block, blockWidths}
-use Rattle.rfc3550.specs.Read.{blockOf, readBlock, readBlocks}
+use Rattle.rfc3550.specs.Read.{blockFrom, readBlock, readBlocks}
 use Rattle.rfc3550.proofs.Bytes.{length-store, val-lt, bytes-take, bytes-drop, bytes-each}
 use Rattle.utils.proofs.Numbers.{val-join}
 use Rattle.utils.proofs.Parts.{length-readBlocks}
 use Rattle.utils.proofs.WriterStores.{store-nil, puts, store-puts}
 use Rattle.utils.proofs.WriterPackets.{parts-laid}
-use Rattle.report.specs.Block.{blockView, fractionIn, lossIn, wordsIn, listOf, Laid, LaidAll, layBlocks}
+use Rattle.report.specs.Block.{blockView, fractionIn, lossIn, wordsIn, listOf, BlockListed, BlocksListed, layBlocks}
 use Rattle.report.specs.declared.report_block.ReportBlock.{ReportBlock}
 
 abbrev blockAt : List ℕ → ℕ → ReportBlock
-blockAt s at = blockView (blockOf (get blockWidths (drop at s)))
+blockAt s at = blockView (blockFrom (get blockWidths (drop at s)))
 
 -- the word of the fraction and the loss
 lost-word : (s : List ℕ) (at : ℕ) → ((i : ℕ) → getD s i 0 < 256) → at + 24 ≤ length s
@@ -90,10 +89,10 @@ module _ (s : List ℕ) where
 -- ---- the numbers of a block, one by one into the lists
 
 abbrev there : List ℕ → ℕ → Block
-there s at = blockOf (get blockWidths (drop at s))
+there s at = blockFrom (get blockWidths (drop at s))
 
 pub block-laid : (s : List ℕ) (at i to : ℕ) (b : ReportBlock) (f l w : List ℕ) → i < length f → i < length l → to + 5 ≤ length w → b ≡ blockAt s at
-    → Laid (there s at) i to f l w (set f i (b .«fraction_lost»)) (set l i (b .«cumulative_lost»))
+    → BlockListed (there s at) i to f l w (set f i (b .«fraction_lost»)) (set l i (b .«cumulative_lost»))
     (puts to 1 (b .«extended_sequence_number» ∷ b .«interarrival_jitter» ∷ b .«last_sender_report_timestamp» ∷ b .«delay_since_last_sender_report_timestamp» ∷ []) (set w to (b .ssrc)))
 block-laid s at i to b f l w h k m e =
     record {
@@ -133,7 +132,7 @@ module _ (g : Block → List ℕ) where
         let d : drop (24 * i) (drop at s) ≡ drop (at + i * 24) s = drop-drop (24 * i) at s ∙ ap (λ (n : ℕ). drop n s) u in
         parts-laid 0 k (listOf g (readBlocks i (drop at s))) (g (there s (at + i * 24))) l l₁ l₂ p q (omega arith) (omega (arith, wide (there s (at + i * 24))))
         ∙ ap (λ (bs : List ℕ). store 0 bs l)
-        (ap (λ (x : List ℕ). listOf g (readBlocks i (drop at s)) ++ g (blockOf (get blockWidths x))) (sym d) ∙ sym (list-more (readBlocks i (drop at s)) (there (drop at s) (24 * i)))
+        (ap (λ (x : List ℕ). listOf g (readBlocks i (drop at s)) ++ g (blockFrom (get blockWidths x))) (sym d) ∙ sym (list-more (readBlocks i (drop at s)) (there (drop at s) (24 * i)))
         ∙ ap (listOf g) (sym (blocks-more i (drop at s)) ∙ ap (λ (n : ℕ). readBlocks n (drop at s)) (sym (add-one i))))
 
     list-long : (s : List ℕ) (at i : ℕ) (l l₁ : List ℕ) → w * i ≤ length l → l₁ ≡ store 0 (listOf g (readBlocks i (drop at s))) l → length l₁ ≡ length l
@@ -146,7 +145,7 @@ pub record Listing (s : List ℕ) (at n : ℕ) (f l w : List ℕ) (i : ℕ) (f�
   pub fractions-long : length f₁ ≡ length f
   pub losses-long : length l₁ ≡ length l
   pub words-long : length w₁ ≡ length w
-  pub laid : LaidAll (readBlocks i (drop at s)) f l w f₁ l₁ w₁
+  pub laid : BlocksListed (readBlocks i (drop at s)) f l w f₁ l₁ w₁
 
 module _ (s : List ℕ) (at n : ℕ) (f l w : List ℕ) where
   pub listing-start : Listing s at n f l w 0 f l w
@@ -161,7 +160,7 @@ module _ (s : List ℕ) (at n : ℕ) (f l w : List ℕ) where
       }
 
   module _ (i : ℕ) (f₁ l₁ w₁ : List ℕ) (g : Listing s at n f l w i f₁ l₁ w₁) where
-    pub listing-again : (f₂ l₂ w₂ : List ℕ) → n ≤ length f → n ≤ length l → n * 5 ≤ length w → i < n → Laid (there s (at + i * 24)) i (i * 5) f₁ l₁ w₁ f₂ l₂ w₂
+    pub listing-again : (f₂ l₂ w₂ : List ℕ) → n ≤ length f → n ≤ length l → n * 5 ≤ length w → i < n → BlockListed (there s (at + i * 24)) i (i * 5) f₁ l₁ w₁ f₂ l₂ w₂
         → Listing s at n f l w (i + 1) f₂ l₂ w₂
     listing-again f₂ l₂ w₂ a b c h e =
         let p = list-laid fractionIn 1 (λ b. refl) s at i i f f₁ f₂ (omega arith) (omega arith) (g .laid .fractions) (e .fractions) in
@@ -175,7 +174,7 @@ module _ (s : List ℕ) (at n : ℕ) (f l w : List ℕ) where
           laid = record { fractions = p; losses = q; words = r };
         }
 
-    pub listing-done : n ≤ i → LaidAll (readBlocks n (drop at s)) f l w f₁ l₁ w₁
+    pub listing-done : n ≤ i → BlocksListed (readBlocks n (drop at s)) f l w f₁ l₁ w₁
     listing-done h = let e : i ≡ n = omega (arith, g .within) in rw e at (g .laid)
 
 -- ---- into lists that are long enough, or not
@@ -193,7 +192,7 @@ module _ (s : List ℕ) (at n : ℕ) (f l w : List ℕ) where
   unfolding layBlocks
   words-short a b h = rw (length-readBlocks n (drop at s), le-leb n (length f) a, le-leb n (length l) b, lt-leb (n * 5) (length w) h, length-readBlocks n (drop at s))
 
-  pub lists-laid : (f₁ l₁ w₁ : List ℕ) → n ≤ length f → n ≤ length l → n * 5 ≤ length w → LaidAll (readBlocks n (drop at s)) f l w f₁ l₁ w₁
+  pub lists-laid : (f₁ l₁ w₁ : List ℕ) → n ≤ length f → n ≤ length l → n * 5 ≤ length w → BlocksListed (readBlocks n (drop at s)) f l w f₁ l₁ w₁
       → (ok n, f₁, l₁, w₁) ≡ layBlocks (ok (readBlocks n (drop at s))) f l w
   unfolding layBlocks
   lists-laid f₁ l₁ w₁ a b c e =

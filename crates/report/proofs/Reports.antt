@@ -11,8 +11,8 @@ use lib.Seq.{drop-drop, length-take-le, take-all}
 use Rattle.rfc3550.specs.Answer.{Refusal, refusal, Answer, ok, refused, refuse, need, _>>_, _>>=_, mapOk}
 use Rattle.rfc3550.specs.Bytes.{val, get, sum}
 use Rattle.rfc3550.specs.Packet.{Block, Reporter, Content, report, Packet, blockWidths, receiverWidths, senderWidths}
-use Rattle.rfc3550.specs.Read.{Kind, SR, RR, least, kindFor, lowIn, blockOf, readBlocks, receiverOf, senderOf, readReport, readContent, checkPacket, readAs, blocksOf, nth, readBlockAt}
-use Rattle.rfc3550.proofs.Answer.{refused≢ok, ok-injective}
+use Rattle.rfc3550.specs.Read.{Kind, SR, RR, least, kindFor, lowIn, blockFrom, readBlocks, receiverFrom, senderFrom, readReport, readContent, checkPacket, readAs, blocksOf, nth, readBlockAt}
+use Rattle.rfc3550.proofs.Answers.{refused≢ok, ok-injective}
 use Rattle.utils.specs.Error.{refusalIn, valueOr, orZero}
 use Rattle.utils.proofs.Reading.{packetOf, contentIn, got, got-is, least-four, none-at-header, why-at-header, body-accepted, body-content, parse-none, parse-read}
 use Rattle.utils.proofs.Headers.{Accepted}
@@ -25,16 +25,16 @@ use Rattle.report.specs.declared.sender.SenderReport.{SenderReport}
 use Rattle.report.specs.Report.{reportBlocks, reportBody, extensionOf, extensionAt, receiverView, senderView, noReceiver, noSender}
 
 -- a kind whose content is a report: the widths of the fields before the blocks, and who reports
-pub record Maker (k : Kind) (ws : List ℕ) (who : List ℕ → Reporter) : Type 0 where
+pub record ReporterKind (k : Kind) (ws : List ℕ) (who : List ℕ → Reporter) : Type 0 where
   pub reads : (n t : ℕ) (s : List ℕ) → readContent k n t s ≡ readReport ws who n s
   pub wide : least k ≡ 4 + sum ws
   pub kind : (f : List ℕ) (bs : List Block) (e : List ℕ) → kindFor (report (who f) bs e) ≡ k
 
-pub sender-maker : Maker SR senderWidths senderOf
+pub sender-maker : ReporterKind SR senderWidths senderFrom
 unfolding readContent sum
 sender-maker = record { reads = λ n t s. refl; wide = refl; kind = λ f bs e. refl }
 
-pub receiver-maker : Maker RR receiverWidths receiverOf
+pub receiver-maker : ReporterKind RR receiverWidths receiverFrom
 unfolding readContent sum
 receiver-maker = record { reads = λ n t s. refl; wide = refl; kind = λ f bs e. refl }
 
@@ -49,7 +49,7 @@ blocksAt k s b = readBlocks (lowIn s) (drop (least k) (take b s))
 abbrev pub contentAt : Kind → List ℕ → (List ℕ → Reporter) → List ℕ → ℕ → Content
 contentAt k ws who s b = report (who (get ws (drop 4 s))) (blocksAt k s b) (take (b - end k s) (drop (end k s) s))
 
-module _ {k : Kind} {ws : List ℕ} {who : List ℕ → Reporter} (m : Maker k ws who) (s : List ℕ) (b : ℕ) (h : least k ≤ b) (l : b ≤ length s) where
+module _ {k : Kind} {ws : List ℕ} {who : List ℕ → Reporter} (m : ReporterKind k ws who) (s : List ℕ) (b : ℕ) (h : least k ≤ b) (l : b ≤ length s) where
   total : 4 ≤ b → 4 + length (drop 4 (take b s)) ≡ b
   total q = rw (length-drop-take 4 b s l) (omega arith)
 
@@ -100,7 +100,7 @@ none-header k s b h z = none-at-header k s b h 0 reportBody z
 pub why-header : (k : Kind) (s : List ℕ) (b : ℕ) (r : Refusal) → b ≡ orZero (checkPacket k s) → b ≡ 0 → r ≡ refusalIn (checkPacket k s) → r ≡ refusalIn (readAs k s)
 why-header k s b r h z q = why-at-header k s b h r z q
 
-module _ {k : Kind} {ws : List ℕ} {who : List ℕ → Reporter} (m : Maker k ws who) (s : List ℕ) (b : ℕ) (h : b ≡ orZero (checkPacket k s)) (z : b ≡ 0 → ⊥) (n : ℕ) (c : n ≡ lowIn s) where
+module _ {k : Kind} {ws : List ℕ} {who : List ℕ → Reporter} (m : ReporterKind k ws who) (s : List ℕ) (b : ℕ) (h : b ≡ orZero (checkPacket k s)) (z : b ≡ 0 → ⊥) (n : ℕ) (c : n ≡ lowIn s) where
   body : Accepted (least k) s b
   body = body-accepted k s b h z
 
@@ -135,7 +135,7 @@ pub record Whole (k : Kind) (ws : List ℕ) (who : List ℕ → Reporter) (s : L
   pub room : end k s ≤ b
   pub packet : readAs k s ≡ ok (packetOf s b (contentAt k ws who s b))
 
-pub whole-is : {k : Kind} {ws : List ℕ} {who : List ℕ → Reporter} (m : Maker k ws who) (s : List ℕ) (p : Packet) → readAs k s ≡ ok p → Whole k ws who s (reportBody p)
+pub whole-is : {k : Kind} {ws : List ℕ} {who : List ℕ → Reporter} (m : ReporterKind k ws who) (s : List ℕ) (p : Packet) → readAs k s ≡ ok p → Whole k ws who s (reportBody p)
 whole-is {k} {ws} {who} m s p e =
     let g = got k s p e in
     ⊎-elim
@@ -153,7 +153,7 @@ readBlocks-take zero b s h = refl
 readBlocks-take (suc n) b s h =
     rw (get-take blockWidths 0 b s (omega arith), drop-take 24 b s, readBlocks-take n (b - 24) (drop 24 s) (omega arith))
 
-module _ {k : Kind} {ws : List ℕ} {who : List ℕ → Reporter} (m : Maker k ws who) (s : List ℕ) (b : ℕ) (h : b ≡ valueOr 0 reportBody (readAs k s)) where
+module _ {k : Kind} {ws : List ℕ} {who : List ℕ → Reporter} (m : ReporterKind k ws who) (s : List ℕ) (b : ℕ) (h : b ≡ valueOr 0 reportBody (readAs k s)) where
   -- where it is refused
   module _ (z : b ≡ 0) where
     gone : readAs k s ≡ refused (refusalIn (readAs k s))
@@ -203,11 +203,11 @@ module _ {k : Kind} {ws : List ℕ} {who : List ℕ → Reporter} (m : Maker k w
         index-past l = rw (is-whole .packet, nth-past i (blocksAt k s b) (rw (length-readBlocks (lowIn s) (drop (least k) (take b s)), ← c) l))
 
         module _ (l : i < n) where
-          pub index-there : (x : ReportBlock) → x ≡ blockView (blockOf (get blockWidths (drop (least k + 24 * i) s))) → ok x ≡ mapOk blockView (readBlockAt k s i)
+          pub index-there : (x : ReportBlock) → x ≡ blockView (blockFrom (get blockWidths (drop (least k + 24 * i) s))) → ok x ≡ mapOk blockView (readBlockAt k s i)
           unfolding readBlockAt _>>=_ mapOk sum
           index-there x q =
               let a = is-whole in
-              let e : nth i (blocksAt k s b) ≡ ok (blockOf (get blockWidths (drop (least k + 24 * i) s))) =
+              let e : nth i (blocksAt k s b) ≡ ok (blockFrom (get blockWidths (drop (least k + 24 * i) s))) =
               nth-readBlocks (lowIn s) i (drop (least k) (take b s)) (omega arith)
               ∙ rw (drop-drop (24 * i) (least k) (take b s), get-take blockWidths (least k + 24 * i) b s (omega arith)) in
               rw (a .packet, e, q)
@@ -267,7 +267,7 @@ pub ruleset fields = (needs, receiver-maker, sender-maker, report-none, report-l
 
 -- ---- what the value that was read tells of the blocks, over the kind and its view
 
-module _ {k : Kind} {ws : List ℕ} {who : List ℕ → Reporter} (m : Maker k ws who) {O : Type 0} (none : O) (view : Packet → O) (bodyIn countIn : O → ℕ) (z : bodyIn none ≡ 0)
+module _ {k : Kind} {ws : List ℕ} {who : List ℕ → Reporter} (m : ReporterKind k ws who) {O : Type 0} (none : O) (view : Packet → O) (bodyIn countIn : O → ℕ) (z : bodyIn none ≡ 0)
     (b : (p : Packet) → bodyIn (view p) ≡ reportBody p) (c : (p : Packet) → countIn (view p) ≡ length (reportBlocks p)) (s : List ℕ) (o : O) (h : o ≡ valueOr none view (readAs k s)) where
   pub value-refused : bodyIn o ≡ 0 → (r : Refusal) → r ≡ refusalIn (readAs k (take (length s - 0) (drop 0 s))) → readAs k s ≡ refused r
   value-refused n r q =
@@ -297,7 +297,7 @@ module _ {k : Kind} {ws : List ℕ} {who : List ℕ → Reporter} (m : Maker k w
 
 -- ---- the parts of an accepted report, by the places of its numbers
 
-module _ {k : Kind} {ws : List ℕ} {who : List ℕ → Reporter} (m : Maker k ws who) (s : List ℕ) (p : Packet) (e : readAs k s ≡ ok p) where
+module _ {k : Kind} {ws : List ℕ} {who : List ℕ → Reporter} (m : ReporterKind k ws who) (s : List ℕ) (p : Packet) (e : readAs k s ≡ ok p) where
   is-packet : packetOf s (reportBody p) (contentAt k ws who s (reportBody p)) ≡ p
   is-packet = let w = whole-is m s p e in ok-injective (sym (w .packet) ∙ e)
 

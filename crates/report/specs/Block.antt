@@ -46,12 +46,12 @@ listOf g [] = []
 listOf g (b ∷ bs) = g b ++ listOf g bs
 
 -- three lists after one block was laid, and after all were
-pub record Laid (b : Block) (i to : ℕ) (f l w f₁ l₁ w₁ : List ℕ) : Type 0 where
+pub record BlockListed (b : Block) (i to : ℕ) (f l w f₁ l₁ w₁ : List ℕ) : Type 0 where
   pub fractions : f₁ ≡ store i (fractionIn b) f
   pub losses : l₁ ≡ store i (lossIn b) l
   pub words : w₁ ≡ store to (wordsIn b) w
 
-pub record LaidAll (bs : List Block) (f l w f₁ l₁ w₁ : List ℕ) : Type 0 where
+pub record BlocksListed (bs : List Block) (f l w f₁ l₁ w₁ : List ℕ) : Type 0 where
   pub fractions : f₁ ≡ store 0 (listOf fractionIn bs) f
   pub losses : l₁ ≡ store 0 (listOf lossIn bs) l
   pub words : w₁ ≡ store 0 (listOf wordsIn bs) w

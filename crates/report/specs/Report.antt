@@ -13,13 +13,13 @@ use Rattle.report.specs.declared.sender.SenderReport.{SenderReport}
 use Rattle.report.specs.declared.sender.ParsedSenderReport.{ParsedSenderReport}
 use Rattle.report.specs.declared.sender.ParsedSenderReport.the-variants as sender
 
-abbrev pub receiverOf : ParsedReceiverReport → Answer ReceiverReport
-receiverOf (receiver.Report r) = ok r
-receiverOf (receiver.Refused e) = refused (parseRefusal e)
+abbrev pub parsedReceiverOf : ParsedReceiverReport → Answer ReceiverReport
+parsedReceiverOf (receiver.Report r) = ok r
+parsedReceiverOf (receiver.Refused e) = refused (parseRefusal e)
 
-abbrev pub senderOf : ParsedSenderReport → Answer SenderReport
-senderOf (sender.Report r) = ok r
-senderOf (sender.Refused e) = refused (parseRefusal e)
+abbrev pub parsedSenderOf : ParsedSenderReport → Answer SenderReport
+parsedSenderOf (sender.Report r) = ok r
+parsedSenderOf (sender.Refused e) = refused (parseRefusal e)
 
 -- what stands before the blocks, in reading order
 abbrev pub fieldsOf : Content → List ℕ

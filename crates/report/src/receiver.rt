@@ -12,7 +12,7 @@ ghost use Rattle.rfc3550.specs.Read.{RR, readAs, readBlockAt};
 ghost use Rattle.utils.specs.Error.{parseRefusal, refusalIn, valueOr};
 ghost use Rattle.utils.specs.List.{listedOf};
 ghost use Rattle.report.specs.Block.{parsedBlockOf, blockView, layBlocks};
-ghost use Rattle.report.specs.Report.{receiverOf, receiverView, noReceiver, reportBody, reportBlocks};
+ghost use Rattle.report.specs.Report.{parsedReceiverOf, receiverView, noReceiver, reportBody, reportBlocks};
 
 // The extension lies between the places extension and body, where the padding starts.
 pub struct ReceiverReport {
@@ -31,7 +31,7 @@ pub enum ParsedReceiverReport {
 impl ParsedReceiverReport {
     // Why it is refused; NothingLeft where it is not.
     pub fn refusal(self) -> RtcpParseError
-        ensures { λ r. ⌜ parseRefusal r ≡ refusalIn (receiverOf self) ⌝ }
+        ensures { λ r. ⌜ parseRefusal r ≡ refusalIn (parsedReceiverOf self) ⌝ }
     {
         match self {
             ParsedReceiverReport::Report(_) => RtcpParseError::NothingLeft,
@@ -114,7 +114,7 @@ impl ReceiverReport {
     }
 
     pub fn parse(s: &[u8]) -> ParsedReceiverReport
-        ensures { λ r. ⌜ receiverOf r ≡ mapOk receiverView (readAs RR (now (s .entry))) ⌝ }
+        ensures { λ r. ⌜ parsedReceiverOf r ≡ mapOk receiverView (readAs RR (now (s .entry))) ⌝ }
     {
         let report = ReceiverReport::read(s);
         if report.body == 0 {

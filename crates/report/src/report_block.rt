@@ -9,9 +9,9 @@ ghost use lib.ListN.{length, drop};
 ghost use Rattle.rfc3550.specs.Answer.{ok, mapOk};
 ghost use Rattle.rfc3550.specs.Bytes.{get};
 ghost use Rattle.rfc3550.specs.Packet.{blockWidths};
-ghost use Rattle.rfc3550.specs.Read.{blockOf, readBlock, readBlocks};
+ghost use Rattle.rfc3550.specs.Read.{blockFrom, readBlock, readBlocks};
 ghost use Rattle.utils.specs.List.{listedOf};
-ghost use Rattle.report.specs.Block.{parsedBlockOf, blockView, layBlocks, Laid, LaidAll};
+ghost use Rattle.report.specs.Block.{parsedBlockOf, blockView, layBlocks, BlockListed, BlocksListed};
 
 pub struct ReportBlock {
     pub ssrc: u32,
@@ -57,7 +57,7 @@ impl ReportBlock {
 // The block at a place, which the caller has checked.
 pub fn parse_block_unchecked(s: &[u8], at: usize) -> ReportBlock
     requires { ⌜ at + 24 ≤ length (now s) ⌝ }
-    ensures { λ r. ⌜ r ≡ blockView (blockOf (get blockWidths (drop at (now (s .entry))))) ⌝ }
+    ensures { λ r. ⌜ r ≡ blockView (blockFrom (get blockWidths (drop at (now (s .entry))))) ⌝ }
 {
     let lost = u32_from_be_bytes(s, at + 4);
     ReportBlock {
@@ -82,7 +82,7 @@ fn list_block_unchecked(
     to: usize,
 )
     requires { ⌜ (at + 24 ≤ length (now s)) × (i < length (now fractions)) × (i < length (now losses)) × (to + 5 ≤ length (now words)) ⌝ }
-    ensures { λ _. ⌜ Laid (blockOf (get blockWidths (drop at (now (s .entry))))) i to (now (fractions .entry)) (now (losses .entry)) (now (words .entry)) (now (fractions .exit)) (now (losses .exit)) (now (words .exit)) ⌝ }
+    ensures { λ _. ⌜ BlockListed (blockFrom (get blockWidths (drop at (now (s .entry))))) i to (now (fractions .entry)) (now (losses .entry)) (now (words .entry)) (now (fractions .exit)) (now (losses .exit)) (now (words .exit)) ⌝ }
 {
     let b = parse_block_unchecked(s, at);
     fractions[i] = b.fraction_lost;
@@ -104,7 +104,7 @@ fn list_all_unchecked(
     words: &mut [u32],
 )
     requires { ⌜ (at + n * 24 ≤ length (now s)) × (n ≤ length (now fractions)) × (n ≤ length (now losses)) × (n * 5 ≤ length (now words)) ⌝ }
-    ensures { λ _. ⌜ LaidAll (readBlocks n (drop at (now (s .entry)))) (now (fractions .entry)) (now (losses .entry)) (now (words .entry)) (now (fractions .exit)) (now (losses .exit)) (now (words .exit)) ⌝ }
+    ensures { λ _. ⌜ BlocksListed (readBlocks n (drop at (now (s .entry)))) (now (fractions .entry)) (now (losses .entry)) (now (words .entry)) (now (fractions .exit)) (now (losses .exit)) (now (words .exit)) ⌝ }
 {
     let mut i: usize = 0;
     while i < n {

@@ -12,7 +12,7 @@ ghost use Rattle.rfc3550.specs.Read.{SR, readAs, readBlockAt};
 ghost use Rattle.utils.specs.Error.{parseRefusal, refusalIn, valueOr};
 ghost use Rattle.utils.specs.List.{listedOf};
 ghost use Rattle.report.specs.Block.{parsedBlockOf, blockView, layBlocks};
-ghost use Rattle.report.specs.Report.{senderOf, senderView, noSender, reportBody, reportBlocks};
+ghost use Rattle.report.specs.Report.{parsedSenderOf, senderView, noSender, reportBody, reportBlocks};
 
 // The extension lies between the places extension and body, where the padding starts.
 pub struct SenderReport {
@@ -35,7 +35,7 @@ pub enum ParsedSenderReport {
 impl ParsedSenderReport {
     // Why it is refused; NothingLeft where it is not.
     pub fn refusal(self) -> RtcpParseError
-        ensures { λ r. ⌜ parseRefusal r ≡ refusalIn (senderOf self) ⌝ }
+        ensures { λ r. ⌜ parseRefusal r ≡ refusalIn (parsedSenderOf self) ⌝ }
     {
         match self {
             ParsedSenderReport::Report(_) => RtcpParseError::NothingLeft,
@@ -126,7 +126,7 @@ impl SenderReport {
     }
 
     pub fn parse(s: &[u8]) -> ParsedSenderReport
-        ensures { λ r. ⌜ senderOf r ≡ mapOk senderView (readAs SR (now (s .entry))) ⌝ }
+        ensures { λ r. ⌜ parsedSenderOf r ≡ mapOk senderView (readAs SR (now (s .entry))) ⌝ }
     {
         let report = SenderReport::read(s);
         if report.body == 0 {

@@ -1,28 +1,28 @@
 -- Report blocks: their losses, by the one that decides, and their bytes, laid one after the other. A turn of a loop takes the next one off.
-use Prim.Native.Nat.{ℕ, zero, suc, _+_, _-_, _*_, _/_, _%_, _<_, _≤_, _^_}
+use Prim.Native.Nat.{ℕ, zero, suc, _+_, _-_, _*_, _/_, _%_, _<_, _≤_}
 use mathlib.Core.Path.{_≡_, refl, sym, ap, _∙_}
-use mathlib.Core.Bool.{Bool, true, false, _&&_}
+use mathlib.Core.Bool.{Bool, true, false}
 use mathlib.Core.List.{List, [], _∷_, _++_}
 use native.Mathlib.Nat.{add-zero, add-assoc}
 use native.Mathlib.Numerals.{add-one}
 use native.Mathlib.Omega.{arith}
 use borrow.Author.Tests.{not-true, not-false, le-leb, lt-leb, leb-true, leb-false, eq-eqb, ne-eqb, eqb-true, eqb-false}
 use lib.ListN.{length, drop, getD, length-append, length-drop, drop-of-length-le}
-use lib.Seq.{drop-cons, drop-drop, getD-drop}
+use lib.Seq.{drop-cons, getD-drop}
 use lib.Bits.{bitOr, or-add-and, and-le-l, and-le-r, or-lt}
 use lib.Dec.{leb, eqb}
-use Rattle.rfc3550.specs.Answer.{Answer, ok, refused, refusal, need, pick, _>>_}
+use Rattle.rfc3550.specs.Answer.{ok, need, pick, _>>_}
 use Rattle.rfc3550.specs.Bytes.{be, put, store}
-use Rattle.rfc3550.proofs.Loss.{lossBits-lt}
-use Rattle.rfc3550.specs.Loss.{Loss, lossBits, lossIn, lossShown, lossMost}
+use Rattle.rfc3550.proofs.Losses.{lossBits-lt}
+use Rattle.rfc3550.specs.Loss.{lossBits, lossIn, lossShown, lossMost}
 use Rattle.rfc3550.specs.Packet.{Block, blockWidths, blockFields, blocksBytes}
-use Rattle.rfc3550.specs.Write.{BlockLists, lentBlocks, blocksLent, blocksAgree, lossTests}
-use Rattle.rfc3550.proofs.Answer.{and-inv}
+use Rattle.rfc3550.specs.Write.{lentBlocks, blocksAgree, lossTests}
+use Rattle.rfc3550.proofs.Answers.{and-inv}
 use Rattle.rfc3550.proofs.Bytes.{length-store}
-use Rattle.rfc3550.proofs.Write.{length-lentBlocks}
+use Rattle.rfc3550.proofs.Writes.{length-lentBlocks}
 use Rattle.utils.proofs.WriterCases.{writer}
 use Rattle.utils.proofs.WriterStores.{store-nil, store-store, stores, be-cons, be-one}
-use Rattle.report_write.specs.Report.{blockLists, blockGiven, laterLoss, decisiveLoss}
+use Rattle.report_write.specs.Report.{blockLists, blockGiven, laterLoss, testedLoss}
 
 -- ---- the loss that decides
 
@@ -35,17 +35,17 @@ unfolding laterLoss
 later-kept x y t e q = sym (rw (← e, q))
 
 module _ (xs : List ℕ) where
-  pub decisive-start : decisiveLoss 0 (drop 0 xs) ≡ decisiveLoss 0 xs
-  decisive-start = refl
+  pub tested-start : testedLoss 0 (drop 0 xs) ≡ testedLoss 0 xs
+  tested-start = refl
 
-  module _ (i x : ℕ) (w : decisiveLoss x (drop i xs) ≡ decisiveLoss 0 xs) where
-    pub decisive-again : (y : ℕ) → i < length xs → y ≡ laterLoss x (getD xs i 0) → decisiveLoss y (drop (i + 1) xs) ≡ decisiveLoss 0 xs
-    unfolding decisiveLoss
-    decisive-again y h e = rw (e, add-one) (rw (drop-cons xs i 0 h) at w)
+  module _ (i x : ℕ) (w : testedLoss x (drop i xs) ≡ testedLoss 0 xs) where
+    pub tested-again : (y : ℕ) → i < length xs → y ≡ laterLoss x (getD xs i 0) → testedLoss y (drop (i + 1) xs) ≡ testedLoss 0 xs
+    unfolding testedLoss
+    tested-again y h e = rw (e, add-one) (rw (drop-cons xs i 0 h) at w)
 
-    pub decisive-done : length xs ≤ i → x ≡ decisiveLoss 0 xs
-    unfolding decisiveLoss
-    decisive-done h = let z : drop i xs ≡ [] = drop-of-length-le xs {i = i} h in rw z at w
+    pub tested-done : length xs ≤ i → x ≡ testedLoss 0 xs
+    unfolding testedLoss
+    tested-done h = let z : drop i xs ≡ [] = drop-of-length-le xs {i = i} h in rw z at w
 
 -- the bits of two fit exactly if both do
 or-most-l : (a b : ℕ) → a ≤ bitOr a b
@@ -70,37 +70,37 @@ merged-fits x y = go (leb x 16777215) refl (leb y 16777215) refl
     go true p true q = let f = leb-true x 16777215 p in let h = leb-true y 16777215 q in let g = or-lt 24 x y (omega arith) (omega arith) in rw (q, le-leb (bitOr x y) 16777215 (omega arith))
 
 -- what decides goes by whether the loss so far fits, and by it where it does not
-decisive-over : (x : ℕ) (xs : List ℕ) → lossIn x ≡ false → decisiveLoss x xs ≡ x
-unfolding decisiveLoss laterLoss
-decisive-over x [] h = refl
-decisive-over x (y ∷ ys) h = rw h (decisive-over x ys h)
+tested-over : (x : ℕ) (xs : List ℕ) → lossIn x ≡ false → testedLoss x xs ≡ x
+unfolding testedLoss laterLoss
+tested-over x [] h = refl
+tested-over x (y ∷ ys) h = rw h (tested-over x ys h)
 
-decisive-same : (x y : ℕ) (xs : List ℕ) → lossIn x ≡ lossIn y → lossIn (decisiveLoss x xs) ≡ lossIn (decisiveLoss y xs)
-unfolding decisiveLoss laterLoss
-decisive-same x y [] h = h
-decisive-same x y (z ∷ zs) h = go (lossIn x) (lossIn y) h (decisive-same x y zs h)
+tested-same : (x y : ℕ) (xs : List ℕ) → lossIn x ≡ lossIn y → lossIn (testedLoss x xs) ≡ lossIn (testedLoss y xs)
+unfolding testedLoss laterLoss
+tested-same x y [] h = h
+tested-same x y (z ∷ zs) h = go (lossIn x) (lossIn y) h (tested-same x y zs h)
   where
-    go : (a b : Bool) → a ≡ b → lossIn (decisiveLoss x zs) ≡ lossIn (decisiveLoss y zs) → lossIn (decisiveLoss (pick a z x) zs) ≡ lossIn (decisiveLoss (pick b z y) zs)
+    go : (a b : Bool) → a ≡ b → lossIn (testedLoss x zs) ≡ lossIn (testedLoss y zs) → lossIn (testedLoss (pick a z x) zs) ≡ lossIn (testedLoss (pick b z y) zs)
     go true b p e = rw (← p)
     go false b p e = rw (← p) e
 
 module _ (xs : List ℕ) where
-  pub merged-start : lossIn (decisiveLoss 0 (drop 0 xs)) ≡ lossIn (decisiveLoss 0 xs)
+  pub merged-start : lossIn (testedLoss 0 (drop 0 xs)) ≡ lossIn (testedLoss 0 xs)
   merged-start = refl
 
-  module _ (i x : ℕ) (w : lossIn (decisiveLoss x (drop i xs)) ≡ lossIn (decisiveLoss 0 xs)) where
-    pub merged-again : (y : ℕ) → i < length xs → y ≡ bitOr x (getD xs i 0) → lossIn (decisiveLoss y (drop (i + 1) xs)) ≡ lossIn (decisiveLoss 0 xs)
-    unfolding decisiveLoss
+  module _ (i x : ℕ) (w : lossIn (testedLoss x (drop i xs)) ≡ lossIn (testedLoss 0 xs)) where
+    pub merged-again : (y : ℕ) → i < length xs → y ≡ bitOr x (getD xs i 0) → lossIn (testedLoss y (drop (i + 1) xs)) ≡ lossIn (testedLoss 0 xs)
+    unfolding testedLoss
     merged-again y h e =
-        rw (add-one) (decisive-same y (laterLoss x (getD xs i 0)) (drop (suc i) xs) (ap lossIn e ∙ merged-fits x (getD xs i 0)) ∙ (rw (drop-cons xs i 0 h) at w))
+        rw (add-one) (tested-same y (laterLoss x (getD xs i 0)) (drop (suc i) xs) (ap lossIn e ∙ merged-fits x (getD xs i 0)) ∙ (rw (drop-cons xs i 0 h) at w))
 
-    pub merged-done : length xs ≤ i → lossIn x ≡ lossIn (decisiveLoss 0 xs)
-    unfolding decisiveLoss
+    pub merged-done : length xs ≤ i → lossIn x ≡ lossIn (testedLoss 0 xs)
+    unfolding testedLoss
     merged-done h = let z : drop i xs ≡ [] = drop-of-length-le xs {i = i} h in rw z at w
 
 -- one loss decides for all
-over-first : (x : ℕ) (xs : List ℕ) → (need (lossIn x) 17 (lossShown x) lossMost >> lossTests xs) ≡ need (lossIn (decisiveLoss x xs)) 17 (lossShown (decisiveLoss x xs)) lossMost
-unfolding lossTests decisiveLoss laterLoss need _>>_
+over-first : (x : ℕ) (xs : List ℕ) → (need (lossIn x) 17 (lossShown x) lossMost >> lossTests xs) ≡ need (lossIn (testedLoss x xs)) 17 (lossShown (testedLoss x xs)) lossMost
+unfolding lossTests testedLoss laterLoss need _>>_
 over-first x [] = go (lossIn x)
   where
     go : (t : Bool) → (need t 17 (lossShown x) lossMost >> ok tt) ≡ need t 17 (lossShown x) lossMost
@@ -108,12 +108,12 @@ over-first x [] = go (lossIn x)
     go false = refl
 over-first x (y ∷ ys) = go (lossIn x) refl (over-first y ys)
   where
-    go : (t : Bool) → lossIn x ≡ t → (need (lossIn y) 17 (lossShown y) lossMost >> lossTests ys) ≡ need (lossIn (decisiveLoss y ys)) 17 (lossShown (decisiveLoss y ys)) lossMost
-        → (need t 17 (lossShown x) lossMost >> (need (lossIn y) 17 (lossShown y) lossMost >> lossTests ys)) ≡ need (lossIn (decisiveLoss (pick t y x) ys)) 17 (lossShown (decisiveLoss (pick t y x) ys)) lossMost
+    go : (t : Bool) → lossIn x ≡ t → (need (lossIn y) 17 (lossShown y) lossMost >> lossTests ys) ≡ need (lossIn (testedLoss y ys)) 17 (lossShown (testedLoss y ys)) lossMost
+        → (need t 17 (lossShown x) lossMost >> (need (lossIn y) 17 (lossShown y) lossMost >> lossTests ys)) ≡ need (lossIn (testedLoss (pick t y x) ys)) 17 (lossShown (testedLoss (pick t y x) ys)) lossMost
     go true p e = e
-    go false p e = rw (decisive-over x ys p, p)
+    go false p e = rw (tested-over x ys p, p)
 
-pub losses-decided : (xs : List ℕ) → lossTests xs ≡ need (lossIn (decisiveLoss 0 xs)) 17 (lossShown (decisiveLoss 0 xs)) lossMost
+pub losses-decided : (xs : List ℕ) → lossTests xs ≡ need (lossIn (testedLoss 0 xs)) 17 (lossShown (testedLoss 0 xs)) lossMost
 unfolding lossIn need _>>_
 losses-decided xs = over-first 0 xs
 
@@ -246,4 +246,4 @@ module _ (at : ℕ) (fs ls ws l : List ℕ) where
     pub lent-done : length fs ≤ i → l₁ ≡ store at (blocksBytes (lentBlocks fs ls ws)) l
     lent-done h = let n = length-lentBlocks fs ls ws in blocks-laid at (lentBlocks fs ls ws) l i l₁ w (omega arith)
 
-pub ruleset blocks = (writer, not-true, not-false, later-next, later-kept, decisive-start, decisive-again, decisive-done, merged-start, merged-again, merged-done, lists-loss, lists-odd, lists-words, agree-losses, agree-words, block-laid, lent-start, lent-room, lent-again, lent-done)
+pub ruleset blocks = (writer, not-true, not-false, later-next, later-kept, tested-start, tested-again, tested-done, merged-start, merged-again, merged-done, lists-loss, lists-odd, lists-words, agree-losses, agree-words, block-laid, lent-start, lent-room, lent-again, lent-done)

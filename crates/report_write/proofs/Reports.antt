@@ -2,19 +2,19 @@
 use Prim.Native.Nat.{ℕ, _+_, _-_, _*_, _^_, _≤_, _<_}
 use mathlib.Core.Path.{_≡_, refl, sym, ap, _∙_}
 use mathlib.Core.Bool.{Bool, true, false}
-use mathlib.Core.List.{List, [], _∷_, _++_, append-nil}
+use mathlib.Core.List.{List, [], _∷_, append-nil}
 use native.Mathlib.Omega.{arith}
 use borrow.Author.Needs.{needs}
 use borrow.Author.Tests.{le-leb, lt-leb, leb-true, not-true, not-false}
 use lib.ListN.{length, take, drop, length-append}
 use lib.Dec.{leb}
-use Rattle.rfc3550.specs.Answer.{Refusal, Answer, ok, refused, refusal, need, _>>_}
+use Rattle.rfc3550.specs.Answer.{Refusal, ok, refused, refusal, need, _>>_}
 use Rattle.rfc3550.specs.Bytes.{be, put, store}
 use Rattle.rfc3550.specs.Loss.{lossIn, lossShown, lossMost}
 use Rattle.rfc3550.specs.Packet.{Block, Reporter, receiver, sender, report, blocksBytes, senderWidths, reporterWidths, reporterFields, contentBytes, type, layout}
-use Rattle.rfc3550.specs.Write.{BlockLists, blocksLent, giveReport, blocksAgree, packetGiven, paddingBytes, paddingOk, lossTests, ownTests, calculateSize, write}
-use Rattle.rfc3550.proofs.Answer.{need-inv}
-use Rattle.rfc3550.proofs.Write.{length-lentBlocks}
+use Rattle.rfc3550.specs.Write.{BlockLists, blocksLent, giveReport, blocksAgree, packetGiven, paddingBytes, paddingOk, ownTests, calculateSize, write}
+use Rattle.rfc3550.proofs.Answers.{need-inv}
+use Rattle.rfc3550.proofs.Writes.{length-lentBlocks}
 use Rattle.utils.specs.Error.{orZero}
 use Rattle.utils.specs.Writer.{header, sizeRefusal}
 use Rattle.utils.proofs.Parts.{lent-again}
@@ -22,7 +22,7 @@ use Rattle.utils.proofs.Sizes.{why-of, size-why, write-why, size-came, size-is,
 use Rattle.utils.proofs.WriterStores.{stores}
 use Rattle.utils.proofs.WriterPackets.{writes, padding-most, sized, size-ok, size-refused, parts-laid, header-long, packet-laid}
 use Rattle.report_write.specs.declared.sender.SenderInfo.{SenderInfo}
-use Rattle.report_write.specs.Report.{senderOf, leastOf, blockLists, decisiveLoss, countedSize, listsSize, ReportFits, headLaid}
+use Rattle.report_write.specs.Report.{senderOf, leastOf, blockLists, testedLoss, countedSize, listsSize, ReportFits, headLaid}
 use Rattle.report_write.proofs.Blocks.{length-blocks, losses-decided, lists-loss, words-differ, lists-agree}
 
 -- ---- the size by what decides
@@ -101,7 +101,7 @@ reason-same least n x k = go (leb n 31) (paddingOk k) (lossIn x)
     go true true true = refl
 
 module _ (l : BlockLists) (k : ℕ) (t : Bool) (a : t ≡ blocksAgree l) where
-  lists-counted : t ≡ true → (least : ℕ) → countedSize least (length (l .fractions)) (decisiveLoss 0 (l .losses)) k ≡ listsSize least l k
+  lists-counted : t ≡ true → (least : ℕ) → countedSize least (length (l .fractions)) (testedLoss 0 (l .losses)) k ≡ listsSize least l k
   unfolding listsSize need _>>_
   lists-counted q least = sym (rw (← a, q))
 
@@ -109,8 +109,8 @@ module _ (l : BlockLists) (k : ℕ) (t : Bool) (a : t ≡ blocksAgree l) where
   unfolding listsSize need _>>_
   lists-none least q = sym (rw (← a, q))
 
-  lists-size : (least x n : ℕ) → t ≡ true → lossIn x ≡ lossIn (decisiveLoss 0 (l .losses)) → n ≡ orZero (countedSize least (length (l .fractions)) x k) → n ≡ orZero (listsSize least l k)
-  lists-size least x n q f e = e ∙ number-same least (length (l .fractions)) x (decisiveLoss 0 (l .losses)) k f ∙ ap orZero (lists-counted q least)
+  lists-size : (least x n : ℕ) → t ≡ true → lossIn x ≡ lossIn (testedLoss 0 (l .losses)) → n ≡ orZero (countedSize least (length (l .fractions)) x k) → n ≡ orZero (listsSize least l k)
+  lists-size least x n q f e = e ∙ number-same least (length (l .fractions)) x (testedLoss 0 (l .losses)) k f ∙ ap orZero (lists-counted q least)
 
 -- of lists whose lengths are tested one by one, after the number of blocks
 module _ (fs ls ws : List ℕ) (k least : ℕ) where
@@ -122,7 +122,7 @@ module _ (fs ls ws : List ℕ) (k least : ℕ) where
     where
       go : (t : Bool) → t ≡ blocksAgree lent → 0 ≡ orZero (listsSize least lent k)
       go false a = lists-none lent k false a least refl
-      go true a = count-none (length fs) (decisiveLoss 0 ls) k least h ∙ ap orZero (lists-counted lent k true a refl least)
+      go true a = count-none (length fs) (testedLoss 0 ls) k least h ∙ ap orZero (lists-counted lent k true a refl least)
 
   pub losses-other : (length ls ≡ length fs → ⊥) → 0 ≡ orZero (listsSize least lent k)
   losses-other h = lists-none lent k false (lists-loss fs ls ws h) least refl
@@ -131,7 +131,7 @@ module _ (fs ls ws : List ℕ) (k least : ℕ) where
     pub words-other : (length ws ≡ length fs * 5 → ⊥) → 0 ≡ orZero (listsSize least lent k)
     words-other q = lists-none lent k false (words-differ fs ls ws h (λ e. q (omega arith))) least refl
 
-    pub lists-tested : (x n : ℕ) → length ws ≡ length fs * 5 → lossIn x ≡ lossIn (decisiveLoss 0 ls) → n ≡ orZero (countedSize least (length fs) x k) → n ≡ orZero (listsSize least lent k)
+    pub lists-tested : (x n : ℕ) → length ws ≡ length fs * 5 → lossIn x ≡ lossIn (testedLoss 0 ls) → n ≡ orZero (countedSize least (length fs) x k) → n ≡ orZero (listsSize least lent k)
     lists-tested x n q = lists-size lent k true (lists-agree fs ls ws h q) least x n refl
 
 -- ---- over the reporter
@@ -153,9 +153,9 @@ module _ (r : Reporter) (l : BlockLists) where
   module _ (k : ℕ) where
     pub lists-report : listsSize (leastOf r) l k ≡ calculateSize (giveReport r l k)
     unfolding listsSize countedSize ownTests need _>>_
-    lists-report = go (blocksAgree l) refl (leb (length (l .fractions)) 31) refl (paddingOk k) refl (lossIn (decisiveLoss 0 (l .losses))) refl
+    lists-report = go (blocksAgree l) refl (leb (length (l .fractions)) 31) refl (paddingOk k) refl (lossIn (testedLoss 0 (l .losses))) refl
       where
-        go : (a : Bool) → blocksAgree l ≡ a → (b : Bool) → leb (length (l .fractions)) 31 ≡ b → (c : Bool) → paddingOk k ≡ c → (d : Bool) → lossIn (decisiveLoss 0 (l .losses)) ≡ d → listsSize (leastOf r) l k ≡ calculateSize (giveReport r l k)
+        go : (a : Bool) → blocksAgree l ≡ a → (b : Bool) → leb (length (l .fractions)) 31 ≡ b → (c : Bool) → paddingOk k ≡ c → (d : Bool) → lossIn (testedLoss 0 (l .losses)) ≡ d → listsSize (leastOf r) l k ≡ calculateSize (giveReport r l k)
         go false e b f c g d h = simp e (size-refused (giveReport r l k) (simp e))
         go true e false f c g d h = simp (e, f) (size-refused (giveReport r l k) (simp (e, f)))
         go true e true f false g d h = simp (e, f, g) (size-refused (giveReport r l k) (simp (e, f, g)))
@@ -178,7 +178,7 @@ module _ (l : BlockLists) (k : ℕ) (q r : Reporter) where
       n = length (l .fractions)
 
       x : ℕ
-      x = decisiveLoss 0 (l .losses)
+      x = testedLoss 0 (l .losses)
 
       go : (a : Bool) → sizeRefusal (need a 24 0 0 >> countedSize (leastOf q) n x k) ≡ sizeRefusal (need a 24 0 0 >> countedSize (leastOf r) n x k)
       go false = refl
@@ -189,7 +189,7 @@ module _ (l : BlockLists) (k : ℕ) (t : Bool) (a : t ≡ blocksAgree l) where
   unfolding listsSize need _>>_
   agree-why q r = rw (← lists-report r l k, ← a, q)
 
-  pub lists-why : (x : ℕ) (v : Refusal) → t ≡ true → x ≡ decisiveLoss 0 (l .losses) → v ≡ sizeRefusal (countedSize 0 (length (l .fractions)) x k) → (r : Reporter) → v ≡ sizeRefusal (calculateSize (giveReport r l k))
+  pub lists-why : (x : ℕ) (v : Refusal) → t ≡ true → x ≡ testedLoss 0 (l .losses) → v ≡ sizeRefusal (countedSize 0 (length (l .fractions)) x k) → (r : Reporter) → v ≡ sizeRefusal (calculateSize (giveReport r l k))
   lists-why x v q f h r =
       h ∙ reason-same (leastOf r) (length (l .fractions)) x k ∙ ap (λ (y : ℕ). sizeRefusal (countedSize (leastOf r) (length (l .fractions)) y k)) f
       ∙ ap sizeRefusal (lists-counted l k t a q (leastOf r) ∙ lists-report r l k)

@@ -35,9 +35,9 @@ blockGiven ssrc fraction lost sequence jitter lsr dlsr = record { ssrc = ssrc; f
 unfoldable pub laterLoss : Loss → Loss → Loss
 laterLoss x y = pick (lossIn x) y x
 
-unfoldable pub decisiveLoss : Loss → List Loss → Loss
-decisiveLoss x [] = x
-decisiveLoss x (y ∷ ys) = decisiveLoss (laterLoss x y) ys
+unfoldable pub testedLoss : Loss → List Loss → Loss
+testedLoss x [] = x
+testedLoss x (y ∷ ys) = testedLoss (laterLoss x y) ys
 
 -- 18, 11, then 17 by the loss that decides
 unfoldable pub countedSize : ℕ → ℕ → Loss → ℕ → Answer ℕ
@@ -51,7 +51,7 @@ countedSize least count loss k = do
 unfoldable pub listsSize : ℕ → BlockLists → ℕ → Answer ℕ
 listsSize least l k = do
   need (blocksAgree l) 24 0 0
-  countedSize least (length (l .fractions)) (decisiveLoss 0 (l .losses)) k
+  countedSize least (length (l .fractions)) (testedLoss 0 (l .losses)) k
 
 -- ---- what is laid
 

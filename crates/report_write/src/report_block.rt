@@ -13,7 +13,7 @@ ghost use Rattle.rfc3550.specs.Packet.{receiver, blockWidths, blockFields, bloc
 ghost use Rattle.rfc3550.specs.Write.{giveReport, blocksLent, blocksAgree, calculateSize};
 ghost use Rattle.utils.specs.Error.{orZero, writeRefusal};
 ghost use Rattle.utils.specs.Writer.{sizeRefusal};
-ghost use Rattle.report_write.specs.Report.{blockLists, blockGiven, laterLoss, decisiveLoss, countedSize, listsSize};
+ghost use Rattle.report_write.specs.Report.{blockLists, blockGiven, laterLoss, testedLoss, countedSize, listsSize};
 
 const MAX_BLOCKS: u8 = 31;
 
@@ -28,8 +28,8 @@ pub fn later_loss(loss: u32, next: u32) -> u32
 }
 
 // The first loss that does not fit, or else the last one.
-fn decisive_loss(losses: &[u32]) -> u32
-    ensures { λ r. ⌜ r ≡ decisiveLoss 0 (now (losses .entry)) ⌝ }
+fn tested_loss(losses: &[u32]) -> u32
+    ensures { λ r. ⌜ r ≡ testedLoss 0 (now (losses .entry)) ⌝ }
 {
     let n = losses.len();
     let mut i: usize = 0;
@@ -43,7 +43,7 @@ fn decisive_loss(losses: &[u32]) -> u32
 
 // The bits of all losses: it fits exactly if all of them do, and is found without a branch for each.
 fn merged_losses(losses: &[u32]) -> u32
-    ensures { λ r. ⌜ lossIn r ≡ lossIn (decisiveLoss 0 (now (losses .entry))) ⌝ }
+    ensures { λ r. ⌜ lossIn r ≡ lossIn (testedLoss 0 (now (losses .entry))) ⌝ }
 {
     let n = losses.len();
     let mut i: usize = 0;
@@ -131,7 +131,7 @@ pub fn why_size(fractions: &[u8], losses: &[u32], words: &[u32], padding: u64) -
     if !check_lists(fractions, losses, words) {
         return RtcpWriteError::ListsDisagree;
     }
-    why_count(fractions.len(), decisive_loss(losses), padding)
+    why_count(fractions.len(), tested_loss(losses), padding)
 }
 
 // Lays a block of these seven numbers at index at: fraction lost and the 24 bits of cumulative lost are one word.

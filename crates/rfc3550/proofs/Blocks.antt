@@ -6,11 +6,11 @@ use native.Mathlib.Omega.{arith}
 use lib.ListN.{length, drop, length-append, length-drop}
 use lib.Seq.{drop-at, drop-drop}
 use Rattle.rfc3550.specs.Bytes.{Bytes, put, get, Fits, sum}
-use Rattle.rfc3550.specs.Loss.{lossBits, lossOf, LossFits}
+use Rattle.rfc3550.specs.Loss.{LossFits}
 use Rattle.rfc3550.specs.Packet.{Block, All, blockWidths, blockFields, blocksBytes, BlockValid}
-use Rattle.rfc3550.specs.Read.{blockOf, readBlocks}
+use Rattle.rfc3550.specs.Read.{blockFrom, readBlocks}
 use Rattle.rfc3550.proofs.Bytes.{get-put, put-get, fits-get, length-put, bytes-drop}
-use Rattle.rfc3550.proofs.Loss.{lossBits-lossOf, lossOf-lossBits, lossOf-fits}
+use Rattle.rfc3550.proofs.Losses.{lossBits-lossOf, lossOf-lossBits, lossOf-fits}
 
 abbrev blockBytes : Block → List ℕ
 blockBytes b = put blockWidths (blockFields b)
@@ -25,7 +25,7 @@ length-blocksBytes [] h = refl
 length-blocksBytes (b ∷ bs) h = rw length-append (omega (arith, length-block b (h .0), length-blocksBytes bs (h .1)))
 
 -- the fields of a block give it back
-block-fields : (b : Block) → LossFits (b .lost) → blockOf (blockFields b) ≡ b
+block-fields : (b : Block) → LossFits (b .lost) → blockFrom (blockFields b) ≡ b
 block-fields b h = ap (λ (l : _). record { ssrc = b .ssrc; fraction = b .fraction; lost = l; sequence = b .sequence; jitter = b .jitter; lsr = b .lsr; dlsr = b .dlsr }) (lossOf-lossBits (b .lost) h)
 
 pub blocks-complete : (bs : List Block) (e : List ℕ) → All BlockValid bs → readBlocks (length bs) (blocksBytes bs ++ e) ≡ bs
@@ -40,11 +40,11 @@ pub record Blocks (n : ℕ) (s : List ℕ) : Type 0 where
   pub count : length (readBlocks n s) ≡ n
 
 -- a block's fields are the seven numbers that were got
-fields-got : (s : List ℕ) → 24 ≤ length s → Bytes s → blockFields (blockOf (get blockWidths s)) ≡ get blockWidths s
+fields-got : (s : List ℕ) → 24 ≤ length s → Bytes s → blockFields (blockFrom (get blockWidths s)) ≡ get blockWidths s
 unfolding get sum
 fields-got s l h = rw (lossBits-lossOf _ (fits-get blockWidths s l h .1 .1 .0))
 
-pub block-sound : (s : List ℕ) → 24 ≤ length s → Bytes s → BlockValid (blockOf (get blockWidths s)) × (put blockWidths (blockFields (blockOf (get blockWidths s))) ++ drop 24 s ≡ s)
+pub block-sound : (s : List ℕ) → 24 ≤ length s → Bytes s → BlockValid (blockFrom (get blockWidths s)) × (put blockWidths (blockFields (blockFrom (get blockWidths s))) ++ drop 24 s ≡ s)
 unfolding sum get
 block-sound s l h =
     let e = fields-got s l h in

@@ -1,10 +1,10 @@
 -- Laws of big-endian numbers and of fields in a row, over the width.
-use Prim.Native.Nat.{ℕ, zero, suc, _+_, _-_, _*_, _/_, _%_, _^_, _<_, _≤_}
-use mathlib.Core.Path.{_≡_, refl, sym, ap, _∙_, subst}
+use Prim.Native.Nat.{ℕ, zero, suc, _+_, _-_, _*_, _%_, _^_, _<_, _≤_}
+use mathlib.Core.Path.{_≡_, refl, sym, ap, subst}
 use mathlib.Core.List.{List, [], _∷_, _++_, append-assoc}
 use native.Mathlib.Nat.{zero-add, mod-lt, div-add-mod', one-le-pow, pow-suc}
 use native.Mathlib.Omega.{arith}
-use lib.ListN.{length, take, drop, getD, replicate, length-append, length-drop, take-append-drop, length-replicate}
+use lib.ListN.{length, take, drop, getD, replicate, length-append, length-drop, take-append-drop}
 use lib.Seq.{take-at, drop-at, length-take-le, drop-drop}
 use lib.Arith.{digits-lt, digits-div, digits-mod}
 use Rattle.rfc3550.specs.Bytes.{Bytes, be, val, put, get, Fits, sum, store}

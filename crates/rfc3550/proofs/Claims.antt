@@ -1,25 +1,24 @@
 -- What is promised to the buyer, each claim stated whole. Demand 3 comes last.
-use Prim.Native.Nat.{ℕ, _^_, _<_}
-use mathlib.Core.Path.{_≡_, refl, sym, ap, _∙_}
+use Prim.Native.Nat.{ℕ}
+use mathlib.Core.Path.{_≡_, refl}
 use mathlib.Core.Logic.{_↔_}
-use mathlib.Core.List.{List, [], _∷_, map}
-use lib.ListN.{length}
-use Rattle.rfc3550.specs.Answer.{Refusal, Answer, ok, refused, after}
+use mathlib.Core.List.{List, [], map}
+use Rattle.rfc3550.specs.Answer.{Refusal, ok, refused}
 use Rattle.rfc3550.specs.Bytes.{Bytes}
-use Rattle.rfc3550.specs.Packet.{Chunk, chunkBytes, Packet, layout, layouts, chunksOf, All, Valid, Compound}
+use Rattle.rfc3550.specs.Packet.{Chunk, Packet, layout, layouts, chunksOf, All, Valid, Compound}
 use Rattle.rfc3550.specs.Read.{Kind, SDES, kindFor, nth, readChunk, readAs}
 use Rattle.rfc3550.specs.Compound.{readCompound}
 use Rattle.rfc3550.specs.Walk.{openWalk, step, SdesWalk, openSdes, sdesStep, openItems, itemStep, gave, walked}
 use Rattle.rfc3550.specs.Write.{Given, Typed, packetGiven, write}
-use Rattle.rfc3550.specs.Writer.{Writer, fresh, Request, add, close, addTests, closeTests, call}
+use Rattle.rfc3550.specs.Writer.{Writer, fresh, Request, add, close, call}
 use Rattle.rfc3550.specs.Book.{empty}
-use Rattle.rfc3550.specs.Claim.{Event, Made, answers, fed, booked, compounds}
-use Rattle.rfc3550.proofs.Packet
-use Rattle.rfc3550.proofs.Compound as C
-use Rattle.rfc3550.proofs.Walk as W
-use Rattle.rfc3550.proofs.Write.{Wrote}
-use Rattle.rfc3550.proofs.Write as Writes
-use Rattle.rfc3550.proofs.Claim as Calls
+use Rattle.rfc3550.specs.Calls.{Event, Made, answers, bookInput, booked, compounds}
+use Rattle.rfc3550.proofs.Packets
+use Rattle.rfc3550.proofs.Compounds as C
+use Rattle.rfc3550.proofs.Walks as W
+use Rattle.rfc3550.proofs.Writes.{Wrote}
+use Rattle.rfc3550.proofs.Writes as Writes
+use Rattle.rfc3550.proofs.Calls as Calls
 
 -- ---- demand 1: a refused write changes no byte, and a refused call changes no state
 
@@ -35,10 +34,10 @@ refused-call close w l r e = rw e (refl, refl)
 
 -- the reading gives p of bytes exactly when p is valid, of that kind, and laid out as those bytes
 pub reading : (k : Kind) (s : List ℕ) (p : Packet) → Bytes s → (readAs k s ≡ ok p) ↔ (Valid p × (kindFor (p .content) ≡ k) × (layout p ≡ s))
-reading k s p h = Packet.packet-iff k s p h
+reading k s p h = Packets.packet-iff k s p h
 
 pub one-packet : (p q : Packet) → Valid p → Valid q → layout p ≡ layout q → p ≡ q
-one-packet p q v w e = Packet.layout-injective p q v w e
+one-packet p q v w e = Packets.layout-injective p q v w e
 
 -- a write not refused lays down the layout of the packet given, its size is the bytes' number, and all else in the buffer is as it was
 pub writing : (g : Given) (l : List ℕ) (n : ℕ) → Typed g → write g l .0 ≡ ok n → Valid (packetGiven g) × Wrote (layout (packetGiven g)) l n (write g l .1)
@@ -47,7 +46,7 @@ writing g l n t e = Writes.write-lays g l t e
 -- and it is read back
 pub written-reads-back : (g : Given) (l : List ℕ) (n : ℕ) → Typed g → write g l .0 ≡ ok n
     → readAs (kindFor (packetGiven g .content)) (layout (packetGiven g)) ≡ ok (packetGiven g)
-written-reads-back g l n t e = Packet.packet-complete (packetGiven g) (Writes.write-lays g l t e .0)
+written-reads-back g l n t e = Packets.packet-complete (packetGiven g) (Writes.write-lays g l t e .0)
 
 -- ---- demand 3: the compound reader accepts exactly the datagrams that some list of packets has, and no other list has them
 
@@ -74,5 +73,5 @@ walking-items s x h e = W.item-walk-gives s x h e
 
 -- for every list of the writer's calls from a fresh writer, refused ones included: each answer is the book's, after it the datagram so far is
 -- the book's packets laid end to end, and once closed it is accepted and read as exactly these
-pub calls : (es : List (Event compounds)) → Made compounds es fresh [] → answers compounds es [] ≡ booked compounds (map (fed compounds) es) empty
+pub calls : (es : List (Event compounds)) → Made compounds es fresh [] → answers compounds es [] ≡ booked compounds (map (bookInput compounds) es) empty
 calls es m = Calls.demand3 es m

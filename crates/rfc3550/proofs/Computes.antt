@@ -1,13 +1,12 @@
 -- The definitions compute: a compound of 3 kB is read by evaluation alone.
-use Prim.Native.Nat.{ℕ, zero, suc}
+use Prim.Native.Nat.{ℕ}
 use mathlib.Core.Path.{_≡_, refl}
-use mathlib.Core.Bool.{Bool, true, false}
 use mathlib.Core.List.{List, [], _∷_, _++_}
 use lib.ListN.{length, replicate}
-use Rattle.rfc3550.specs.Answer.{Answer, ok, refused, need, _>>_, _>>=_, mapOk}
+use Rattle.rfc3550.specs.Answer.{ok, need, _>>_, _>>=_}
 use Rattle.rfc3550.specs.Bytes.{be, val, put, get, sum}
 use Rattle.rfc3550.specs.Loss.{lossBits, lossOf}
-use Rattle.rfc3550.specs.Packet.{Block, Item, item, Chunk, receiver, Content, report, sdes, Packet, layout, layouts, blocksBytes, itemsBytes, chunkBytes, chunksBytes, contentBytes}
+use Rattle.rfc3550.specs.Packet.{Block, item, receiver, report, sdes, Packet, layout, layouts, blocksBytes, itemsBytes, chunkBytes, chunksBytes, contentBytes}
 use Rattle.rfc3550.specs.Read.{kindOf, versionIn, padded, lowIn, typeIn, stated, paddingCount, paddingFits, checkHeader, readBlocks, readReport, itemOf, readItem, readFill, readItems, readChunk, readChunks, readContent, readAs}
 use Rattle.rfc3550.specs.Compound.{readPacket, readPackets, readCompound}
 

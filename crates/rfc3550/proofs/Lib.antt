@@ -1,16 +1,16 @@
 -- Laws and theorems about the definitions; Claims holds the promises.
-pub mod Answer
+pub mod Answers
 pub mod Bytes
-pub mod Loss
+pub mod Losses
 pub mod Blocks
-pub mod Sdes
-pub mod Content
-pub mod Packet
-pub mod Compound
-pub mod Walk
-pub mod Write
-pub mod Book
-pub mod Claim
+pub mod Chunks
+pub mod Contents
+pub mod Packets
+pub mod Compounds
+pub mod Walks
+pub mod Writes
+pub mod Books
+pub mod Calls
 pub mod Returned
 pub mod Places
 pub mod Rows

@@ -6,17 +6,17 @@ use native.Mathlib.Omega.{arith}
 use lib.ListN.{length, take, drop, replicate, length-append}
 use lib.Seq.{take-at, drop-at}
 use lib.Dec.{eqb}
-use Rattle.rfc3550.specs.Answer.{Answer, ok}
+use Rattle.rfc3550.specs.Answer.{ok}
 use Rattle.rfc3550.specs.Bytes.{Bytes, be, put, Fits, sum}
-use Rattle.rfc3550.specs.Packet.{Block, Reporter, receiver, sender, Item, item, priv, itemRest, itemBytes, Chunk, chunkBytes, Leaving, no-reason, reason, Content, report, bye, app, unknown, Packet, reporterWidths, reporterFields, blocksBytes, contentBytes, paddingBit, lowBits, type, layout, ContentValid}
+use Rattle.rfc3550.specs.Packet.{Block, Reporter, receiver, sender, item, priv, itemRest, itemBytes, Chunk, chunkBytes, no-reason, reason, report, bye, app, unknown, Packet, reporterWidths, reporterFields, blocksBytes, contentBytes, paddingBit, lowBits, type, layout, ContentValid}
 use Rattle.rfc3550.specs.Read.{least, kindFor, stated, readChunk}
 use Rattle.rfc3550.specs.Compound.{readPacket}
 use Rattle.rfc3550.specs.Walk.{step, SdesWalk, sdesStep}
-use Rattle.rfc3550.proofs.Answer.{need-inv, bind-elim, ok-injective}
+use Rattle.rfc3550.proofs.Answers.{need-inv, bind-elim, ok-injective}
 use Rattle.rfc3550.proofs.Bytes.{length-be, length-put, sum-replicate, bytes-take, bytes-drop}
 use Rattle.rfc3550.proofs.Blocks.{length-blocksBytes}
-use Rattle.rfc3550.proofs.Sdes.{chunk-sound}
-use Rattle.rfc3550.proofs.Packet.{packet-sound}
+use Rattle.rfc3550.proofs.Chunks.{chunk-sound}
+use Rattle.rfc3550.proofs.Packets.{packet-sound}
 
 pub at-place : (pre x rest : List ℕ) (at len : ℕ) {s : List ℕ} → pre ++ (x ++ rest) ≡ s → length pre ≡ at → length x ≡ len → take len (drop at s) ≡ x
 at-place pre x rest at len e n m = ap (λ (s : List ℕ). take len (drop at s)) (sym e) ∙ rw (drop-at pre (x ++ rest) at n) (take-at x rest len m)

@@ -5,7 +5,7 @@ use mathlib.Core.List.{List, [], _∷_, _++_}
 use lib.ListN.{replicate}
 use Rattle.rfc3550.specs.Answer.{Answer, ok, refuse, need, _>>_, _>>=_}
 use Rattle.rfc3550.specs.Bytes.{be, val, put, get, sum, store}
-use Rattle.rfc3550.specs.Packet.{Item, item, Chunk, receiver, Content, report, sdes, Packet, All, blocksBytes, itemsBytes, chunkBytes, chunksBytes, contentBytes, layout}
+use Rattle.rfc3550.specs.Packet.{item, receiver, Content, report, sdes, Packet, All, blocksBytes, itemsBytes, chunkBytes, chunksBytes, contentBytes, layout}
 use Rattle.rfc3550.specs.Read.{Kind, RR, SDES, kindOf, versionIn, padded, lowIn, typeIn, stated, paddingCount, paddingFits, checkHeader, readBlocks, readReport, itemOf, readItem, readFill, readItems, readChunk, readChunks, readContent, readAs}
 use Rattle.rfc3550.specs.Write.{Given, giveBye, ownTests, tests, calculateSize, room, write}
 use Rattle.rfc3550.specs.Compound.{readPacket, readPackets, readCompound}

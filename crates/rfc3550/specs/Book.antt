@@ -9,7 +9,7 @@ use Rattle.rfc3550.specs.Answer.{Answer, ok, refuse, after, capped, pick
 use Rattle.rfc3550.specs.Bytes.{sum}
 use Rattle.rfc3550.specs.Loss.{Loss, lossOver, lossShown, lossMost}
 use Rattle.rfc3550.specs.Packet.{Packet, layout, type, some, hasCname}
-use Rattle.rfc3550.specs.Write.{BlockLists, Lists, LentItem, lentItems, Given, giveReport, giveSdes, giveBye, giveApp, packetGiven, contentGiven}
+use Rattle.rfc3550.specs.Write.{BlockLists, Lists, LentItem, lentItems, Given, giveReport, giveSdes, giveBye, giveApp, packetGiven}
 use Rattle.rfc3550.specs.Writer.{Request, add, close}
 
 pub record Fault : Type 0 where

@@ -9,5 +9,5 @@ pub mod Compound
 pub mod Walk
 pub mod Writer
 pub mod Book
-pub mod Claim
+pub mod Calls
 pub mod Returned

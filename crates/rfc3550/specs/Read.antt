@@ -4,7 +4,7 @@ use mathlib.Core.Bool.{Bool, true, false, _&&_, _||_, not}
 use mathlib.Core.List.{List, [], _∷_}
 use lib.ListN.{length, replicate, getD, take, drop}
 use lib.Dec.{leb, ltb, eqb}
-use Rattle.rfc3550.specs.Answer.{Answer, ok, refuse, _>>=_, _>>_, need, mapOk, pick}
+use Rattle.rfc3550.specs.Answer.{Answer, ok, refuse, _>>=_, _>>_, need, pick}
 use Rattle.rfc3550.specs.Bytes.{val, get, sum}
 use Rattle.rfc3550.specs.Loss.{lossOf}
 use Rattle.rfc3550.specs.Packet.{Block, Reporter, receiver, sender, Item, item, priv, Chunk, Leaving, no-reason, reason, Content, report, sdes, bye, app, unknown, Packet, blockWidths, receiverWidths, senderWidths, itemBytes, fill, known}
@@ -94,18 +94,18 @@ checkPacket k s = checkHeader (least k) (ofKind k (typeIn s) (lowIn s)) (mismatc
 
 -- ---- SR, RR: the blocks
 
-abbrev pub blockOf : List ℕ → Block
-blockOf f = record { ssrc = getD f 0 0; fraction = getD f 1 0; lost = lossOf (getD f 2 0); sequence = getD f 3 0; jitter = getD f 4 0; lsr = getD f 5 0; dlsr = getD f 6 0 }
+abbrev pub blockFrom : List ℕ → Block
+blockFrom f = record { ssrc = getD f 0 0; fraction = getD f 1 0; lost = lossOf (getD f 2 0); sequence = getD f 3 0; jitter = getD f 4 0; lsr = getD f 5 0; dlsr = getD f 6 0 }
 
 unfoldable pub readBlocks : ℕ → List ℕ → List Block
 readBlocks zero s = []
-readBlocks (suc n) s = blockOf (get blockWidths s) ∷ readBlocks n (drop 24 s)
+readBlocks (suc n) s = blockFrom (get blockWidths s) ∷ readBlocks n (drop 24 s)
 
-abbrev pub receiverOf : List ℕ → Reporter
-receiverOf f = receiver (getD f 0 0)
+abbrev pub receiverFrom : List ℕ → Reporter
+receiverFrom f = receiver (getD f 0 0)
 
-abbrev pub senderOf : List ℕ → Reporter
-senderOf f = sender (getD f 0 0) (getD f 1 0) (getD f 2 0) (getD f 3 0) (getD f 4 0)
+abbrev pub senderFrom : List ℕ → Reporter
+senderFrom f = sender (getD f 0 0) (getD f 1 0) (getD f 2 0) (getD f 3 0) (getD f 4 0)
 
 -- from the bytes of the body after the header: the reporter's fields, n blocks, the extension
 unfoldable pub readReport : List ℕ → (List ℕ → Reporter) → ℕ → List ℕ → Answer Content
@@ -177,8 +177,8 @@ readLeaving at body (len ∷ s) = do
 -- ---- every kind, from the low 5 bits, the type and the bytes of the body after the header
 
 unfoldable pub readContent : Kind → ℕ → ℕ → List ℕ → Answer Content
-readContent SR n t s = readReport senderWidths senderOf n s
-readContent RR n t s = readReport receiverWidths receiverOf n s
+readContent SR n t s = readReport senderWidths senderFrom n s
+readContent RR n t s = readReport receiverWidths receiverFrom n s
 readContent SDES n t s = do
   cs ← readChunks n (4 + length s) s
   ok (sdes cs)
@@ -202,7 +202,7 @@ unfoldable pub readBlock : List ℕ → Answer Block
 readBlock s = do
   need (leb 24 (length s)) 2 24 (length s)
   need (leb (length s) 24) 3 24 (length s)
-  ok (blockOf (get blockWidths s))
+  ok (blockFrom (get blockWidths s))
 
 -- element i, from 0; 25 past the last
 abbrev pub nth : {A : Type 0} → ℕ → List A → Answer A

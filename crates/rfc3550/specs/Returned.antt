@@ -3,7 +3,7 @@
 use Prim.Native.Nat.{ℕ, zero, suc}
 use mathlib.Core.List.{List, [], _∷_}
 use Rattle.rfc3550.specs.Answer.{Answer}
-use Rattle.rfc3550.specs.Claim.{System, Event}
+use Rattle.rfc3550.specs.Calls.{System, Event}
 
 -- ---- steps of a walk
 
@@ -22,9 +22,9 @@ module _ (k : Stepper) where
   Ran (r ∷ rs) h = k .Meets h r × Ran rs (k .next h r)
 
   -- what is seen of each answer, from it and the walk that was handed in
-  abbrev pub seenOf : {B : Type 0} → (k .H → k .R → B) → List (k .R) → k .H → List B
-  seenOf see [] h = []
-  seenOf see (r ∷ rs) h = see h r ∷ seenOf see rs (k .next h r)
+  abbrev pub shownOf : {B : Type 0} → (k .H → k .R → B) → List (k .R) → k .H → List B
+  shownOf see [] h = []
+  shownOf see (r ∷ rs) h = see h r ∷ shownOf see rs (k .next h r)
 
 -- the first n of f 0, f 1, ..
 abbrev pub firsts : {B : Type 0} → ℕ → (ℕ → B) → List B

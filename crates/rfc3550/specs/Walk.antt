@@ -2,7 +2,7 @@
 -- refusal leaves the walk as before. Any position may be handed in, and any bytes.
 use Prim.Native.Nat.{ℕ, zero, suc, _+_, _-_}
 use mathlib.Core.Bool.{not}
-use mathlib.Core.List.{List, [], _∷_}
+use mathlib.Core.List.{List}
 use lib.ListN.{length, getD, take, drop}
 use lib.Dec.{ltb, eqb}
 use Rattle.rfc3550.specs.Answer.{Answer, ok, refused, _>>=_, _>>_, need}
@@ -62,10 +62,10 @@ module _ {A W : Type 0} where
   gave (ok x) = ok (x .0)
   gave (refused r) = refused r
 
-  abbrev pub moved : W → Answer (A × W) → W
-  moved w (ok x) = x .1
-  moved w (refused r) = w
+  abbrev pub walkAfter : W → Answer (A × W) → W
+  walkAfter w (ok x) = x .1
+  walkAfter w (refused r) = w
 
   abbrev pub walked : (W → Answer (A × W)) → W → ℕ → W
   walked step w zero = w
-  walked step w (suc i) = walked step (moved w (step w)) i
+  walked step w (suc i) = walked step (walkAfter w (step w)) i

@@ -1,10 +1,10 @@
 -- Document 01, "Writing one packet": what a call is given, its order of refusals, the packet that it writes, the buffer afterwards.
 use Prim.Native.Nat.{ℕ, zero, suc, _+_, _-_, _*_, _%_, _^_, _<_}
-use mathlib.Core.Bool.{Bool, true, false, _&&_, _||_, not}
+use mathlib.Core.Bool.{Bool, true, _&&_, _||_, not}
 use mathlib.Core.List.{List, [], _∷_, _++_, map}
 use lib.ListN.{length, replicate, getD, take, drop}
 use lib.Dec.{leb, eqb}
-use Rattle.rfc3550.specs.Answer.{Answer, ok, refuse, _>>=_, _>>_, need, after, pick}
+use Rattle.rfc3550.specs.Answer.{Answer, ok, _>>=_, _>>_, need, after, pick}
 use Rattle.rfc3550.specs.Bytes.{Bytes, Fits, sum, store}
 use Rattle.rfc3550.specs.Loss.{Loss, noLoss, LossTyped, lossIn, lossShown, lossMost}
 use Rattle.rfc3550.specs.Packet.{Block, Reporter, Item, item, priv, Chunk, Leaving, no-reason, reason, Content, report, sdes, bye, app, Packet, All, reporterWidths, reporterFields, itemBytes, chunkBytes, layout}

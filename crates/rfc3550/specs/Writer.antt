@@ -5,7 +5,7 @@ use mathlib.Core.Bool.{Bool, true, false, _||_, not}
 use mathlib.Core.List.{List}
 use lib.ListN.{length}
 use lib.Dec.{leb, ltb}
-use Rattle.rfc3550.specs.Answer.{Answer, ok, _>>_, need, after, capped}
+use Rattle.rfc3550.specs.Answer.{Answer, _>>_, need, after, capped}
 use Rattle.rfc3550.specs.Bytes.{store}
 use Rattle.rfc3550.specs.Packet.{type, layout, isReport, some, chunksOf, chunkHasCname}
 use Rattle.rfc3550.specs.Write.{Given, packetGiven, contentGiven, paddingGiven, sizeGiven, tests}
@@ -24,8 +24,8 @@ pub data Request : Type 0 where
   close : Request
 
 -- a CNAME that counts for closing
-abbrev pub names : Given → Bool
-names g = some chunkHasCname (chunksOf (contentGiven g))
+abbrev pub givesCname : Given → Bool
+givesCname g = some chunkHasCname (chunksOf (contentGiven g))
 
 -- 26, 29, 27, the packet's own order, then 10: with the length so far if the buffer of n bytes is shorter than that, else with the packet
 unfoldable pub addTests : Writer → Given → ℕ → Answer (Unit {0})
@@ -42,17 +42,17 @@ closeTests w = do
   need (not (w .closed)) 26 0 0
   need (w .cname) 28 0 0
 
-abbrev pub added : Writer → Given → Writer
-added w g = record { len = w .len + sizeGiven g; padded = ltb 0 (paddingGiven g); cname = w .cname || names g; closed = w .closed }
+abbrev pub afterAdd : Writer → Given → Writer
+afterAdd w g = record { len = w .len + sizeGiven g; padded = ltb 0 (paddingGiven g); cname = w .cname || givesCname g; closed = w .closed }
 
-abbrev pub shut : Writer → Writer
-shut w = record { len = w .len; padded = w .padded; cname = w .cname; closed = true }
+abbrev pub afterClose : Writer → Writer
+afterClose w = record { len = w .len; padded = w .padded; cname = w .cname; closed = true }
 
 -- a call on a writer and the buffer lent: the answer, the writer and the buffer after it
 unfoldable pub call : Request → Writer → List ℕ → Answer (Unit {0}) × Writer × List ℕ
 call (add g) w l = (
   addTests w g (length l),
-  after (addTests w g (length l)) (added w g) w,
+  after (addTests w g (length l)) (afterAdd w g) w,
   after (addTests w g (length l)) (store (w .len) (layout (packetGiven g)) l) l,
 )
-call close w l = (closeTests w, after (closeTests w) (shut w) w, l)
+call close w l = (closeTests w, after (closeTests w) (afterClose w) w, l)

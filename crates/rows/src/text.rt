@@ -3,7 +3,6 @@ use super::lists;
 use super::lists::Numbers;
 use super::lists::Words;
 ghost use Prim.Native.Nat.{_<_, _≤_};
-ghost use mathlib.Core.Path.{_≡_};
 ghost use lib.ListN.{length};
 ghost use Rattle.io.specs.Counts.{Counts};
 

@@ -1,5 +1,5 @@
 -- The three lists that calls fill with a report's blocks: lent to a writer, they are the blocks again.
-use Prim.Native.Nat.{ℕ, suc, _*_, _<_}
+use Prim.Native.Nat.{ℕ, suc, _*_}
 use mathlib.Core.Path.{_≡_, refl, sym, ap, _∙_}
 use mathlib.Core.Bool.{Bool, true, false}
 use mathlib.Core.List.{List, [], _∷_}
@@ -11,7 +11,7 @@ use Rattle.rfc3550.specs.Bytes.{store}
 use Rattle.rfc3550.specs.Packet.{Block, Packet as Read}
 use Rattle.rfc3550.specs.Read.{Kind, readAs}
 use Rattle.rfc3550.specs.Write.{lentBlocks}
-use Rattle.rfc3550.proofs.Answer.{ok-injective, refused≢ok, mapOk-inv}
+use Rattle.rfc3550.proofs.Answers.{ok-injective, refused≢ok, mapOk-inv}
 use Rattle.rfc3550.proofs.Bytes.{store-front}
 use Rattle.report.specs.Block.{fractionIn, lossIn, wordsIn, listOf, room, layIf, layBlocks}
 use Rattle.report.specs.Report.{reportBlocks}

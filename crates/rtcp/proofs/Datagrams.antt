@@ -1,15 +1,15 @@
 -- Datagrams and their walk: what C gets, from what the readers answer.
 use mathlib.Core.Path.{_≡_, refl, sym, ap, _∙_}
 use mathlib.Core.List.{List}
-use Prim.Native.Nat.{ℕ, _+_, _-_, _<_}
+use Prim.Native.Nat.{ℕ, _+_, _-_}
 use native.Mathlib.Omega.{arith}
 use lib.ListN.{length, take, drop}
 use borrow.Author.Needs.{needs}
-use Rattle.rfc3550.specs.Answer.{Refusal, Answer, ok, refused, mapOk}
+use Rattle.rfc3550.specs.Answer.{Refusal, ok, refused, mapOk}
 use Rattle.rfc3550.specs.Packet.{Packet as Read}
 use Rattle.rfc3550.specs.Read.{Kind, SR, RR, SDES, BYE, APP, UNKNOWN, kindOf, typeIn, lowIn, readAs}
 use Rattle.rfc3550.specs.Walk.{step}
-use Rattle.rfc3550.proofs.Packet.{readAs-kind}
+use Rattle.rfc3550.proofs.Packets.{readAs-kind}
 use Rattle.utils.specs.Error.{refusalIn, valueOr, orZero}
 use Rattle.utils.proofs.Values.{value-came, none-came}
 use Rattle.report.proofs.Reports.{body-some}

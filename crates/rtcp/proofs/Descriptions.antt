@@ -1,6 +1,6 @@
 -- SDES packets, chunks, items and walks: what C gets, from what the readers answer.
-use mathlib.Core.Path.{_≡_, refl, sym, ap, _∙_}
-use mathlib.Core.Bool.{Bool, true, false, not}
+use mathlib.Core.Path.{_≡_, refl, sym, ap}
+use mathlib.Core.Bool.{Bool, not}
 use mathlib.Core.List.{List}
 use Prim.Native.Nat.{ℕ, _+_, _-_, _^_, _<_, _≤_}
 use native.Mathlib.Omega.{arith}
@@ -8,11 +8,11 @@ use lib.ListN.{length, drop, getD}
 use lib.Dec.{eqb, ltb}
 use borrow.Author.Needs.{needs}
 use borrow.Author.Tests.{eq-eqb, ne-eqb}
-use Rattle.rfc3550.specs.Answer.{refusal, Answer, ok, refused, _>>=_, mapOk, pick}
+use Rattle.rfc3550.specs.Answer.{refusal, Answer, ok, refused, mapOk, pick}
 use Rattle.rfc3550.specs.Packet.{Item, item, priv, itemRest, itemBytes}
 use Rattle.rfc3550.specs.Read.{readItem, readPrefix}
 use Rattle.rfc3550.specs.Walk.{itemStep}
-use Rattle.rfc3550.proofs.Answer.{ok-injective, need-inv, bind-elim}
+use Rattle.rfc3550.proofs.Answers.{ok-injective, need-inv, bind-elim}
 use Rattle.sdes_chunk.specs.Item.{itemView, itemFirst, prefixLength, valueStart, prefixIn, answerOf, parsedItemOf}
 use Rattle.sdes_chunk.specs.Walk.{itemStepped, steppedItemOf}
 use Rattle.sdes_chunk.proofs.Readings.{item-placed, Numbered, prefix-numbered}

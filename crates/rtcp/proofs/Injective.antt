@@ -26,7 +26,7 @@ use Rattle.rtcp.specs.App.{appResult}
 use Rattle.rtcp.specs.Bye.{byeResult, sourceResult}
 use Rattle.rtcp.specs.Sdes.{sdesResult, itemResult, prefixResult, chunkResult, chunkWalkResult, chunkStepResult, itemWalkResult, itemStepResult}
 use Rattle.rtcp.specs.Compound.{compoundResult, walkResult, stepResult}
-use Rattle.rtcp.specs.WriteResult.{writtenOut}
+use Rattle.rtcp.specs.WriteResult.{writtenResult}
 use Rattle.rtcp.specs.WriteCompound.{writerIn, writerOut, callResult}
 use Rattle.rtcp.specs.declared.read_compound.RtcpStep.{RtcpStep}
 use Rattle.rtcp.proofs.WriteCalls.{writerIn-writerOut}
@@ -183,13 +183,13 @@ listed-back (listed.Len n) = refl
 listed-back (listed.TooShort n) = refl
 listed-back (listed.Refused e) = rw (ne-eqb (numberIn (parseRefusal e)) 10 (no-number parseRefusal parseError parseRefusal-back 10 (λ a b h. omega arith) e), parseRefusal-back e)
 
-size-injective : Injective writtenOut
-size-injective = by-fields writtenOut (λ r. r .size) (λ r. (r .number, r .first, r .second)) (λ a. refl) (λ x. refl)
+size-injective : Injective writtenResult
+size-injective = by-fields writtenResult (λ r. r .size) (λ r. (r .number, r .first, r .second)) (λ a. refl) (λ x. refl)
 
-pub writtenOut-injective : (v w : Written) → writtenOut (writtenOf v) ≡ writtenOut (writtenOf w) → v ≡ w
+pub writtenOut-injective : (v w : Written) → writtenResult (writtenOf v) ≡ writtenResult (writtenOf w) → v ≡ w
 writtenOut-injective v w h = writtenOf-injective v w (size-injective _ _ (written-nonzero v) (written-nonzero w) h)
 
-pub listedOut-injective : (v w : Listed) → writtenOut (listedOf v) ≡ writtenOut (listedOf w) → v ≡ w
+pub listedOut-injective : (v w : Listed) → writtenResult (listedOf v) ≡ writtenResult (listedOf w) → v ≡ w
 listedOut-injective v w h = injective listedOf listedFor listed-back v w (size-injective _ _ (listed-nonzero v) (listed-nonzero w) h)
 
 pub writerOut-injective : (v w : Writer) → writerOut v ≡ writerOut w → v ≡ w

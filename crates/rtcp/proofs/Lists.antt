@@ -1,6 +1,6 @@
 -- The lists that the C functions fill, back to the packets: number 0 says that the list is filled, with as many numbers as the size says.
-use Prim.Native.Nat.{ℕ, _<_}
-use mathlib.Core.Path.{_≡_, refl, sym, ap, _∙_}
+use Prim.Native.Nat.{ℕ}
+use mathlib.Core.Path.{_≡_, ap}
 use mathlib.Core.Bool.{Bool, true, false}
 use mathlib.Core.List.{List, map}
 use native.Mathlib.Omega.{arith}
@@ -17,7 +17,7 @@ use Rattle.sdes.specs.ItemEntries.{entriesIn, chunkEntries}
 use Rattle.sdes.proofs.ItemEntries as descriptions
 use Rattle.compound.specs.Compound.{packetRows, rowParts, rowIs}
 use Rattle.compound.proofs.Rows as datagrams
-use Rattle.rtcp.specs.WriteResult.{handedOut}
+use Rattle.rtcp.specs.WriteResult.{writtenWithBuffer}
 use Rattle.rtcp.specs.declared.write_result.RtcpWritten.{RtcpWritten}
 use Rattle.rtcp.proofs.Injective.{Nonzero}
 use Rattle.rtcp.proofs.Nonzero.{read-nonzero, compound-nonzero}
@@ -37,20 +37,20 @@ map-nonzero f (ok x) n = n
 map-nonzero f (refused r) n = n
 
 -- number 0 says that the list is filled, with as many numbers as the size says
-filled-out : (x : Answer ℕ × List ℕ) (r : RtcpWritten) (l₁ : List ℕ) → Nonzero (x .0) → (r, l₁) ≡ handedOut x → r .number ≡ 0 → (ok (r .size), l₁) ≡ x
+filled-out : (x : Answer ℕ × List ℕ) (r : RtcpWritten) (l₁ : List ℕ) → Nonzero (x .0) → (r, l₁) ≡ writtenWithBuffer x → r .number ≡ 0 → (ok (r .size), l₁) ≡ x
 filled-out (ok n, l) r l₁ k m z = ap (λ (y : RtcpWritten × List ℕ). (ok (y .0 .size), y .1)) m
 filled-out (refused e, l) r l₁ k m z = absurd (let q = ap (λ (y : RtcpWritten × List ℕ). y .0 .number) m in omega arith)
 
 module _ (s : List ℕ) (h : Bytes s) (r : RtcpWritten) (l l₁ : List ℕ) where
   -- what `rtcp_compound_packets` returned, and the list that it left
-  pub packets-listed : (r, l₁) ≡ handedOut (layList (mapOk packetRows (readCompound s)) l) → r .number ≡ 0
+  pub packets-listed : (r, l₁) ≡ writtenWithBuffer (layList (mapOk packetRows (readCompound s)) l) → r .number ≡ 0
       → (ps : List Read) × (readCompound s ≡ ok ps) × (rowParts s (take (r .size) l₁) ≡ map rowIs ps)
   packets-listed m z =
       datagrams.packets-listed s h (r .size) l l₁
       (filled-out (layList (mapOk packetRows (readCompound s)) l) r l₁ (filled-nonzero (mapOk packetRows (readCompound s)) l (map-nonzero packetRows (readCompound s) (compound-nonzero s))) m z)
 
   -- what `rtcp_sdes_items` returned, and the list that it left
-  pub items-listed : (r, l₁) ≡ handedOut (layList (mapOk sdesRows (readAs SDES s)) l) → r .number ≡ 0
+  pub items-listed : (r, l₁) ≡ writtenWithBuffer (layList (mapOk sdesRows (readAs SDES s)) l) → r .number ≡ 0
       → (p : Read) × (readAs SDES s ≡ ok p) × (entriesIn s (take (r .size) l₁) ≡ chunkEntries (chunksOf (p .content)))
   items-listed m z =
       descriptions.items-listed s h (r .size) l l₁

@@ -13,12 +13,12 @@ use Rattle.rfc3550.proofs.Places.{padding-at, report-body, extension-at, leavin
 use Rattle.rfc3550.specs.Answer.{Answer, ok, refuse, mapOk, pick}
 use Rattle.rfc3550.specs.Bytes.{Bytes, be}
 use Rattle.rfc3550.proofs.Bytes.{length-be}
-use Rattle.rfc3550.proofs.Sdes.{item-complete}
-use Rattle.rfc3550.proofs.Packet.{packet-sound}
+use Rattle.rfc3550.proofs.Chunks.{item-complete}
+use Rattle.rfc3550.proofs.Packets.{packet-sound}
 use Rattle.sdes_chunk.specs.Chunk.{cnamePlace}
 use Rattle.compound.specs.Packet.{viewAs, packetView}
 use Rattle.rtcp.specs.Compound.{numbersOf}
-use Rattle.rtcp.specs.Places.{Parts, Places, firstCname, itemAt}
+use Rattle.rtcp.specs.Places.{Places, firstCname, itemAt}
 
 more : (a b : ℕ) → a + b - a ≡ b
 more a b = omega arith

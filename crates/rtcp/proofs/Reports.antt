@@ -19,9 +19,9 @@ use Rattle.report.specs.Block.{layBlocks}
 use Rattle.report.specs.Report.{reportBlocks, reportBody, receiverView, noReceiver, senderView, noSender}
 use Rattle.report.specs.declared.receiver.ReceiverReport.{ReceiverReport}
 use Rattle.report.specs.declared.sender.SenderReport.{SenderReport}
-use Rattle.report.proofs.Reports.{Maker, receiver-maker, sender-maker, value-refused, value-blocks, value-within}
+use Rattle.report.proofs.Reports.{ReporterKind, receiver-maker, sender-maker, value-refused, value-blocks, value-within}
 use Rattle.rtcp.specs.Report.{rrResult, srResult, blocksOut, readOut, readBoth}
-use Rattle.rtcp.specs.WriteResult.{writtenOut}
+use Rattle.rtcp.specs.WriteResult.{writtenResult}
 use Rattle.rtcp.proofs.Results.{coded}
 use Rattle.rtcp.specs.declared.read_report.RtcpRr.{RtcpRr}
 use Rattle.rtcp.specs.declared.read_report.RtcpSr.{RtcpSr}
@@ -35,12 +35,12 @@ pub out-coded : {A R : Type 0} (result : Answer A → R) (a : Answer A) (q : Lis
     → q ≡ listed.Refused e → r ≡ readOut result a (listedOf q)
 out-coded result a q c e r p h k = out-known result a q (listed.Refused e) r k (coded result c e r p h)
 
-pub lists-out : (q : Listed) (r : RtcpWritten) (f l w : List ℕ) (x : Answer ℕ × List ℕ × List ℕ × List ℕ) → r ≡ writtenOut (listedOf q) → (listedOf q, f, l, w) ≡ x → (r, f, l, w) ≡ blocksOut x
+pub lists-out : (q : Listed) (r : RtcpWritten) (f l w : List ℕ) (x : Answer ℕ × List ℕ × List ℕ × List ℕ) → r ≡ writtenResult (listedOf q) → (listedOf q, f, l, w) ≡ x → (r, f, l, w) ≡ blocksOut x
 lists-out q r f l w x h e = ap (λ (r : RtcpWritten). (r, f, l, w)) h ∙ ap blocksOut e
 
 -- ---- over the kind, its view and its result
 
-module _ {k : Kind} {ws : List ℕ} {who : List ℕ → Reporter} (m : Maker k ws who) {O R : Type 0} (none : O) (view : Packet → O) (bodyIn countIn : O → ℕ) (z : bodyIn none ≡ 0)
+module _ {k : Kind} {ws : List ℕ} {who : List ℕ → Reporter} (m : ReporterKind k ws who) {O R : Type 0} (none : O) (view : Packet → O) (bodyIn countIn : O → ℕ) (z : bodyIn none ≡ 0)
     (b : (p : Packet) → bodyIn (view p) ≡ reportBody p) (c : (p : Packet) → countIn (view p) ≡ length (reportBlocks p)) (result : Answer O → R) (s : List ℕ) (o : O) (h : o ≡ valueOr none view (readAs k s)) where
   out-refused : (c : Code) (e : RtcpParseError) (r : R) → bodyIn o ≡ 0 → parseRefusal e ≡ refusalIn (readAs k (take (length s - 0) (drop 0 s))) → codeRefusal c ≡ parseRefusal e → r ≡ result (refused (codeRefusal c)) → r ≡ result (mapOk view (readAs k s))
   unfolding mapOk

@@ -1,7 +1,7 @@
 -- A result of C, from what a kind's function answers: of a value, of a refusal, and what a value's view shows. Stated once, over the result.
-use mathlib.Core.Path.{_≡_, refl, sym, ap, _∙_, subst}
+use mathlib.Core.Path.{_≡_, sym, ap, _∙_, subst}
 use Rattle.rfc3550.specs.Answer.{Refusal, Answer, ok, refused, mapOk}
-use Rattle.rfc3550.proofs.Answer.{mapOk-inv}
+use Rattle.rfc3550.proofs.Answers.{mapOk-inv}
 use Rattle.utils.specs.Error.{parseRefusal, codeRefusal}
 use Rattle.utils.specs.declared.error.RtcpParseError.{RtcpParseError}
 use Rattle.utils.specs.declared.error.Code.{Code}

@@ -7,19 +7,19 @@ use borrow.Author.Tests.{ne-eqb, ltb-true}
 use lib.ListN.{length, take, drop, length-append, take-append-drop}
 use lib.Seq.{length-take-le}
 use lib.Dec.{eqb}
-use Rattle.rfc3550.specs.Answer.{Refusal, refusal, Answer, ok, refused, mapOk, _>>=_}
+use Rattle.rfc3550.specs.Answer.{Refusal, refusal, Answer, ok, refused, mapOk}
 use Rattle.rfc3550.specs.Bytes.{Bytes}
 use Rattle.rfc3550.specs.Packet.{Item, item, priv, itemType, itemBytes, Chunk, chunkBytes, chunksOf, Packet as Read}
 use Rattle.rfc3550.specs.Read.{SDES, nth, readItem, readChunk, readAs}
 use Rattle.rfc3550.specs.Compound.{readCompound}
-use Rattle.rfc3550.specs.Walk.{openWalk, step, SdesWalk, openSdes, sdesStep, openItems, itemStep, gave, moved, walked}
+use Rattle.rfc3550.specs.Walk.{openWalk, step, SdesWalk, openSdes, sdesStep, openItems, itemStep, gave, walkAfter, walked}
 use Rattle.rfc3550.specs.Writer.{Writer, fresh, Request, call}
 use Rattle.rfc3550.specs.Book.{empty}
-use Rattle.rfc3550.specs.Claim.{answers, fed, booked, compounds}
-use Rattle.rfc3550.specs.Returned.{Ran, seenOf, firsts, Called, events}
-use Rattle.rfc3550.proofs.Answer.{need-inv, bind-elim, ok-injective}
+use Rattle.rfc3550.specs.Calls.{answers, bookInput, booked, compounds}
+use Rattle.rfc3550.specs.Returned.{Ran, shownOf, firsts, Called, events}
+use Rattle.rfc3550.proofs.Answers.{need-inv, bind-elim, ok-injective}
 use Rattle.rfc3550.proofs.Places.{value-at, prefix-at, priv-value-at, packet-at, chunk-at}
-use Rattle.rfc3550.proofs.Returned.{Steps, runs}
+use Rattle.rfc3550.proofs.Returned.{runs}
 use Rattle.rfc3550.proofs.Returned as rfc
 use Rattle.rfc3550.proofs.Claims.{refused-call, walking, walking-chunks, walking-items}
 use Rattle.sdes_chunk.specs.Item.{itemView}
@@ -32,7 +32,7 @@ use Rattle.compound.specs.Packet.{packetView}
 use Rattle.compound.specs.Compound.{walkAt, stepView}
 use Rattle.rtcp.specs.Sdes.{chunkWalkResult, chunkStepResult, itemWalkResult, itemStepResult}
 use Rattle.rtcp.specs.Compound.{numbersOf, walkResult, stepResult}
-use Rattle.rtcp.specs.WriteCompound.{writerIn, writerOut, stateAfter, callResult, calledOut}
+use Rattle.rtcp.specs.WriteCompound.{writerIn, writerOut, stateAfter, callResult, callWithBuffer}
 use Rattle.rtcp.specs.Returned.{packetSteps, packetShown, packetDue, chunkSteps, chunkShown, chunkDue, itemSteps, itemShown, itemDue, Result, added, «rtcp_writer_close», answered, writers}
 use Rattle.rtcp.specs.declared.read_compound.RtcpWalk.{RtcpWalk}
 use Rattle.rtcp.specs.declared.read_compound.RtcpStep.{RtcpStep}
@@ -53,7 +53,7 @@ module _ (s : List ℕ) (h : Bytes s) where
   packet-shown at (ok x) e = ap (λ (b : List ℕ). ((0, 0, 0), numbersOf (packetView (x .0)), b)) (packet-at s at h x e)
   packet-shown at (refused r) e = refl
 
-  packet-moved : (at : ℕ) (a : Answer (Read × ℕ)) → stepResult at (mapOk stepView a) .at ≡ moved at a
+  packet-moved : (at : ℕ) (a : Answer (Read × ℕ)) → stepResult at (mapOk stepView a) .at ≡ walkAfter at a
   unfolding mapOk
   packet-moved at (ok x) = refl
   packet-moved at (refused r) = refl
@@ -66,7 +66,7 @@ module _ (s : List ℕ) (h : Bytes s) where
 
   -- from a walk that `rtcp_walk_open` returned on a datagram that is accepted
   pub packets-returned : (ps : List Read) → readCompound s ≡ ok ps → (o : RtcpWalk) → o ≡ walkResult (mapOk walkAt (openWalk s))
-      → (o .number ≡ 0) × ((rs : List RtcpStep) → Ran (packetSteps s) rs (o .at) → seenOf (packetSteps s) (packetShown s) rs (o .at) ≡ firsts (length rs) (λ (i : ℕ). packetDue (nth i ps)))
+      → (o .number ≡ 0) × ((rs : List RtcpStep) → Ran (packetSteps s) rs (o .at) → shownOf (packetSteps s) (packetShown s) rs (o .at) ≡ firsts (length rs) (λ (i : ℕ). packetDue (nth i ps)))
   unfolding mapOk
   packets-returned ps e o q =
       let g = walking s ps h e in
@@ -96,7 +96,7 @@ module _ (s : List ℕ) (h : Bytes s) (p : Read) (e : readAs SDES s ≡ ok p) wh
       (ap (λ (l : List ℕ). take (length (chunkBytes (x .0))) (drop (w .at) l)) (sym (short s p h e)) ∙ chunk-at s w h x q)
   chunk-shown w (refused r) q = refl
 
-  chunk-moved : (w : SdesWalk) (a : Answer (Chunk × SdesWalk)) → record { at = chunkStepResult (w .at) (w .end) (mapOk chunkStepped a) .at; end = chunkStepResult (w .at) (w .end) (mapOk chunkStepped a) .end } ≡ moved w a
+  chunk-moved : (w : SdesWalk) (a : Answer (Chunk × SdesWalk)) → record { at = chunkStepResult (w .at) (w .end) (mapOk chunkStepped a) .at; end = chunkStepResult (w .at) (w .end) (mapOk chunkStepped a) .end } ≡ walkAfter w a
   unfolding mapOk
   chunk-moved w (ok x) = refl
   chunk-moved w (refused r) = refl
@@ -105,7 +105,7 @@ module _ (s : List ℕ) (h : Bytes s) (p : Read) (e : readAs SDES s ≡ ok p) wh
   pub chunks-returned : (o : RtcpChunkWalk) → o ≡ chunkWalkResult (mapOk chunkWalk (openSdes s))
       → (o .number ≡ 0)
       × ((rs : List RtcpChunkStep) → Ran (chunkSteps s) rs (record { at = o .at; end = o .end })
-      → seenOf (chunkSteps s) (chunkShown s) rs (record { at = o .at; end = o .end }) ≡ firsts (length rs) (λ (i : ℕ). chunkDue (nth i (chunksOf (p .content)))))
+      → shownOf (chunkSteps s) (chunkShown s) rs (record { at = o .at; end = o .end }) ≡ firsts (length rs) (λ (i : ℕ). chunkDue (nth i (chunksOf (p .content)))))
   unfolding mapOk
   chunks-returned o q =
       let g = walking-chunks s p h e in
@@ -147,7 +147,7 @@ module _ (s : List ℕ) (h : Bytes s) where
       subst (λ (i : Item). itemShown s at (itemStepResult at (ok (itemView i, itemWalk (x .1)))) ≡ itemDue (ok i)) z
       (item-fields s (take at s) (y .1) at (x .1) (y .0) (length-take-le at s (omega arith)) (ap (λ (l : List ℕ). take at s ++ l) (g .bytes) ∙ take-append-drop at s) (g .kind)))
 
-  item-moved : (at : ℕ) (a : Answer (Item × ℕ)) → itemStepResult at (mapOk itemStepped a) .at ≡ moved at a
+  item-moved : (at : ℕ) (a : Answer (Item × ℕ)) → itemStepResult at (mapOk itemStepped a) .at ≡ walkAfter at a
   unfolding mapOk
   item-moved at (ok x) = refl
   item-moved at (refused r) = refl
@@ -160,7 +160,7 @@ module _ (s : List ℕ) (h : Bytes s) where
 
   -- from a walk that `rtcp_item_walk_open` returned on a chunk that is accepted
   pub items-returned : (x : Chunk × List ℕ) → readChunk s ≡ ok x → (o : RtcpItemWalk) → o ≡ itemWalkResult (mapOk itemWalk (openItems s))
-      → (o .number ≡ 0) × ((rs : List RtcpItemStep) → Ran (itemSteps s) rs (o .at) → seenOf (itemSteps s) (itemShown s) rs (o .at) ≡ firsts (length rs) (λ (i : ℕ). itemDue (nth i (x .0 .items))))
+      → (o .number ≡ 0) × ((rs : List RtcpItemStep) → Ran (itemSteps s) rs (o .at) → shownOf (itemSteps s) (itemShown s) rs (o .at) ≡ firsts (length rs) (λ (i : ℕ). itemDue (nth i (x .0 .items))))
   unfolding mapOk
   items-returned x e o q =
       let g = walking-items s x h e in
@@ -182,7 +182,7 @@ back-in w (ok u) v l n k = ap (λ (v : Writer). (ok tt, v, l)) (writerIn-writerO
 back-in w (refused (refusal number first second)) v l n k =
     rw (ne-eqb number 0 (λ e. omega arith)) (ap (λ (v : Writer). (refused (refusal number first second), v, l)) (sym (k (refusal number first second) refl)))
 
-called-in : (w : List ℕ) (q : Request) (l state out : List ℕ) (r : RtcpCall) → (r, state, out) ≡ calledOut w (call q (writerIn w) l)
+called-in : (w : List ℕ) (q : Request) (l state out : List ℕ) (r : RtcpCall) → (r, state, out) ≡ callWithBuffer w (call q (writerIn w) l)
     → _≡_ {A = Answer (Unit {0}) × Writer × List ℕ} (answered r, writerIn state, out) (call q (writerIn w) l)
 called-in w q l state out r m =
     ap (λ (x : RtcpCall × List ℕ × List ℕ). (answered (x .0), writerIn (x .1), x .2)) m
@@ -194,5 +194,5 @@ calls w («rtcp_writer_close» r state) m = called-in w _ [] state [] r m
 
 -- for every list of results of the C functions of the writer, from the state that `rtcp_writer_new` left: as for those of compound_write
 pub returned : (w : List ℕ) → w ≡ writerOut fresh → (rs : List Result) → Called writers rs w []
-    → answers compounds (events writers rs w) [] ≡ booked compounds (map (fed compounds) (events writers rs w)) empty
+    → answers compounds (events writers rs w) [] ≡ booked compounds (map (bookInput compounds) (events writers rs w)) empty
 returned w e rs m = rfc.returned writers calls w (ap writerIn e ∙ writerIn-writerOut fresh) rs m

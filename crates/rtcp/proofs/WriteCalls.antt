@@ -1,10 +1,10 @@
 -- The compound writer: what C gets of a call, from what the writer answers. Stated once, over the call.
 use Prim.Native.Nat.{ℕ}
 use borrow.Author.Needs.{needs}
-use mathlib.Core.Path.{_≡_, refl, sym, ap, _∙_}
+use mathlib.Core.Path.{_≡_, refl, ap, _∙_}
 use mathlib.Core.Bool.{Bool, true, false}
 use mathlib.Core.List.{List, [], _∷_}
-use Rattle.rfc3550.specs.Answer.{Answer, Refusal, refused}
+use Rattle.rfc3550.specs.Answer.{Refusal, refused}
 use Rattle.rfc3550.specs.Writer.{Writer, fresh, Request, call}
 use Rattle.utils.specs.Error.{writeRefusal, codeRefusal}
 use Rattle.utils.specs.declared.error.RtcpWriteError.{RtcpWriteError}
@@ -14,7 +14,7 @@ use Rattle.compound_write.specs.declared.writer.Writer as code
 use Rattle.compound_write.specs.declared.writer.Call.{Call}
 use Rattle.compound_write.specs.declared.writer.Outcome.the-variants as outcome
 use Rattle.rtcp.specs.Result.{bit}
-use Rattle.rtcp.specs.WriteCompound.{writerIn, writerOut, callResult, handedOn, calledOut}
+use Rattle.rtcp.specs.WriteCompound.{writerIn, writerOut, callResult, callWithState, callWithBuffer}
 use Rattle.rtcp.specs.declared.write_compound.RtcpCall.{RtcpCall}
 
 -- ---- the state
@@ -43,16 +43,16 @@ out-fresh v s h e = h ∙ ap writerOut e
 
 module _ (s : List ℕ) (o : Call) where
   pub out-done : (s₁ : List ℕ) → o .answer ≡ outcome.Done → s₁ ≡ writerOut (writerOf (o .writer))
-      → (record { number = 0; first = 0; second = 0 }, s₁) ≡ handedOn s (callOf o)
+      → (record { number = 0; first = 0; second = 0 }, s₁) ≡ callWithState s (callOf o)
   out-done s₁ p q = rw (p, q)
 
   pub out-refused : (c : Code) (e : RtcpWriteError) → o .answer ≡ outcome.Refused e → codeRefusal c ≡ writeRefusal e
-      → (record { number = c .number; first = c .first; second = c .second }, s) ≡ handedOn s (callOf o)
+      → (record { number = c .number; first = c .first; second = c .second }, s) ≡ callWithState s (callOf o)
   out-refused c e p h = rw p (ap (λ (k : Refusal). (callResult (refused k), s)) h)
 
-  pub out-called : (r : RtcpCall) (s₁ : List ℕ) (v : code.Writer) (l₁ : List ℕ) → (r, s₁) ≡ handedOn s (callOf o) → writerOf v ≡ writerIn s
-      → (q : Request) (l : List ℕ) → (callOf o .0, callOf o .1, l₁) ≡ call q (writerOf v) l → (r, s₁, l₁) ≡ calledOut s (call q (writerIn s) l)
+  pub out-called : (r : RtcpCall) (s₁ : List ℕ) (v : code.Writer) (l₁ : List ℕ) → (r, s₁) ≡ callWithState s (callOf o) → writerOf v ≡ writerIn s
+      → (q : Request) (l : List ℕ) → (callOf o .0, callOf o .1, l₁) ≡ call q (writerOf v) l → (r, s₁, l₁) ≡ callWithBuffer s (call q (writerIn s) l)
   out-called r s₁ v l₁ h e q l p =
-      ap (λ (x : RtcpCall × List ℕ). (x .0, x .1, l₁)) h ∙ ap (calledOut s) p ∙ ap (λ (u : Writer). calledOut s (call q u l)) e
+      ap (λ (x : RtcpCall × List ℕ). (x .0, x .1, l₁)) h ∙ ap (callWithBuffer s) p ∙ ap (λ (u : Writer). callWithBuffer s (call q u l)) e
 
 pub ruleset calls = (needs, state-laid, out-fresh, out-done, out-refused, out-called)

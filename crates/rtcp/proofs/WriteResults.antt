@@ -8,7 +8,7 @@ use Rattle.rfc3550.specs.Answer.{Refusal, Answer, refused}
 use Rattle.rfc3550.specs.Packet.{contentBytes, chunkBytes}
 use Rattle.rfc3550.specs.Write.{Given, giveApp, contentGiven, paddingGiven, packetGiven, ownTests, tests, sizeGiven, calculateSize, chunkSize}
 use Rattle.rfc3550.proofs.Bytes.{length-be}
-use Rattle.rfc3550.proofs.Packet.{length-layout}
+use Rattle.rfc3550.proofs.Packets.{length-layout}
 use Rattle.utils.specs.Error.{parseRefusal, writeRefusal, codeRefusal}
 use Rattle.utils.specs.List.{listedOf}
 use Rattle.utils.specs.Writer.{writtenOf}
@@ -19,40 +19,40 @@ use Rattle.utils.specs.declared.list.Listed.{Listed}
 use Rattle.utils.specs.declared.list.Listed.the-variants as listed
 use Rattle.utils.specs.declared.writer.Written.{Written}
 use Rattle.utils.specs.declared.writer.Written.the-variants.{Size, Refused}
-use Rattle.rtcp.specs.WriteResult.{writtenOut, handedOut}
+use Rattle.rtcp.specs.WriteResult.{writtenResult, writtenWithBuffer}
 use Rattle.rtcp.specs.declared.write_result.RtcpWritten.{RtcpWritten}
 
-pub size-out : (w : Written) (n : ℕ) → w ≡ Size n → record { number = 0; first = 0; second = 0; size = n } ≡ writtenOut (writtenOf w)
+pub size-out : (w : Written) (n : ℕ) → w ≡ Size n → record { number = 0; first = 0; second = 0; size = n } ≡ writtenResult (writtenOf w)
 size-out w n p = rw p
 
 pub refused-out : (w : Written) (e : RtcpWriteError) (c : Code) → w ≡ Refused e → codeRefusal c ≡ writeRefusal e
-    → record { number = c .number; first = c .first; second = c .second; size = 0 } ≡ writtenOut (writtenOf w)
-refused-out w e c p q = rw p (ap (λ (k : Refusal). writtenOut (refused k)) q)
+    → record { number = c .number; first = c .first; second = c .second; size = 0 } ≡ writtenResult (writtenOf w)
+refused-out w e c p q = rw p (ap (λ (k : Refusal). writtenResult (refused k)) q)
 
 -- ---- a list, handed over
 
 module _ (w : Listed) where
-  pub listed-out : (n : ℕ) → w ≡ listed.Len n → record { number = 0; first = 0; second = 0; size = n } ≡ writtenOut (listedOf w)
+  pub listed-out : (n : ℕ) → w ≡ listed.Len n → record { number = 0; first = 0; second = 0; size = n } ≡ writtenResult (listedOf w)
   listed-out n p = rw p
 
-  pub short-out : (n : ℕ) → w ≡ listed.TooShort n → record { number = 10; first = n; second = 0; size = 0 } ≡ writtenOut (listedOf w)
+  pub short-out : (n : ℕ) → w ≡ listed.TooShort n → record { number = 10; first = n; second = 0; size = 0 } ≡ writtenResult (listedOf w)
   short-out n p = rw p
 
   pub unlisted-out : (e : RtcpParseError) (c : Code) → w ≡ listed.Refused e → codeRefusal c ≡ parseRefusal e
-      → record { number = c .number; first = c .first; second = c .second; size = 0 } ≡ writtenOut (listedOf w)
-  unlisted-out e c p q = rw p (ap (λ (k : Refusal). writtenOut (refused k)) q)
+      → record { number = c .number; first = c .first; second = c .second; size = 0 } ≡ writtenResult (listedOf w)
+  unlisted-out e c p q = rw p (ap (λ (k : Refusal). writtenResult (refused k)) q)
 
-  pub out-listed : (r : RtcpWritten) → r ≡ writtenOut (listedOf w) → (l : List ℕ) (x : Answer ℕ × List ℕ) → (listedOf w, l) ≡ x → (r, l) ≡ handedOut x
-  out-listed r h l x q = rw h (ap handedOut q)
+  pub out-listed : (r : RtcpWritten) → r ≡ writtenResult (listedOf w) → (l : List ℕ) (x : Answer ℕ × List ℕ) → (listedOf w, l) ≡ x → (r, l) ≡ writtenWithBuffer x
+  out-listed r h l x q = rw h (ap writtenWithBuffer q)
 
 -- ---- a size and a write, handed on
 
-module _ (w : Written) (r : RtcpWritten) (h : r ≡ writtenOut (writtenOf w)) where
-  pub out-size : (x : Answer ℕ) → writtenOf w ≡ x → r ≡ writtenOut x
-  out-size x q = h ∙ ap writtenOut q
+module _ (w : Written) (r : RtcpWritten) (h : r ≡ writtenResult (writtenOf w)) where
+  pub out-size : (x : Answer ℕ) → writtenOf w ≡ x → r ≡ writtenResult x
+  out-size x q = h ∙ ap writtenResult q
 
-  pub out-written : (l : List ℕ) (x : Answer ℕ × List ℕ) → (writtenOf w, l) ≡ x → (r, l) ≡ handedOut x
-  out-written l x q = rw h (ap handedOut q)
+  pub out-written : (l : List ℕ) (x : Answer ℕ × List ℕ) → (writtenOf w, l) ≡ x → (r, l) ≡ writtenWithBuffer x
+  out-written l x q = rw h (ap writtenWithBuffer q)
 
 -- ---- an SSRC does not bear on a size
 
@@ -70,11 +70,11 @@ chunk-same : (s t : ℕ) (ts ps vs bs : List ℕ) → chunkSize s ts ps vs bs �
 unfolding chunkSize chunkBytes
 chunk-same s t ts ps vs bs = simp (length-append, length-be)
 
-module _ (w : Written) (r : RtcpWritten) (h : r ≡ writtenOut (writtenOf w)) where
-  pub out-app : (subtype k : ℕ) (name d : List ℕ) → writtenOf w ≡ calculateSize (giveApp subtype 0 name d k) → (ssrc : ℕ) → r ≡ writtenOut (calculateSize (giveApp subtype ssrc name d k))
+module _ (w : Written) (r : RtcpWritten) (h : r ≡ writtenResult (writtenOf w)) where
+  pub out-app : (subtype k : ℕ) (name d : List ℕ) → writtenOf w ≡ calculateSize (giveApp subtype 0 name d k) → (ssrc : ℕ) → r ≡ writtenResult (calculateSize (giveApp subtype ssrc name d k))
   out-app subtype k name d q ssrc = out-size w r h _ (q ∙ app-same subtype 0 ssrc name d k)
 
-  pub out-chunk : (ts ps vs bs : List ℕ) → writtenOf w ≡ chunkSize 0 ts ps vs bs → (ssrc : ℕ) → r ≡ writtenOut (chunkSize ssrc ts ps vs bs)
+  pub out-chunk : (ts ps vs bs : List ℕ) → writtenOf w ≡ chunkSize 0 ts ps vs bs → (ssrc : ℕ) → r ≡ writtenResult (chunkSize ssrc ts ps vs bs)
   out-chunk ts ps vs bs q ssrc = out-size w r h _ (q ∙ chunk-same 0 ssrc ts ps vs bs)
 
 pub ruleset outs = (needs, size-out, refused-out, listed-out, short-out, unlisted-out, out-listed, out-size, out-written, out-app, out-chunk)

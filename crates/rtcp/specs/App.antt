@@ -1,5 +1,5 @@
 -- APP packets as C gets them: the name stands at 8, the data at 12.
-use Prim.Native.Nat.{ℕ, _-_}
+use Prim.Native.Nat.{_-_}
 use Rattle.rfc3550.specs.Answer.{Answer}
 use Rattle.app.specs.declared.App.{App}
 use Rattle.rtcp.specs.declared.read_app.RtcpApp.{RtcpApp}

@@ -4,7 +4,7 @@ use Prim.Native.Nat.{ℕ, _-_}
 use mathlib.Core.List.{List}
 use Rattle.rfc3550.specs.Answer.{Answer}
 use Rattle.rfc3550.specs.Read.{Kind, SR, RR, SDES, BYE, APP, UNKNOWN, readAs}
-use Rattle.rfc3550.specs.Walk.{moved}
+use Rattle.rfc3550.specs.Walk.{walkAfter}
 use Rattle.utils.specs.Error.{valueOr}
 use Rattle.report.specs.Report.{senderView, noSender, receiverView, noReceiver}
 use Rattle.sdes.specs.Sdes.{sdesView, noSdes}
@@ -123,5 +123,5 @@ stepResult at a =
       «has_reason» = field (λ x. numbersOf (x .0) .«has_reason») a;
       reason = field (λ x. numbersOf (x .0) .reason) a;
       «reason_len» = field (λ x. numbersOf (x .0) .«reason_len») a;
-      at = moved {A = Packet} {W = Walk} (record { at = at }) a .at;
+      at = walkAfter {A = Packet} {W = Walk} (record { at = at }) a .at;
     }

@@ -10,7 +10,7 @@ use Rattle.rtcp.specs.declared.read_report.RtcpRr.{RtcpRr}
 use Rattle.rtcp.specs.declared.read_report.RtcpSr.{RtcpSr}
 use Rattle.rtcp.specs.declared.write_result.RtcpWritten.{RtcpWritten}
 use Rattle.rtcp.specs.Result.{numberOf, firstOf, secondOf, field}
-use Rattle.rtcp.specs.WriteResult.{writtenOut}
+use Rattle.rtcp.specs.WriteResult.{writtenResult}
 
 abbrev pub blockResult : Answer ReportBlock → RtcpBlock
 blockResult a =
@@ -62,7 +62,7 @@ srResult a =
 -- ---- blocks in three lists, by themselves and with the report in one call
 
 abbrev pub blocksOut : Answer ℕ × List ℕ × List ℕ × List ℕ → RtcpWritten × List ℕ × List ℕ × List ℕ
-blocksOut w = (writtenOut (w .0), w .1, w .2, w .3)
+blocksOut w = (writtenResult (w .0), w .1, w .2, w .3)
 
 -- the report, or why its blocks are not handed over
 abbrev pub readOut : {A R : Type 0} → (Answer A → R) → Answer A → Answer ℕ → R

@@ -10,7 +10,7 @@ use Rattle.rfc3550.specs.Packet.{receiver, sender, Item, item, priv, itemType, 
 use Rattle.rfc3550.specs.Walk.{step, SdesWalk, sdesStep, itemStep}
 use Rattle.rfc3550.specs.Write.{Given, giveReport, giveSdes, giveBye, giveApp}
 use Rattle.rfc3550.specs.Writer.{Request, add, close, call}
-use Rattle.rfc3550.specs.Claim.{compounds}
+use Rattle.rfc3550.specs.Calls.{compounds}
 use Rattle.rfc3550.specs.Returned.{Stepper, Caller}
 use Rattle.sdes_chunk.specs.Item.{valueOf}
 use Rattle.sdes_chunk.specs.Chunk.{cnamePlace}
@@ -23,7 +23,7 @@ use Rattle.compound.specs.Compound.{stepView}
 use Rattle.rtcp.specs.Result.{numberOf, firstOf, secondOf}
 use Rattle.rtcp.specs.Sdes.{chunkStepResult, itemStepResult}
 use Rattle.rtcp.specs.Compound.{numbers, bareNumbers, numbersOf, stepResult}
-use Rattle.rtcp.specs.WriteCompound.{writerIn, calledOut}
+use Rattle.rtcp.specs.WriteCompound.{writerIn, callWithBuffer}
 use Rattle.rtcp.specs.declared.read_compound.PacketNumbers.{PacketNumbers}
 use Rattle.rtcp.specs.declared.read_compound.RtcpStep.{RtcpStep}
 use Rattle.rtcp.specs.declared.read_sdes.RtcpChunkStep.{RtcpChunkStep}
@@ -113,9 +113,9 @@ abbrev pub lent : Result → List ℕ
 lent (added g buf r state out) = buf
 lent («rtcp_writer_close» r state) = []
 
-abbrev pub gave : Result → RtcpCall
-gave (added g buf r state out) = r
-gave («rtcp_writer_close» r state) = r
+abbrev pub callReturned : Result → RtcpCall
+callReturned (added g buf r state out) = r
+callReturned («rtcp_writer_close» r state) = r
 
 abbrev pub stateLeft : Result → List ℕ
 stateLeft (added g buf r state out) = state
@@ -127,8 +127,8 @@ left («rtcp_writer_close» r state) = []
 
 -- each function's own ensures, from the state that it was lent
 abbrev pub Meets : List ℕ → Result → Type 0
-Meets writer (added g buf r state out) = (r, state, out) ≡ calledOut writer (call (add (given g)) (writerIn writer) buf)
-Meets writer («rtcp_writer_close» r state) = (r, state, []) ≡ calledOut writer (call close (writerIn writer) [])
+Meets writer (added g buf r state out) = (r, state, out) ≡ callWithBuffer writer (call (add (given g)) (writerIn writer) buf)
+Meets writer («rtcp_writer_close» r state) = (r, state, []) ≡ callWithBuffer writer (call close (writerIn writer) [])
 
 -- 0 is done
 abbrev pub answered : RtcpCall → Answer (Unit {0})
@@ -144,6 +144,6 @@ writers =
       writer = writerIn;
       request = request;
       lent = lent;
-      answer = λ r. answered (gave r);
+      answer = λ r. answered (callReturned r);
       left = left;
     }

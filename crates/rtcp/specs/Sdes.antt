@@ -2,7 +2,7 @@
 use Prim.Native.Nat.{ℕ, _+_, _-_}
 use lib.Dec.{eqb}
 use Rattle.rfc3550.specs.Answer.{Answer, pick}
-use Rattle.rfc3550.specs.Walk.{moved}
+use Rattle.rfc3550.specs.Walk.{walkAfter}
 use Rattle.sdes_chunk.specs.declared.item.SdesItem.{SdesItem}
 use Rattle.sdes_chunk.specs.declared.chunk.SdesChunk.{SdesChunk}
 use Rattle.sdes_chunk.specs.declared.chunk.ItemWalk.{ItemWalk}
@@ -92,8 +92,8 @@ chunkStepResult at end a =
       ssrc = field (λ x. x .0 .ssrc) a;
       length = field (λ x. x .0 .length) a;
       cname = field (λ x. x .0 .cname) a;
-      at = moved {A = SdesChunk} {W = ChunkWalk} (record { at = at; end = end }) a .at;
-      end = moved {A = SdesChunk} {W = ChunkWalk} (record { at = at; end = end }) a .end;
+      at = walkAfter {A = SdesChunk} {W = ChunkWalk} (record { at = at; end = end }) a .at;
+      end = walkAfter {A = SdesChunk} {W = ChunkWalk} (record { at = at; end = end }) a .end;
     }
 
 abbrev pub itemWalkResult : Answer ItemWalk → RtcpItemWalk
@@ -111,5 +111,5 @@ itemStepResult at a =
       «prefix_len» = field (λ x. x .0 .«prefix_len») a;
       value = field (λ x. itemParts at (x .0) .value) a;
       «value_len» = field (λ x. itemParts at (x .0) .«value_len») a;
-      at = moved {A = SdesItem} {W = ItemWalk} (record { at = at }) a .at;
+      at = walkAfter {A = SdesItem} {W = ItemWalk} (record { at = at }) a .at;
     }

@@ -23,9 +23,9 @@ abbrev pub callResult : Answer (Unit {0}) → RtcpCall
 callResult a = record { number = numberOf a; first = firstOf a; second = secondOf a }
 
 -- of the answer and the writer after it: the result, and the state that is left
-abbrev pub handedOn : List ℕ → Answer (Unit {0}) × Writer → RtcpCall × List ℕ
-handedOn s x = (callResult (x .0), stateAfter s (x .0) (x .1))
+abbrev pub callWithState : List ℕ → Answer (Unit {0}) × Writer → RtcpCall × List ℕ
+callWithState s x = (callResult (x .0), stateAfter s (x .0) (x .1))
 
 -- with the buffer that is left
-abbrev pub calledOut : List ℕ → Answer (Unit {0}) × Writer × List ℕ → RtcpCall × List ℕ × List ℕ
-calledOut s x = (callResult (x .0), stateAfter s (x .0) (x .1), x .2)
+abbrev pub callWithBuffer : List ℕ → Answer (Unit {0}) × Writer × List ℕ → RtcpCall × List ℕ × List ℕ
+callWithBuffer s x = (callResult (x .0), stateAfter s (x .0) (x .1), x .2)

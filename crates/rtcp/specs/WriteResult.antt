@@ -5,8 +5,8 @@ use Rattle.rfc3550.specs.Answer.{Answer}
 use Rattle.rtcp.specs.declared.write_result.RtcpWritten.{RtcpWritten}
 use Rattle.rtcp.specs.Result.{numberOf, firstOf, secondOf, field}
 
-abbrev pub writtenOut : Answer ℕ → RtcpWritten
-writtenOut a = record { number = numberOf a; first = firstOf a; second = secondOf a; size = field (λ n. n) a }
+abbrev pub writtenResult : Answer ℕ → RtcpWritten
+writtenResult a = record { number = numberOf a; first = firstOf a; second = secondOf a; size = field (λ n. n) a }
 
-abbrev pub handedOut : Answer ℕ × List ℕ → RtcpWritten × List ℕ
-handedOut w = (writtenOut (w .0), w .1)
+abbrev pub writtenWithBuffer : Answer ℕ × List ℕ → RtcpWritten × List ℕ
+writtenWithBuffer w = (writtenResult (w .0), w .1)

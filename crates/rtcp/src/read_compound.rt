@@ -26,7 +26,7 @@ ghost use Rattle.utils.specs.Error.{codeRefusal};
 ghost use Rattle.utils.specs.List.{layList};
 ghost use Rattle.compound.specs.Compound.{compoundView, packetRows, walkAt, stepView};
 ghost use Rattle.rtcp.specs.Compound.{bareNumbers, srNumbers, rrNumbers, sdesNumbers, byeNumbers, appNumbers, unknownNumbers, numbersRead, compoundResult, walkResult, stepResult};
-ghost use Rattle.rtcp.specs.WriteResult.{handedOut};
+ghost use Rattle.rtcp.specs.WriteResult.{writtenWithBuffer};
 
 #[repr(C)]
 pub struct RtcpCompound {
@@ -262,7 +262,7 @@ pub extern "C" fn rtcp_compound_parse(s: &[u8]) -> RtcpCompound
 // Three numbers for each packet, in order, into a lent list: its type, its offset in the datagram and its length.
 #[no_mangle]
 pub extern "C" fn rtcp_compound_packets(s: &[u8], packets: &mut [u64]) -> RtcpWritten
-    ensures { λ r. ⌜ (r, now (packets .exit)) ≡ handedOut (layList (mapOk packetRows (readCompound (now (s .entry)))) (now (packets .entry))) ⌝ }
+    ensures { λ r. ⌜ (r, now (packets .exit)) ≡ writtenWithBuffer (layList (mapOk packetRows (readCompound (now (s .entry)))) (now (packets .entry))) ⌝ }
 {
     RtcpWritten::from_listed(Compound::packets(s, packets))
 }

@@ -3,7 +3,7 @@ use super::write_result::RtcpWritten;
 ghost use mathlib.Core.Path.{_≡_};
 ghost use Prim.Native.Nat.{ℕ};
 ghost use Rattle.rfc3550.specs.Write.{giveApp, calculateSize, write};
-ghost use Rattle.rtcp.specs.WriteResult.{writtenOut, handedOut};
+ghost use Rattle.rtcp.specs.WriteResult.{writtenResult, writtenWithBuffer};
 
 #[no_mangle]
 pub extern "C" fn rtcp_app_write(
@@ -14,7 +14,7 @@ pub extern "C" fn rtcp_app_write(
     data: &[u8],
     padding: u64,
 ) -> RtcpWritten
-    ensures { λ r. ⌜ (r, now (buf .exit)) ≡ handedOut (write (giveApp subtype ssrc (now (name .entry)) (now («data» .entry)) padding) (now (buf .entry))) ⌝ }
+    ensures { λ r. ⌜ (r, now (buf .exit)) ≡ writtenWithBuffer (write (giveApp subtype ssrc (now (name .entry)) (now («data» .entry)) padding) (now (buf .entry))) ⌝ }
 {
     RtcpWritten::from_written(app::write::write_into(buf, subtype, ssrc, name, data, padding))
 }
@@ -22,7 +22,7 @@ pub extern "C" fn rtcp_app_write(
 // The size is the same for every SSRC.
 #[no_mangle]
 pub extern "C" fn rtcp_app_size(subtype: u64, name: &[u8], data: &[u8], padding: u64) -> RtcpWritten
-    ensures { λ r. ⌜ ((ssrc : ℕ) → r ≡ writtenOut (calculateSize (giveApp subtype ssrc (now (name .entry)) (now («data» .entry)) padding))) ⌝ }
+    ensures { λ r. ⌜ ((ssrc : ℕ) → r ≡ writtenResult (calculateSize (giveApp subtype ssrc (now (name .entry)) (now («data» .entry)) padding))) ⌝ }
 {
     RtcpWritten::from_written(app::write::calculate_size(subtype, 0, name, data, padding))
 }

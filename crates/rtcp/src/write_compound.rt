@@ -13,7 +13,7 @@ ghost use Rattle.rfc3550.specs.Writer.{fresh, add, close, call};
 ghost use Rattle.report_write.specs.Report.{blockLists};
 ghost use Rattle.sdes_write.specs.Packets.{lists};
 ghost use Rattle.compound_write.specs.Writer.{writerOf, callOf};
-ghost use Rattle.rtcp.specs.WriteCompound.{writerIn, writerOut, handedOn, calledOut};
+ghost use Rattle.rtcp.specs.WriteCompound.{writerIn, writerOut, callWithState, callWithBuffer};
 
 // What a call answers: 0, or the refusal and its details, which leaves the writer and the buffer as they were.
 #[repr(C)]
@@ -45,7 +45,7 @@ fn writer_out(state: &mut [u64; 4], writer: Writer)
 
 // The answer of a call; the state is that of the writer after it, on a refusal as it was.
 fn hand_on(state: &mut [u64; 4], call: Call) -> RtcpCall
-    ensures { λ r. ⌜ (r, now (state .exit)) ≡ handedOn (now (state .entry)) (callOf call) ⌝ }
+    ensures { λ r. ⌜ (r, now (state .exit)) ≡ callWithState (now (state .entry)) (callOf call) ⌝ }
 {
     let answer = call.answer;
     match answer {
@@ -85,7 +85,7 @@ pub extern "C" fn rtcp_writer_add_rr(
     words: &[u32],
     padding: u64,
 ) -> RtcpCall
-    ensures { λ r. ⌜ (r, now (writer .exit), now (buf .exit)) ≡ calledOut (now (writer .entry)) (call (add (giveReport (receiver ssrc) (blockLists (now (fractions .entry)) (now (losses .entry)) (now (words .entry))) padding)) (writerIn (now (writer .entry))) (now (buf .entry))) ⌝ }
+    ensures { λ r. ⌜ (r, now (writer .exit), now (buf .exit)) ≡ callWithBuffer (now (writer .entry)) (call (add (giveReport (receiver ssrc) (blockLists (now (fractions .entry)) (now (losses .entry)) (now (words .entry))) padding)) (writerIn (now (writer .entry))) (now (buf .entry))) ⌝ }
 {
     let w = writer_in(writer);
     hand_on(
@@ -108,7 +108,7 @@ pub extern "C" fn rtcp_writer_add_sr(
     words: &[u32],
     padding: u64,
 ) -> RtcpCall
-    ensures { λ r. ⌜ (r, now (writer .exit), now (buf .exit)) ≡ calledOut (now (writer .entry)) (call (add (giveReport (sender ssrc «ntp_timestamp» «rtp_timestamp» «packet_count» «octet_count») (blockLists (now (fractions .entry)) (now (losses .entry)) (now (words .entry))) padding)) (writerIn (now (writer .entry))) (now (buf .entry))) ⌝ }
+    ensures { λ r. ⌜ (r, now (writer .exit), now (buf .exit)) ≡ callWithBuffer (now (writer .entry)) (call (add (giveReport (sender ssrc «ntp_timestamp» «rtp_timestamp» «packet_count» «octet_count») (blockLists (now (fractions .entry)) (now (losses .entry)) (now (words .entry))) padding)) (writerIn (now (writer .entry))) (now (buf .entry))) ⌝ }
 {
     let w = writer_in(writer);
     let info = SenderInfo {
@@ -136,7 +136,7 @@ pub extern "C" fn rtcp_writer_add_sdes(
     bytes: &[u8],
     padding: u64,
 ) -> RtcpCall
-    ensures { λ r. ⌜ (r, now (writer .exit), now (buf .exit)) ≡ calledOut (now (writer .entry)) (call (add (giveSdes (lists (now (ssrcs .entry)) (now (counts .entry)) (now (types .entry)) (now (prefixes .entry)) (now (values .entry)) (now (bytes .entry))) padding)) (writerIn (now (writer .entry))) (now (buf .entry))) ⌝ }
+    ensures { λ r. ⌜ (r, now (writer .exit), now (buf .exit)) ≡ callWithBuffer (now (writer .entry)) (call (add (giveSdes (lists (now (ssrcs .entry)) (now (counts .entry)) (now (types .entry)) (now (prefixes .entry)) (now (values .entry)) (now (bytes .entry))) padding)) (writerIn (now (writer .entry))) (now (buf .entry))) ⌝ }
 {
     let w = writer_in(writer);
     hand_on(
@@ -153,7 +153,7 @@ pub extern "C" fn rtcp_writer_add_bye(
     reason: &[u8],
     padding: u64,
 ) -> RtcpCall
-    ensures { λ r. ⌜ (r, now (writer .exit), now (buf .exit)) ≡ calledOut (now (writer .entry)) (call (add (giveBye (now (sources .entry)) (now (reason .entry)) padding)) (writerIn (now (writer .entry))) (now (buf .entry))) ⌝ }
+    ensures { λ r. ⌜ (r, now (writer .exit), now (buf .exit)) ≡ callWithBuffer (now (writer .entry)) (call (add (giveBye (now (sources .entry)) (now (reason .entry)) padding)) (writerIn (now (writer .entry))) (now (buf .entry))) ⌝ }
 {
     let w = writer_in(writer);
     hand_on(writer, w.add_bye(buf, sources, reason, padding))
@@ -169,7 +169,7 @@ pub extern "C" fn rtcp_writer_add_app(
     data: &[u8],
     padding: u64,
 ) -> RtcpCall
-    ensures { λ r. ⌜ (r, now (writer .exit), now (buf .exit)) ≡ calledOut (now (writer .entry)) (call (add (giveApp subtype ssrc (now (name .entry)) (now («data» .entry)) padding)) (writerIn (now (writer .entry))) (now (buf .entry))) ⌝ }
+    ensures { λ r. ⌜ (r, now (writer .exit), now (buf .exit)) ≡ callWithBuffer (now (writer .entry)) (call (add (giveApp subtype ssrc (now (name .entry)) (now («data» .entry)) padding)) (writerIn (now (writer .entry))) (now (buf .entry))) ⌝ }
 {
     let w = writer_in(writer);
     hand_on(writer, w.add_app(buf, subtype, ssrc, name, data, padding))
@@ -177,7 +177,7 @@ pub extern "C" fn rtcp_writer_add_app(
 
 #[no_mangle]
 pub extern "C" fn rtcp_writer_close(writer: &mut [u64; 4]) -> RtcpCall
-    ensures { λ r. ⌜ (r, now (writer .exit), []) ≡ calledOut (now (writer .entry)) (call close (writerIn (now (writer .entry))) []) ⌝ }
+    ensures { λ r. ⌜ (r, now (writer .exit), []) ≡ callWithBuffer (now (writer .entry)) (call close (writerIn (now (writer .entry))) []) ⌝ }
 {
     let w = writer_in(writer);
     hand_on(writer, w.close())

@@ -8,7 +8,7 @@ ghost use Prim.Native.Nat.{ℕ};
 ghost use Rattle.rfc3550.specs.Packet.{receiver, sender};
 ghost use Rattle.rfc3550.specs.Write.{giveReport, calculateSize, write};
 ghost use Rattle.report_write.specs.Report.{blockLists};
-ghost use Rattle.rtcp.specs.WriteResult.{writtenOut, handedOut};
+ghost use Rattle.rtcp.specs.WriteResult.{writtenResult, writtenWithBuffer};
 
 #[no_mangle]
 pub extern "C" fn rtcp_rr_write(
@@ -19,7 +19,7 @@ pub extern "C" fn rtcp_rr_write(
     words: &[u32],
     padding: u64,
 ) -> RtcpWritten
-    ensures { λ r. ⌜ (r, now (buf .exit)) ≡ handedOut (write (giveReport (receiver ssrc) (blockLists (now (fractions .entry)) (now (losses .entry)) (now (words .entry))) padding) (now (buf .entry))) ⌝ }
+    ensures { λ r. ⌜ (r, now (buf .exit)) ≡ writtenWithBuffer (write (giveReport (receiver ssrc) (blockLists (now (fractions .entry)) (now (losses .entry)) (now (words .entry))) padding) (now (buf .entry))) ⌝ }
 {
     RtcpWritten::from_written(receiver::write_into(buf, ssrc, fractions, losses, words, padding))
 }
@@ -32,7 +32,7 @@ pub extern "C" fn rtcp_rr_size(
     words: &[u32],
     padding: u64,
 ) -> RtcpWritten
-    ensures { λ r. ⌜ ((ssrc : ℕ) → r ≡ writtenOut (calculateSize (giveReport (receiver ssrc) (blockLists (now (fractions .entry)) (now (losses .entry)) (now (words .entry))) padding))) ⌝ }
+    ensures { λ r. ⌜ ((ssrc : ℕ) → r ≡ writtenResult (calculateSize (giveReport (receiver ssrc) (blockLists (now (fractions .entry)) (now (losses .entry)) (now (words .entry))) padding))) ⌝ }
 {
     RtcpWritten::from_written(receiver::calculate_size(fractions, losses, words, padding))
 }
@@ -50,7 +50,7 @@ pub extern "C" fn rtcp_sr_write(
     words: &[u32],
     padding: u64,
 ) -> RtcpWritten
-    ensures { λ r. ⌜ (r, now (buf .exit)) ≡ handedOut (write (giveReport (sender ssrc «ntp_timestamp» «rtp_timestamp» «packet_count» «octet_count») (blockLists (now (fractions .entry)) (now (losses .entry)) (now (words .entry))) padding) (now (buf .entry))) ⌝ }
+    ensures { λ r. ⌜ (r, now (buf .exit)) ≡ writtenWithBuffer (write (giveReport (sender ssrc «ntp_timestamp» «rtp_timestamp» «packet_count» «octet_count») (blockLists (now (fractions .entry)) (now (losses .entry)) (now (words .entry))) padding) (now (buf .entry))) ⌝ }
 {
     let info = SenderInfo {
         ssrc,
@@ -70,7 +70,7 @@ pub extern "C" fn rtcp_sr_size(
     words: &[u32],
     padding: u64,
 ) -> RtcpWritten
-    ensures { λ r. ⌜ ((ssrc ntp rtp packets octets : ℕ) → r ≡ writtenOut (calculateSize (giveReport (sender ssrc ntp rtp packets octets) (blockLists (now (fractions .entry)) (now (losses .entry)) (now (words .entry))) padding))) ⌝ }
+    ensures { λ r. ⌜ ((ssrc ntp rtp packets octets : ℕ) → r ≡ writtenResult (calculateSize (giveReport (sender ssrc ntp rtp packets octets) (blockLists (now (fractions .entry)) (now (losses .entry)) (now (words .entry))) padding))) ⌝ }
 {
     RtcpWritten::from_written(sender::calculate_size(fractions, losses, words, padding))
 }

@@ -4,7 +4,7 @@ use utils::writer::Written;
 ghost use mathlib.Core.Path.{_≡_};
 ghost use Rattle.utils.specs.List.{listedOf};
 ghost use Rattle.utils.specs.Writer.{writtenOf};
-ghost use Rattle.rtcp.specs.WriteResult.{writtenOut};
+ghost use Rattle.rtcp.specs.WriteResult.{writtenResult};
 
 #[repr(C)]
 pub struct RtcpWritten {
@@ -16,7 +16,7 @@ pub struct RtcpWritten {
 
 impl RtcpWritten {
     pub fn from_written(written: Written) -> RtcpWritten
-        ensures { λ r. ⌜ r ≡ writtenOut (writtenOf written) ⌝ }
+        ensures { λ r. ⌜ r ≡ writtenResult (writtenOf written) ⌝ }
     {
         match written {
             Written::Size(size) => RtcpWritten {
@@ -38,7 +38,7 @@ impl RtcpWritten {
     }
 
     pub fn from_listed(listed: Listed) -> RtcpWritten
-        ensures { λ r. ⌜ r ≡ writtenOut (listedOf listed) ⌝ }
+        ensures { λ r. ⌜ r ≡ writtenResult (listedOf listed) ⌝ }
     {
         match listed {
             Listed::Len(len) => RtcpWritten {

@@ -7,7 +7,7 @@ ghost use Prim.Native.Nat.{ℕ};
 ghost use Rattle.rfc3550.specs.Write.{giveSdes, calculateSize, write, chunkSize, writeChunk, itemSize, writeItem};
 ghost use Rattle.chunk_write.specs.Sizes.{lent};
 ghost use Rattle.sdes_write.specs.Packets.{lists};
-ghost use Rattle.rtcp.specs.WriteResult.{writtenOut, handedOut};
+ghost use Rattle.rtcp.specs.WriteResult.{writtenResult, writtenWithBuffer};
 
 // A lone item.
 #[no_mangle]
@@ -17,14 +17,14 @@ pub extern "C" fn rtcp_item_write(
     prefix: &[u8],
     value: &[u8],
 ) -> RtcpWritten
-    ensures { λ r. ⌜ (r, now (buf .exit)) ≡ handedOut (writeItem (lent «type_» (now (prefix .entry)) (now (value .entry))) (now (buf .entry))) ⌝ }
+    ensures { λ r. ⌜ (r, now (buf .exit)) ≡ writtenWithBuffer (writeItem (lent «type_» (now (prefix .entry)) (now (value .entry))) (now (buf .entry))) ⌝ }
 {
     RtcpWritten::from_written(item::write_into(buf, type_, prefix, value))
 }
 
 #[no_mangle]
 pub extern "C" fn rtcp_item_size(type_: u8, prefix: &[u8], value: &[u8]) -> RtcpWritten
-    ensures { λ r. ⌜ r ≡ writtenOut (itemSize (lent «type_» (now (prefix .entry)) (now (value .entry)))) ⌝ }
+    ensures { λ r. ⌜ r ≡ writtenResult (itemSize (lent «type_» (now (prefix .entry)) (now (value .entry)))) ⌝ }
 {
     RtcpWritten::from_written(item::calculate_size(type_, prefix, value))
 }
@@ -39,7 +39,7 @@ pub extern "C" fn rtcp_chunk_write(
     values: &[u64],
     bytes: &[u8],
 ) -> RtcpWritten
-    ensures { λ r. ⌜ (r, now (buf .exit)) ≡ handedOut (writeChunk ssrc (now (types .entry)) (now (prefixes .entry)) (now (values .entry)) (now (bytes .entry)) (now (buf .entry))) ⌝ }
+    ensures { λ r. ⌜ (r, now (buf .exit)) ≡ writtenWithBuffer (writeChunk ssrc (now (types .entry)) (now (prefixes .entry)) (now (values .entry)) (now (bytes .entry)) (now (buf .entry))) ⌝ }
 {
     RtcpWritten::from_written(chunk::write_into(buf, ssrc, types, prefixes, values, bytes))
 }
@@ -52,7 +52,7 @@ pub extern "C" fn rtcp_chunk_size(
     values: &[u64],
     bytes: &[u8],
 ) -> RtcpWritten
-    ensures { λ r. ⌜ ((ssrc : ℕ) → r ≡ writtenOut (chunkSize ssrc (now (types .entry)) (now (prefixes .entry)) (now (values .entry)) (now (bytes .entry)))) ⌝ }
+    ensures { λ r. ⌜ ((ssrc : ℕ) → r ≡ writtenResult (chunkSize ssrc (now (types .entry)) (now (prefixes .entry)) (now (values .entry)) (now (bytes .entry)))) ⌝ }
 {
     RtcpWritten::from_written(chunk::calculate_size(0, types, prefixes, values, bytes))
 }
@@ -68,7 +68,7 @@ pub extern "C" fn rtcp_sdes_write(
     bytes: &[u8],
     padding: u64,
 ) -> RtcpWritten
-    ensures { λ r. ⌜ (r, now (buf .exit)) ≡ handedOut (write (giveSdes (lists (now (ssrcs .entry)) (now (counts .entry)) (now (types .entry)) (now (prefixes .entry)) (now (values .entry)) (now (bytes .entry))) padding) (now (buf .entry))) ⌝ }
+    ensures { λ r. ⌜ (r, now (buf .exit)) ≡ writtenWithBuffer (write (giveSdes (lists (now (ssrcs .entry)) (now (counts .entry)) (now (types .entry)) (now (prefixes .entry)) (now (values .entry)) (now (bytes .entry))) padding) (now (buf .entry))) ⌝ }
 {
     RtcpWritten::from_written(sdes_write::write_into(
         buf,
@@ -92,7 +92,7 @@ pub extern "C" fn rtcp_sdes_size(
     bytes: &[u8],
     padding: u64,
 ) -> RtcpWritten
-    ensures { λ r. ⌜ r ≡ writtenOut (calculateSize (giveSdes (lists (now (ssrcs .entry)) (now (counts .entry)) (now (types .entry)) (now (prefixes .entry)) (now (values .entry)) (now (bytes .entry))) padding)) ⌝ }
+    ensures { λ r. ⌜ r ≡ writtenResult (calculateSize (giveSdes (lists (now (ssrcs .entry)) (now (counts .entry)) (now (types .entry)) (now (prefixes .entry)) (now (values .entry)) (now (bytes .entry))) padding)) ⌝ }
 {
     RtcpWritten::from_written(sdes_write::calculate_size(
         ssrcs,

@@ -5,20 +5,20 @@ use mathlib.Core.Path.{_≡_, refl, sym, ap, _∙_}
 use mathlib.Core.List.{List, [], _∷_, _++_, append-assoc}
 use native.Mathlib.Omega.{arith}
 use borrow.Author.Tests.{ne-eqb}
-use lib.ListN.{length, take, drop, replicate, length-append}
+use lib.ListN.{length, take, replicate, length-append}
 use Rattle.rfc3550.specs.Answer.{Answer, ok, mapOk}
 use Rattle.rfc3550.specs.Bytes.{Bytes, be}
 use Rattle.rfc3550.specs.Packet.{Item, item, priv, itemBytes, itemsBytes, fill, Chunk, chunkBytes, chunksBytes, receiver, sender, Content, report, sdes, bye, app, unknown, Packet, paddingBit, contentBytes, layout, chunksOf, All, ItemValid, ChunkValid, Valid}
 use Rattle.rfc3550.specs.Read.{SDES, kindFor, readAs}
-use Rattle.rfc3550.proofs.Answer.{mapOk-inv, true≢false}
+use Rattle.rfc3550.proofs.Answers.{mapOk-inv, true≢false}
 use Rattle.rfc3550.proofs.Bytes.{length-be}
-use Rattle.rfc3550.proofs.Packet.{packet-sound}
+use Rattle.rfc3550.proofs.Packets.{packet-sound}
 use Rattle.rfc3550.proofs.Places.{value-at, prefix-at, priv-value-at}
 use Rattle.utils.specs.List.{listedOf, layList}
 use Rattle.utils.specs.declared.list.Listed.the-variants as listed
 use Rattle.utils.proofs.Filled.{filled}
 use Rattle.sdes.specs.ItemRows.{itemRows, chunkRows, sdesRows}
-use Rattle.sdes.specs.ItemEntries.{entryIn, entriesIn, itemEntries, chunkEntries}
+use Rattle.sdes.specs.ItemEntries.{entriesIn, itemEntries, chunkEntries}
 
 module _ (s : List ℕ) where
   item-rows : (pre rest : List ℕ) (ssrc at : ℕ) (is : List Item) (rows : List ℕ) → length pre ≡ at → pre ++ (itemsBytes is ++ rest) ≡ s → All ItemValid is

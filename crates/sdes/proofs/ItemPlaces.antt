@@ -5,18 +5,17 @@ use mathlib.Core.Bool.{Bool, true, false}
 use mathlib.Core.List.{List, [], _∷_, _++_, append-assoc}
 use native.Mathlib.Nat.{add-zero, add-assoc}
 use native.Mathlib.Omega.{arith}
-use borrow.Author.Needs.{needs}
 use borrow.Author.Tests.{lt-ltb, le-ltb, eq-eqb, ne-eqb, eqb-true, eqb-false}
 use lib.ListN.{length, getD, take, drop, length-append, length-drop, length-replicate}
-use lib.Seq.{drop-cons, drop-drop, getD-drop}
+use lib.Seq.{drop-drop, getD-drop}
 use lib.Dec.{eqb}
-use Rattle.rfc3550.specs.Answer.{Answer, ok, _>>=_, mapOk, pick}
+use Rattle.rfc3550.specs.Answer.{ok, mapOk}
 use Rattle.rfc3550.specs.Bytes.{Bytes, val}
 use Rattle.rfc3550.specs.Packet.{Item, item, priv, itemType, itemRest, itemBytes, itemsBytes, fill, Chunk, chunkBytes, Content, sdes, chunksOf, Packet}
 use Rattle.rfc3550.specs.Read.{SDES, lowIn, readItem, readItems, readChunk, readChunks, readAs}
-use Rattle.rfc3550.proofs.Answer.{mapOk-inv, need-inv, bind-elim, ok-injective, refused≢ok, true≢false}
+use Rattle.rfc3550.proofs.Answers.{mapOk-inv, need-inv, bind-elim, ok-injective, refused≢ok, true≢false}
 use Rattle.rfc3550.proofs.Bytes.{length-be}
-use Rattle.rfc3550.proofs.Packet.{packet-sound}
+use Rattle.rfc3550.proofs.Packets.{packet-sound}
 use Rattle.utils.proofs.Reading.{got}
 use Rattle.utils.specs.Error.{valueOr}
 use Rattle.sdes_chunk.specs.declared.item.SdesItem.{SdesItem}

@@ -1,11 +1,11 @@
 -- The turns that count and lay the rows, and the cases of the whole call.
 use Prim.Native.Nat.{ℕ, zero, suc, _+_, _-_, _*_, _/_, _^_, _<_, _≤_}
 use mathlib.Core.Path.{_≡_, refl, sym, ap, _∙_, subst}
-use mathlib.Core.List.{List, [], _∷_, _++_}
+use mathlib.Core.List.{List, [], _∷_}
 use native.Mathlib.Nat.{zero-add}
 use native.Mathlib.Omega.{arith}
 use borrow.Author.Needs.{needs}
-use borrow.Author.Tests.{le-leb, lt-leb, ne-eqb}
+use borrow.Author.Tests.{le-leb, lt-leb}
 use lib.ListN.{length, getD, set, take, drop}
 use lib.Seq.{length-take-le}
 use lib.Dec.{leb}
@@ -29,7 +29,7 @@ use Rattle.sdes.specs.declared.items.Row.{Row}
 use Rattle.sdes.specs.declared.items.Place.{Place}
 use Rattle.sdes.specs.ItemRows.{sdesRows}
 use Rattle.sdes.specs.ItemPlaces.{rowOf, chunkPlace, placeAfter, rowAt, HasRow, RowsAt, rowsFrom, Needed, RoomFor, LaidUpTo, ItemsLaid, AllLaid}
-use Rattle.sdes.proofs.ItemPlaces.{chunk-none, chunk-some, after-zero, after-item, after-less, row-end, row-zero, item-within, item-next, item-less, item-stands, item-some, row-length, row-plain, row-prefix, row-value, row-one, row-rest, row-rest-fits, row-priv, row-next, length-row, length-rows, after-more, rows-most, rows-one, Reads, packet-read, packet-most}
+use Rattle.sdes.proofs.ItemPlaces.{chunk-none, chunk-some, after-zero, after-less, row-end, row-zero, item-within, item-next, item-less, item-stands, item-some, row-length, row-plain, row-prefix, row-value, row-one, row-rest, row-rest-fits, row-priv, row-next, length-row, length-rows, after-more, rows-most, rows-one, Reads, packet-read, packet-most}
 
 -- ---- the count
 

@@ -12,7 +12,7 @@ use lib.Seq.{drop-drop, length-take-le}
 use Rattle.rfc3550.specs.Answer.{Refusal, refusal, Answer, ok, refused, refuse, _>>=_, mapOk}
 use Rattle.rfc3550.specs.Packet.{some, Chunk, chunkBytes, chunkHasCname, Content, Packet, sdes, contentBytes}
 use Rattle.rfc3550.specs.Read.{SDES, lowIn, checkPacket, readChunk, readChunks, readContent, readAs}
-use Rattle.rfc3550.proofs.Answer.{mapOk-inv, or-assoc, or-false}
+use Rattle.rfc3550.proofs.Answers.{mapOk-inv, or-assoc, or-false}
 use Rattle.utils.specs.Error.{refusalIn, valueOr, orZero}
 use Rattle.utils.proofs.Values.{value-is, none-is}
 use Rattle.utils.proofs.Parts.{drop-take}

@@ -1,20 +1,20 @@
 -- The answers of a walk over chunks, from a walk just opened: answer i gives chunk i, its fields and its bytes, and 25 once all are given. A walk
 -- over the items of these bytes gives the chunk's items (`items-returned` of sdes_chunk).
-use Prim.Native.Nat.{ℕ, _-_, _≤_}
+use Prim.Native.Nat.{ℕ, _-_}
 use mathlib.Core.Path.{_≡_, refl, sym, ap, _∙_}
 use mathlib.Core.List.{List}
 use native.Mathlib.Omega.{arith}
 use lib.ListN.{length, take, drop}
 use lib.Seq.{take-all}
-use Rattle.rfc3550.specs.Answer.{Answer, ok, mapOk, _>>=_}
+use Rattle.rfc3550.specs.Answer.{ok, mapOk}
 use Rattle.rfc3550.specs.Bytes.{Bytes}
-use Rattle.rfc3550.specs.Packet.{Chunk, chunkBytes, chunksOf, Packet}
+use Rattle.rfc3550.specs.Packet.{chunkBytes, chunksOf, Packet}
 use Rattle.rfc3550.specs.Read.{SDES, nth, readAs}
 use Rattle.rfc3550.specs.Walk.{SdesWalk, openSdes, sdesStep, gave, walked}
-use Rattle.rfc3550.specs.Returned.{Ran, seenOf, firsts}
-use Rattle.rfc3550.proofs.Answer.{bind-elim, ok-injective, mapOk-inv}
-use Rattle.rfc3550.proofs.Packet.{packet-sound, length-layout}
-use Rattle.rfc3550.proofs.Walk.{sdes-walk-gives}
+use Rattle.rfc3550.specs.Returned.{Ran, shownOf, firsts}
+use Rattle.rfc3550.proofs.Answers.{bind-elim, ok-injective, mapOk-inv}
+use Rattle.rfc3550.proofs.Packets.{packet-sound, length-layout}
+use Rattle.rfc3550.proofs.Walks.{sdes-walk-gives}
 use Rattle.rfc3550.proofs.Places.{chunk-at}
 use Rattle.rfc3550.proofs.Returned.{answers-run}
 use Rattle.sdes_chunk.specs.Chunk.{chunkView}
@@ -33,7 +33,7 @@ short s p h e =
 
 module _ (s : List ℕ) (h : Bytes s) where
   pub run-chunks : (p : Packet) → readAs SDES s ≡ ok p → (w : ChunkWalk) → openSdes s ≡ ok (sdesWalk w) → (rs : List SteppedChunk) → Ran (chunkSteps s) rs w
-      → seenOf (chunkSteps s) (λ h r. mapOk (chunkSeen s h) (steppedChunkOf r)) rs w ≡ firsts (length rs) (λ (i : ℕ). mapOk chunkIs (nth i (chunksOf (p .content))))
+      → shownOf (chunkSteps s) (λ h r. mapOk (chunkSeen s h) (steppedChunkOf r)) rs w ≡ firsts (length rs) (λ (i : ℕ). mapOk chunkIs (nth i (chunksOf (p .content))))
   run-chunks p e w z rs t =
       let g = sdes-walk-gives s p h e in
       let k : sdesWalk w ≡ g .0 = ok-injective (sym z ∙ g .1) in
@@ -48,7 +48,7 @@ module _ (s : List ℕ) (h : Bytes s) where
   -- a walk that `ChunkWalk::open` returned, and the answers of `ChunkWalk::step` in turn
   pub chunks-returned : (w : ChunkWalk) → openedChunksOf (opened.Walk w) ≡ mapOk chunkWalk (openSdes s)
       → (p : Packet) × (readAs SDES s ≡ ok p)
-      × ((rs : List SteppedChunk) → Ran (chunkSteps s) rs w → seenOf (chunkSteps s) (λ h r. mapOk (chunkSeen s h) (steppedChunkOf r)) rs w ≡ firsts (length rs) (λ (i : ℕ). mapOk chunkIs (nth i (chunksOf (p .content)))))
+      × ((rs : List SteppedChunk) → Ran (chunkSteps s) rs w → shownOf (chunkSteps s) (λ h r. mapOk (chunkSeen s h) (steppedChunkOf r)) rs w ≡ firsts (length rs) (λ (i : ℕ). mapOk chunkIs (nth i (chunksOf (p .content)))))
   chunks-returned w e =
       let m = mapOk-inv chunkWalk (openSdes s) (sym e) in
       let z : openSdes s ≡ ok (sdesWalk w) = m .1 ∙ ap (λ (w : ChunkWalk). ok (sdesWalk w)) (m .2) in

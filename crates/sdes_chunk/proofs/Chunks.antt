@@ -16,7 +16,7 @@ use Rattle.rfc3550.specs.Answer.{Refusal, refusal, Answer, ok, refused, refuse,
 use Rattle.rfc3550.specs.Bytes.{val}
 use Rattle.rfc3550.specs.Packet.{Item, itemType, itemRest, itemBytes, itemsBytes, isCname, some, Chunk, chunkBytes, chunkHasCname, fill}
 use Rattle.rfc3550.specs.Read.{readItem, readFill, readItems, readChunk}
-use Rattle.rfc3550.proofs.Answer.{mapOk-inv, need-inv, bind-elim, ok-injective, refused≢ok, true≢false}
+use Rattle.rfc3550.proofs.Answers.{mapOk-inv, need-inv, bind-elim, ok-injective, refused≢ok, true≢false}
 use Rattle.rfc3550.proofs.Bytes.{length-be}
 use Rattle.utils.specs.Error.{refusalIn, valueOr}
 use Rattle.utils.proofs.Values.{value-came, value-is, none-came, none-is}

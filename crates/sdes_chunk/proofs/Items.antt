@@ -13,7 +13,7 @@ use Rattle.rfc3550.specs.Answer.{Refusal, refusal, Answer, ok, refused, refuse,
 use Rattle.rfc3550.specs.Packet.{Item, item, priv, itemType, itemBytes}
 use Rattle.rfc3550.specs.Read.{readItem, itemOf, readPrefix}
 use Rattle.rfc3550.specs.Walk.{itemStep}
-use Rattle.rfc3550.proofs.Answer.{mapOk-inv, true≢false}
+use Rattle.rfc3550.proofs.Answers.{mapOk-inv, true≢false}
 use Rattle.utils.specs.declared.error.Code.{Code}
 use Rattle.utils.specs.Error.{codeRefusal, refusalIn, valueOr}
 use Rattle.utils.proofs.Values.{value-came, none-came, none-is}

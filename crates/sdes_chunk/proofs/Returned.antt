@@ -7,20 +7,19 @@ use borrow.Author.Tests.{ltb-true}
 use lib.ListN.{length, take, drop, length-append, take-append-drop}
 use lib.Seq.{length-take-le}
 use lib.Dec.{eqb}
-use Rattle.rfc3550.specs.Answer.{Answer, ok, mapOk, _>>=_}
+use Rattle.rfc3550.specs.Answer.{ok, mapOk}
 use Rattle.rfc3550.specs.Bytes.{Bytes}
 use Rattle.rfc3550.specs.Packet.{Item, item, priv, itemType, itemBytes, Chunk}
 use Rattle.rfc3550.specs.Read.{nth, readItem, readChunk}
 use Rattle.rfc3550.specs.Walk.{openItems, itemStep, gave, walked}
-use Rattle.rfc3550.specs.Returned.{Ran, seenOf, firsts}
-use Rattle.rfc3550.proofs.Answer.{need-inv, bind-elim, ok-injective, mapOk-inv}
-use Rattle.rfc3550.proofs.Walk.{item-walk-gives}
+use Rattle.rfc3550.specs.Returned.{Ran, shownOf, firsts}
+use Rattle.rfc3550.proofs.Answers.{need-inv, bind-elim, ok-injective, mapOk-inv}
+use Rattle.rfc3550.proofs.Walks.{item-walk-gives}
 use Rattle.rfc3550.proofs.Places.{value-at, prefix-at, priv-value-at}
 use Rattle.rfc3550.proofs.Returned.{answers-run}
 use Rattle.sdes_chunk.specs.Item.{itemView}
 use Rattle.sdes_chunk.specs.Walk.{itemWalk, openedItemsOf, steppedItemOf}
 use Rattle.sdes_chunk.specs.Returned.{itemSteps, itemFrom, itemSeen, itemIs}
-use Rattle.sdes_chunk.specs.declared.item.SdesItem.{SdesItem}
 use Rattle.sdes_chunk.specs.declared.chunk.ItemWalk.{ItemWalk}
 use Rattle.sdes_chunk.specs.declared.chunk.OpenedItems.the-variants as opened
 use Rattle.sdes_chunk.specs.declared.chunk.SteppedItem.{SteppedItem}
@@ -47,7 +46,7 @@ item-step-from s at x e =
 
 module _ (s : List ℕ) (h : Bytes s) where
   run-items : (x : Chunk × List ℕ) → readChunk s ≡ ok x → (w : ItemWalk) → w .at ≡ 4 → (rs : List SteppedItem) → Ran (itemSteps s) rs w
-      → seenOf (itemSteps s) (λ h r. mapOk (itemSeen s h) (steppedItemOf r)) rs w ≡ firsts (length rs) (λ (i : ℕ). mapOk itemIs (nth i (x .0 .items)))
+      → shownOf (itemSteps s) (λ h r. mapOk (itemSeen s h) (steppedItemOf r)) rs w ≡ firsts (length rs) (λ (i : ℕ). mapOk itemIs (nth i (x .0 .items)))
   run-items x e w z rs t =
       answers-run (itemSteps s) (itemStep s) (λ h. h .at) itemWalk (λ w. refl) itemView steppedItemOf (λ h r m. m) (λ h r. refl) (itemSeen s) itemIs
       (λ h x q. ap (λ (i : Item). (itemView (x .0), i)) (item-step-from s (h .at) x q)) w (x .0 .items)
@@ -56,7 +55,7 @@ module _ (s : List ℕ) (h : Bytes s) where
   -- a walk that `ItemWalk::open` returned, and the answers of `ItemWalk::step` in turn
   pub items-returned : (w : ItemWalk) → openedItemsOf (opened.Walk w) ≡ mapOk itemWalk (openItems s)
       → (x : Chunk × List ℕ) × (readChunk s ≡ ok x)
-      × ((rs : List SteppedItem) → Ran (itemSteps s) rs w → seenOf (itemSteps s) (λ h r. mapOk (itemSeen s h) (steppedItemOf r)) rs w ≡ firsts (length rs) (λ (i : ℕ). mapOk itemIs (nth i (x .0 .items))))
+      × ((rs : List SteppedItem) → Ran (itemSteps s) rs w → shownOf (itemSteps s) (λ h r. mapOk (itemSeen s h) (steppedItemOf r)) rs w ≡ firsts (length rs) (λ (i : ℕ). mapOk itemIs (nth i (x .0 .items))))
   unfolding openItems
   items-returned w e =
       let m = mapOk-inv itemWalk (openItems s) (sym e) in

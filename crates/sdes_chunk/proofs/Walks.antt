@@ -1,5 +1,5 @@
 -- The steps of the walk over a chunk's items.
-use Prim.Native.Nat.{ℕ, _+_, _-_, _^_, _<_, _≤_}
+use Prim.Native.Nat.{ℕ, _-_, _<_, _≤_}
 use native.Mathlib.Omega.{arith}
 use mathlib.Core.Path.{_≡_, refl, sym, ap, _∙_}
 use mathlib.Core.Bool.{not}
@@ -7,12 +7,12 @@ use mathlib.Core.List.{List}
 use lib.Dec.{ltb, eqb}
 use borrow.Author.Needs.{needs}
 use borrow.Author.Tests.{lt-ltb, ne-eqb}
-use lib.ListN.{length, getD, take, drop, length-drop}
-use Rattle.rfc3550.specs.Answer.{Refusal, Answer, ok, refused, refuse, need, _>>_, _>>=_, mapOk}
+use lib.ListN.{length, getD, take, drop}
+use Rattle.rfc3550.specs.Answer.{Refusal, Answer, ok, refused, need, _>>_, _>>=_, mapOk}
 use Rattle.rfc3550.specs.Packet.{Item}
 use Rattle.rfc3550.specs.Read.{readItem, readChunk}
 use Rattle.rfc3550.specs.Walk.{openItems, itemStep}
-use Rattle.rfc3550.proofs.Answer.{need-inv, bind-elim, ok-injective}
+use Rattle.rfc3550.proofs.Answers.{need-inv, bind-elim, ok-injective}
 use Rattle.utils.specs.Error.{refusalIn, valueOr}
 use Rattle.utils.proofs.Values.{value-came, none-came}
 use Rattle.sdes_chunk.specs.declared.item.SdesItem.{SdesItem}

@@ -6,7 +6,7 @@ use lib.ListN.{take, drop}
 use lib.Dec.{eqb}
 use Rattle.rfc3550.specs.Answer.{mapOk, pick}
 use Rattle.rfc3550.specs.Packet.{Item, item, priv}
-use Rattle.rfc3550.specs.Walk.{itemStep, moved}
+use Rattle.rfc3550.specs.Walk.{itemStep, walkAfter}
 use Rattle.rfc3550.specs.Returned.{Stepper}
 use Rattle.sdes_chunk.specs.Item.{itemView}
 use Rattle.sdes_chunk.specs.Walk.{itemStepped, steppedItemOf}
@@ -16,7 +16,7 @@ use Rattle.sdes_chunk.specs.declared.chunk.SteppedItem.{SteppedItem}
 
 -- the ensures of `ItemWalk::step` on the bytes s, and the walk that is left
 abbrev pub itemSteps : List ℕ → Stepper
-itemSteps s = record { H = ItemWalk; R = SteppedItem; Meets = λ self r. steppedItemOf r ≡ mapOk itemStepped (itemStep s (self .at)); next = λ self r. moved self (steppedItemOf r) }
+itemSteps s = record { H = ItemWalk; R = SteppedItem; Meets = λ self r. steppedItemOf r ≡ mapOk itemStepped (itemStep s (self .at)); next = λ self r. walkAfter self (steppedItemOf r) }
 
 -- of an item that stands at `at`
 abbrev pub itemFrom : List ℕ → ℕ → SdesItem → Item

@@ -4,24 +4,23 @@ use mathlib.Core.Path.{_≡_, refl, sym, ap, _∙_}
 use mathlib.Core.List.{List}
 use lib.ListN.{length, take, drop}
 use denote.Ref.{RefT, now}
-use Rattle.rfc3550.specs.Answer.{Answer, ok, refused, mapOk, _>>=_}
+use Rattle.rfc3550.specs.Answer.{Answer, ok, refused, mapOk}
 use Rattle.rfc3550.specs.Bytes.{Bytes}
 use Rattle.rfc3550.specs.Packet.{Chunk, chunkBytes, chunksOf, Packet}
 use Rattle.rfc3550.specs.Read.{SDES, nth, readAs}
 use Rattle.rfc3550.specs.Walk as rfc
-use Rattle.rfc3550.specs.Returned.{Ran, seenOf, firsts}
-use Rattle.rfc3550.proofs.Answer.{bind-elim, ok-injective, mapOk-inv}
-use Rattle.rfc3550.proofs.Walk.{sdes-walk-gives}
+use Rattle.rfc3550.specs.Returned.{Ran, shownOf, firsts}
+use Rattle.rfc3550.proofs.Answers.{ok-injective, mapOk-inv}
+use Rattle.rfc3550.proofs.Walks.{sdes-walk-gives}
 use Rattle.rfc3550.proofs.Places.{chunk-at}
 use Rattle.rfc3550.proofs.Returned.{Steps, runs}
 use Rattle.sdes_chunk.specs.Chunk.{chunkView}
-use Rattle.sdes_chunk.specs.declared.chunk.SdesChunk.{SdesChunk}
-use Rattle.sdes.specs.Walk.{chunkWalk, sdesWalk, chunkStepped, openedChunksOf, steppedChunkOf}
+use Rattle.sdes.specs.Walk.{chunkWalk, sdesWalk, chunkStepped, openedChunksOf}
 use Rattle.sdes.specs.Returned.{chunkSeen, chunkIs}
 use Rattle.sdes.specs.declared.sdes.ChunkWalk.{ChunkWalk}
 use Rattle.sdes.specs.declared.sdes.OpenedChunks.the-variants as opened
 use Rattle.sdes.proofs.Returned.{short, packet-of}
-use Rattle.sdes_walk.specs.Walk.{startOf, stepAt, openedOn, movedOn}
+use Rattle.sdes_walk.specs.Walk.{startOf, stepAt, openedOn}
 use Rattle.sdes_walk.specs.Returned.{heldSteps, heldSeen}
 use Rattle.sdes_walk.specs.declared.SdesWalk.{SdesWalk}
 use Rattle.sdes_walk.specs.declared.OpenedWalk.{OpenedWalk}
@@ -35,7 +34,7 @@ module _ (d : RefT (List ℕ)) (h : Bytes (now d)) (p : Packet) (e : readAs SDES
   seen-chunk w (ok x) q =
       ap (λ (b : List ℕ). ok (chunkView (x .0), b)) (ap (λ (l : List ℕ). take (length (chunkBytes (x .0))) (drop (w .at) l)) (sym (short (now d) p h e)) ∙ chunk-at (now d) (sdesWalk w) h x q)
 
-  moved-chunk : (w : ChunkWalk) (a : Answer (Chunk × rfc.SdesWalk)) → sdesWalk (rfc.moved w (mapOk chunkStepped a)) ≡ rfc.moved (sdesWalk w) a
+  moved-chunk : (w : ChunkWalk) (a : Answer (Chunk × rfc.SdesWalk)) → sdesWalk (rfc.walkAfter w (mapOk chunkStepped a)) ≡ rfc.walkAfter (sdesWalk w) a
   unfolding mapOk
   moved-chunk w (refused r) = refl
   moved-chunk w (ok x) = refl
@@ -50,13 +49,13 @@ module _ (d : RefT (List ℕ)) (h : Bytes (now d)) (p : Packet) (e : readAs SDES
         moves = λ w r o m. (
           ap (λ (w : SdesWalk). w .«data») (m .1) ∙ o,
           ap (λ (w : SdesWalk). sdesWalk (w .position)) (m .1)
-              ∙ ap (λ (d : RefT (List ℕ)). sdesWalk (rfc.moved (w .position) (stepAt (now d) (w .position)))) o
+              ∙ ap (λ (d : RefT (List ℕ)). sdesWalk (rfc.walkAfter (w .position) (stepAt (now d) (w .position)))) o
               ∙ moved-chunk (w .position) (rfc.sdesStep (now d) (sdesWalk (w .position))),
         );
       }
 
   run-held : (w : SdesWalk) → w .«data» ≡ d → rfc.openSdes (now d) ≡ ok (sdesWalk (w .position)) → (rs : List SteppedWalk) → Ran heldSteps rs w
-      → seenOf heldSteps heldSeen rs w ≡ firsts (length rs) (λ (i : ℕ). mapOk chunkIs (nth i (chunksOf (p .content))))
+      → shownOf heldSteps heldSeen rs w ≡ firsts (length rs) (λ (i : ℕ). mapOk chunkIs (nth i (chunksOf (p .content))))
   run-held w o z rs t =
       let g = sdes-walk-gives (now d) p h e in
       let k : sdesWalk (w .position) ≡ g .0 = ok-injective (sym z ∙ g .1) in
@@ -66,7 +65,7 @@ module _ (d : RefT (List ℕ)) (h : Bytes (now d)) (p : Packet) (e : readAs SDES
 -- what `SdesWalk::open` returned on data that it accepts, and the answers of `SdesWalk::step` in turn
 pub held-returned : (d : RefT (List ℕ)) → Bytes (now d) → (o : OpenedWalk) (w : ChunkWalk) → o .answer ≡ opened.Walk w → openedChunksOf (o .answer) ≡ mapOk chunkWalk (rfc.openSdes (now d)) → o .walk ≡ openedOn d
     → (p : Packet) × (readAs SDES (now d) ≡ ok p)
-    × ((rs : List SteppedWalk) → Ran heldSteps rs (o .walk) → seenOf heldSteps heldSeen rs (o .walk) ≡ firsts (length rs) (λ (i : ℕ). mapOk chunkIs (nth i (chunksOf (p .content)))))
+    × ((rs : List SteppedWalk) → Ran heldSteps rs (o .walk) → shownOf heldSteps heldSeen rs (o .walk) ≡ firsts (length rs) (λ (i : ℕ). mapOk chunkIs (nth i (chunksOf (p .content)))))
 unfolding mapOk
 held-returned d h o w q e k =
     let m = mapOk-inv chunkWalk (rfc.openSdes (now d)) (sym (sym (ap openedChunksOf q) ∙ e)) in

@@ -22,4 +22,4 @@ abbrev pub openedOn : RefT (List ℕ) → SdesWalk
 openedOn d = record { «data» = d; position = startOf (mapOk chunkWalk (rfc.openSdes (now d))) }
 
 abbrev pub movedOn : SdesWalk → SdesWalk
-movedOn w = record { «data» = w .«data»; position = rfc.moved (w .position) (stepAt (now (w .«data»)) (w .position)) }
+movedOn w = record { «data» = w .«data»; position = rfc.walkAfter (w .position) (stepAt (now (w .«data»)) (w .position)) }

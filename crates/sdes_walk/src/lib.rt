@@ -4,7 +4,7 @@ use sdes::sdes::OpenedChunks;
 use sdes::sdes::SteppedChunk;
 ghost use mathlib.Core.Path.{_≡_};
 ghost use Rattle.rfc3550.specs.Answer.{mapOk};
-ghost use Rattle.rfc3550.specs.Walk.{openSdes, moved};
+ghost use Rattle.rfc3550.specs.Walk.{openSdes, walkAfter};
 ghost use Rattle.sdes.specs.Walk.{chunkWalk, openedChunksOf, steppedChunkOf};
 ghost use Rattle.sdes_walk.specs.Walk.{startOf, stepAt, openedOn, movedOn};
 
@@ -35,7 +35,7 @@ fn start(answer: OpenedChunks) -> ChunkWalk
 }
 
 fn after(answer: SteppedChunk, position: ChunkWalk) -> ChunkWalk
-    ensures { λ r. ⌜ r ≡ moved position (steppedChunkOf answer) ⌝ }
+    ensures { λ r. ⌜ r ≡ walkAfter position (steppedChunkOf answer) ⌝ }
 {
     match answer {
         SteppedChunk::Chunk(_, next) => next,

@@ -9,10 +9,9 @@ use lib.ListN.{length, take, drop, getD}
 use lib.Dec.{leb, eqb}
 use Rattle.rfc3550.specs.Answer.{Refusal, Answer, ok, refused, refusal, need, _>>_, pick}
 use Rattle.rfc3550.specs.Bytes.{sum, store}
-use Rattle.rfc3550.specs.Packet.{Content, sdes, contentBytes, layout}
-use Rattle.rfc3550.specs.Write.{Lists, LentItem, lentItems, lentChunks, Given, giveSdes, chunksGiven, packetGiven, paddingBytes, paddingOk, itemsTests, itemsAgree, listsAgree, ownTests, calculateSize, write}
-use Rattle.rfc3550.proofs.Answer.{need-inv, then-inv, and-inv, ok-injective}
-use Rattle.rfc3550.proofs.Bytes.{length-store}
+use Rattle.rfc3550.specs.Packet.{sdes, contentBytes, layout}
+use Rattle.rfc3550.specs.Write.{LentItem, lentItems, lentChunks, Given, giveSdes, chunksGiven, packetGiven, paddingBytes, paddingOk, itemsTests, itemsAgree, listsAgree, ownTests, calculateSize, write}
+use Rattle.rfc3550.proofs.Answers.{need-inv, then-inv, and-inv, ok-injective}
 use Rattle.utils.specs.Error.{orZero}
 use Rattle.utils.specs.Writer.{writtenOf, sizeRefusal, header}
 use Rattle.utils.specs.declared.writer.Written.{Written}
@@ -20,7 +19,7 @@ use Rattle.utils.specs.declared.writer.Written.the-variants.{Size}
 use Rattle.utils.proofs.Parts.{lent-again}
 use Rattle.utils.proofs.WriterPackets.{writes, padding-most, sized, size-ok, size-over, size-refused, header-last, header-long, packet-laid}
 use Rattle.utils.proofs.Sizes.{size-why, write-why, size-came, write-room, write-laid, why-last}
-use Rattle.chunk_write.specs.Sizes.{Listed, itemsRefusal, chunksFrom, atMost, chunksEnd, ChunksMeasured}
+use Rattle.chunk_write.specs.Sizes.{Listed, itemsRefusal, atMost, chunksEnd, ChunksMeasured}
 use Rattle.chunk_write.specs.Lists.{laidChunks, ChunksFit}
 use Rattle.chunk_write.proofs.Sizes.{Agreed, agreed, chunks-are, refusal-of, EndKnown, end-known, end-none}
 use Rattle.sdes_write.specs.Packets.{lists, withPadding, EndsFit, SdesFits}

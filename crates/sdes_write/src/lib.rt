@@ -9,7 +9,7 @@ ghost use Prim.Native.Nat.{_-_};
 ghost use lib.ListN.{length};
 ghost use Rattle.rfc3550.specs.Bytes.{store};
 ghost use Rattle.rfc3550.specs.Packet.{layout};
-ghost use Rattle.rfc3550.specs.Write.{Lists, giveSdes, listsAgree, packetGiven, paddingBytes, calculateSize, write};
+ghost use Rattle.rfc3550.specs.Write.{giveSdes, listsAgree, packetGiven, paddingBytes, calculateSize, write};
 ghost use Rattle.utils.specs.Error.{writeRefusal, orZero};
 ghost use Rattle.utils.specs.Writer.{writtenOf, sizeRefusal, header};
 ghost use Rattle.sdes_write.specs.Packets.{lists, withPadding, EndsFit, SdesFits};

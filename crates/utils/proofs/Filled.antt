@@ -2,12 +2,12 @@
 use Prim.Native.Nat.{ℕ}
 use mathlib.Core.Bool.{Bool, true, false}
 use mathlib.Core.Path.{_≡_, refl, sym, ap, _∙_}
-use mathlib.Core.List.{List, _++_}
+use mathlib.Core.List.{List}
 use lib.ListN.{length, take, drop}
 use lib.Seq.{take-at}
 use lib.Dec.{leb}
 use Rattle.rfc3550.specs.Answer.{Answer, ok, refused}
-use Rattle.rfc3550.proofs.Answer.{ok-injective, refused≢ok}
+use Rattle.rfc3550.proofs.Answers.{ok-injective, refused≢ok}
 use Rattle.rfc3550.proofs.Bytes.{store-front}
 use Rattle.utils.specs.List.{layIf, layList}
 

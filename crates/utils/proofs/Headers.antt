@@ -10,9 +10,9 @@ use native.Mathlib.Omega.{arith}
 use borrow.Author.Tests.{lt-ltb, le-leb, lt-leb, eq-eqb, ne-eqb, leb-true, not-true, not-false}
 use lib.ListN.{length, getD}
 use lib.Dec.{leb, ltb, eqb}
-use Rattle.rfc3550.specs.Answer.{Refusal, refusal, Answer, ok, refuse, need, _>>_}
+use Rattle.rfc3550.specs.Answer.{Refusal, refusal, ok, refuse, need, _>>_}
 use Rattle.rfc3550.specs.Read.{versionIn, padded, lowIn, typeIn, stated, paddingCount, paddingFits, checkHeader}
-use Rattle.rfc3550.proofs.Answer.{need-inv, ok-injective, and-inv, or-inv}
+use Rattle.rfc3550.proofs.Answers.{need-inv, ok-injective, and-inv, or-inv}
 use Rattle.utils.specs.Error.{refusalIn, orZero}
 use Rattle.utils.specs.Parser.{checkPadding}
 

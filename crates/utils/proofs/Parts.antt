@@ -14,7 +14,7 @@ use lib.Seq.{take-nil, take-all, take-take, drop-drop, length-take-le}
 use Rattle.rfc3550.specs.Answer.{ok, refuse}
 use Rattle.rfc3550.specs.Bytes.{val, get, sum}
 use Rattle.rfc3550.specs.Packet.{blockWidths}
-use Rattle.rfc3550.specs.Read.{nth, blockOf, readBlocks}
+use Rattle.rfc3550.specs.Read.{nth, blockFrom, readBlocks}
 
 -- ---- drop of take
 
@@ -77,7 +77,7 @@ nth-get w (suc n) (suc i) s h =
     let e : w + w * i ≡ w * suc i = omega (arith, mul-suc w i) in
     nth-get w n i (drop w s) (omega arith) ∙ rw (drop-drop (w * i) w s, e)
 
-pub nth-readBlocks : (n i : ℕ) (s : List ℕ) → i < n → nth i (readBlocks n s) ≡ ok (blockOf (get blockWidths (drop (24 * i) s)))
+pub nth-readBlocks : (n i : ℕ) (s : List ℕ) → i < n → nth i (readBlocks n s) ≡ ok (blockFrom (get blockWidths (drop (24 * i) s)))
 unfolding readBlocks
 nth-readBlocks zero i s h = absurd (omega arith)
 nth-readBlocks (suc n) zero s h = refl

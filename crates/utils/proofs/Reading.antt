@@ -8,7 +8,7 @@ use lib.Seq.{take-all}
 use Rattle.rfc3550.specs.Answer.{Refusal, Answer, ok, refused, _>>=_, mapOk}
 use Rattle.rfc3550.specs.Packet.{Content, Packet}
 use Rattle.rfc3550.specs.Read.{Kind, SR, RR, SDES, BYE, APP, UNKNOWN, least, lowIn, typeIn, checkPacket, readContent, readAs}
-use Rattle.rfc3550.proofs.Answer.{bind-elim, ok-injective, refused≢ok}
+use Rattle.rfc3550.proofs.Answers.{bind-elim, ok-injective, refused≢ok}
 use Rattle.utils.specs.Error.{refusalIn, valueOr, orZero}
 use Rattle.utils.specs.Parts.{partIn}
 use Rattle.utils.proofs.Headers.{Accepted, accepted}

@@ -4,19 +4,19 @@ use Prim.Native.Nat.{ℕ, zero, suc, _+_, _-_, _*_, _/_, _%_, _^_, _<_, _≤_}
 use mathlib.Core.Path.{_≡_, refl, sym, ap, _∙_}
 use mathlib.Core.Bool.{Bool, true, false}
 use mathlib.Core.List.{List, [], _∷_, _++_}
-use native.Mathlib.Nat.{div-one, le-antisymm, zero-add}
+use native.Mathlib.Nat.{div-one}
 use native.Mathlib.Numerals.{add-one}
 use native.Mathlib.Omega.{arith}
 use borrow.Author.Tests.{eq-eqb, ne-eqb, ltb-true, ltb-false, le-leb, lt-leb}
-use lib.ListN.{length, take, drop, set, getD, replicate, length-append, length-drop, length-set, length-replicate, replicate-append-replicate}
-use lib.Seq.{drop-cons, drop-drop, take-suc, take-add, take-length, length-take-le}
+use lib.ListN.{length, take, drop, set, getD, replicate, length-drop, length-set, length-replicate, replicate-append-replicate}
+use lib.Seq.{drop-cons, drop-drop, take-add, take-length, length-take-le}
 use lib.Dec.{leb, ltb}
 use Rattle.rfc3550.specs.Bytes.{be, val, store}
 use Rattle.rfc3550.specs.Packet.{paddingBit}
 use Rattle.rfc3550.specs.Write.{paddingOk, paddingBytes}
 use Rattle.rfc3550.proofs.Bytes.{length-be, length-store, be-take, bytes-drop, bytes-each}
 use Rattle.utils.specs.Writer.{firstByte, header, reversed, reversedEight}
-use Rattle.utils.proofs.WriterStores.{store-nil, store-store, store-over, store-snoc, store-puts, store-number, be-digits, puts, digits}
+use Rattle.utils.proofs.WriterStores.{store-nil, store-store, store-over, store-snoc, store-puts, store-number, be-digits, puts}
 
 -- ---- padding
 

@@ -1,21 +1,20 @@
 -- A write of anything that has a size and bytes, and a packet laid as header, content, padding.
 use Prim.Native.Nat.{ℕ, suc, _+_, _-_, _/_, _%_, _<_, _≤_}
-use mathlib.Core.Path.{_≡_, refl, sym, ap, _∙_}
-use mathlib.Core.List.{List, [], _∷_, _++_, append-assoc}
-use mathlib.Core.Bool.{Bool, true, false}
+use mathlib.Core.Path.{_≡_, sym, ap, _∙_}
+use mathlib.Core.List.{List, _++_}
+use mathlib.Core.Bool.{Bool, true}
 use native.Mathlib.Omega.{arith}
 use lib.ListN.{length, length-append}
 use lib.Dec.{leb, eqb}
 use borrow.Author.Tests.{le-leb, lt-leb, leb-true}
-use Rattle.rfc3550.specs.Answer.{Answer, ok, refused, refusal, need, _>>_, _>>=_, after}
-use Rattle.rfc3550.specs.Bytes.{be, store}
-use Rattle.rfc3550.specs.Packet.{Content, Packet, contentBytes, lowBits, type, layout}
-use Rattle.rfc3550.specs.Write.{Given, LentItem, LentChunk, lentItems, paddingBytes, packetGiven, contentGiven, paddingGiven, paddingOk, sizeGiven, tests, ownTests, calculateSize, itemSize, itemGiven, chunkSize, chunkGiven, room, written, write, writeItem, writeChunk}
-use Rattle.rfc3550.proofs.Answer.{and-inv, need-ok, then-inv, ok-injective}
+use Rattle.rfc3550.specs.Answer.{Answer, ok, refused, refusal, need, _>>_, _>>=_}
+use Rattle.rfc3550.specs.Bytes.{store}
+use Rattle.rfc3550.specs.Packet.{Content, contentBytes, lowBits, type, layout}
+use Rattle.rfc3550.specs.Write.{Given, paddingBytes, packetGiven, contentGiven, paddingGiven, paddingOk, tests, ownTests, calculateSize, room, written, write}
+use Rattle.rfc3550.proofs.Answers.{and-inv, need-ok, then-inv, ok-injective}
 use Rattle.rfc3550.proofs.Bytes.{length-be, length-store}
-use Rattle.rfc3550.proofs.Packet.{length-layout}
-use Rattle.rfc3550.proofs.Write.{length-paddingBytes}
-use Rattle.utils.specs.Error.{writeRefusal}
+use Rattle.rfc3550.proofs.Packets.{length-layout}
+use Rattle.rfc3550.proofs.Writes.{length-paddingBytes}
 use Rattle.utils.specs.Writer.{writtenOf, header}
 use Rattle.utils.specs.declared.error.RtcpWriteError.{RtcpWriteError}
 use Rattle.utils.specs.declared.writer.Written.{Written}

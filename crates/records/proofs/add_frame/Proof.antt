@@ -9,7 +9,6 @@ use Rattle.compound_write.proofs.Writers.{admitted-some, admitted-part}
 use Rattle.records.specs.Records.{leastOf}
 use Rattle.records.proofs.Reports.{counted-fits}
 use Rattle.records.proofs.Adds.{added, told-refused, told-size, counted-some, counted-own, counted-number, frame-kept, frame-added}
-use Rattle.records.proofs.add_frame.Statement.{statement}
 use Rattle.records.proofs.add_frame.Tie as tie
 
 returns : tie.Need-returns
@@ -31,9 +30,8 @@ returns-2 c =
     let s = counted-number (a .reporter) _ (a .count) (a .loss) (a .padding) _ (c .before .before .before .before .before .before .before .before .least .ensures) (c .before .before .before .before .before .before .before .size-of-count .ensures) in
     (told-size (writerOf (a .writer)) (c .before .before .before .before .before .before .packet-type .result) (c .before .before .before .before .before .before .before .size-of-count .result) (length (a .buf .now)) (countedSize (leastOf (a .reporter)) (a .count) (a .loss) (a .padding)) _ (c .before .before .before .before .before .before .packet-type .ensures) s (counted-some (a .reporter) _ _ _) (c .before .before .before .before .before .admit .ensures) (not-false _ (c .before .before .before .before .if1 .left)), frame-added (a .reporter) (a .writer .len) (a .count) (a .padding) (a .buf .now) _ _ _ refl (c .before .before .write-frame-unchecked .ensures))
 
-pub add-frame-spec : {M : Type 1} → statement M
+pub add-frame-spec : {M : Type 1} → Rattle.records.proofs.add_frame.Statement.statement M
 add-frame-spec {M} =
-    let answers = tie.spec {M = M}
-    (λ c κs. search added) (λ c κs. search added) (λ c κs. search added) (λ c κs. search added) (λ c κs. search added) (λ c κs. search added) returns
-    (λ c. search added) (λ c. search added) (λ c. search added) write-frame-unchecked-requires (λ c. search added) returns-2 in
-    tie.close answers
+    let answers = tie.spec {M = M} (λ c κs. search added) (λ c κs. search added) (λ c κs. search added) (λ c κs. search added) (λ c κs. search added)
+    (λ c κs. search added) returns (λ c. search added) (λ c. search added) (λ c. search added) write-frame-unchecked-requires (λ c. search added)
+    returns-2 in tie.close answers

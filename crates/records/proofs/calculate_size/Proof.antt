@@ -1,7 +1,6 @@
--- `calculate_size` meets its contract: a walk of its MIR, by hand. `decisive_loss` reads the blocks lent, and `check_report` answers for their count and that loss.
+-- `calculate_size` meets its contract: a walk of its MIR, by hand. `tested_loss` reads the blocks lent, and `check_report` answers for their count and that loss.
 use Rattle.by_hand.proofs.Walking.{_≡_, refl, _∙_, subst, List, [], _∷_, ℕ, _<_, _^_, length, calls-plain, calls-lent, callsOf, loopsOf, framed, meets, URA, named, w32, w64, Val, vint, SProp, ent, via, fst∗, emp, id⊢, Lft, Share, Fml, ftrue, flft, Heap, WpFn, Atoms, givenOf, GhostRules, Running, Model, Given, Item, ‵, _⊛_, _$_, _∵_, !, qed, move, drop, join, fsplit, fjoin, suffices, frame, done, whole, sub, look-in, look, init, forget, stop, fld, from, load, of-opd, and-then, no-more, assigns, land, returns, enter, alloc1, alloc0, params1, pass1, pass0, free1, free0, RattleType, owns, Is, uint-makes, uint-vals, uint-tells, uint-lawful, u64, RefT, now, sliceVal, ShrSlice, Room, slice-vals, shr-slice-tells, shr-slice-copy, plain, owned, nothing, onEntry, cited, says, Stays, stay-none-slice, stay-none, walkOf, goes-none-slice, goes-none, ends-at, walked, yes}
 use denote.Enum.Laws as EL
-use Rattle.rfc3550.specs.Write.{listsOf, giveReport, calculateSize}
 use Rattle.utils.specs.Writer.{writtenOf}
 use Rattle.utils.specs.declared.writer.Written.{Written}
 use Rattle.utils.proofs.writer.Written as S
@@ -9,14 +8,14 @@ use Rattle.utils.proofs.writer.Written.Laws as S′
 use Rattle.report.specs.declared.«report_block».ReportBlock.{ReportBlock}
 use Rattle.report.proofs.report_block.ReportBlock as T
 use Rattle.report_write.specs.Report.{countedSize}
-use Rattle.records.specs.Records.{reporterOf, leastOf, recordsOf, decisiveOf}
+use Rattle.records.specs.Records.{leastOf, testedOf}
 use Rattle.records.specs.declared.Reporter.{Reporter}
 use Rattle.records.proofs.Reports.{lent-size}
 use Rattle.records.proofs.Reporter as P
 use Rattle.records.proofs.Reporter.Laws as P′
-use Rattle.records.proofs.decisive_loss as loss
-use Rattle.records.proofs.decisive_loss.Symbol as loss-def
-use Rattle.records.proofs.decisive_loss.Met as loss-thm
+use Rattle.records.proofs.tested_loss as loss
+use Rattle.records.proofs.tested_loss.Symbol as loss-def
+use Rattle.records.proofs.tested_loss.Met as loss-thm
 use Rattle.records.proofs.check_report as check
 use Rattle.records.proofs.check_report.Symbol as check-def
 use Rattle.records.proofs.check_report.Met as check-thm
@@ -65,8 +64,8 @@ module _ {M : Type 1} (𝓤 : URA M) (H : Heap 𝓤) (𝓜 : Model 𝓤 H) (𝓖
       alloc1 ! (λ l₀. alloc1 ! (λ l₁. alloc1 ! (λ l₂. alloc1 ! (λ l₃. alloc1 ! (λ l₄. alloc1 ! (λ l₅. alloc0 ! $ params1 ! $
       pass1 ! (init ! 8 refl (EL.lawful P.the-type P′.the-laws 𝓤 H A W tt .typed p _ p-is .0)) $ pass1 ! (init ! 6 refl (tt, (tt, (record { fits = room .0 }, tt)))) $ pass1 ! (init ! 4 refl (tt, record { fits = k-fits })) $ pass0 ! $
       move ! (13 ∷ []) $ fsplit ! $ drop ! $ fsplit ! $ move ! (1 ∷ []) $ drop ! $ move ! (13 ∷ 0 ∷ []) $
-      calls-lent W loss.ended (loss.clauses 𝓤 H A (𝓜 .mem) (𝓡 .run)) (((κ, tt), (q, tt), tt, (x, tt), (t ∷ [], tt)), tt) ! (framed 𝓤 H 𝓜 𝓖 𝓡 code.env) (cited 𝓤 H _ 𝓜 𝓡 code.env loss-def.name loss-def.routine code.calls-records·decisive-loss (loss-thm.met 𝓤 H 𝓜 𝓖 𝓡)) token (‵ Own) (shr-slice-copy 𝓤 H A W (named 0) κ B .twice x (t ∷ []))
-      (qed W (token ∷ ‵ Own ∷ []) ∵ nothing ! $ move ! (2 ∷ 0 ∷ []) $ fjoin ! $ move ! (1 ∷ 0 ∷ []) $ join ! $ frame ! $ done !) (id⊢ 𝓤 _) (and-then ! (load ! (from ! (stop !)) (look ! 8 refl)) (no-more !)) (λ d. d ≡ decisiveOf 0 bs) (λ d ws. id⊢ 𝓤 _) (uint-vals w32) (uint-tells w32) (λ d got d-is.
+      calls-lent W loss.ended (loss.clauses 𝓤 H A (𝓜 .mem) (𝓡 .run)) (((κ, tt), (q, tt), tt, (x, tt), (t ∷ [], tt)), tt) ! (framed 𝓤 H 𝓜 𝓖 𝓡 code.env) (cited 𝓤 H _ 𝓜 𝓡 code.env loss-def.name loss-def.routine code.calls-records·tested-loss (loss-thm.met 𝓤 H 𝓜 𝓖 𝓡)) token (‵ Own) (shr-slice-copy 𝓤 H A W (named 0) κ B .twice x (t ∷ []))
+      (qed W (token ∷ ‵ Own ∷ []) ∵ nothing ! $ move ! (2 ∷ 0 ∷ []) $ fjoin ! $ move ! (1 ∷ 0 ∷ []) $ join ! $ frame ! $ done !) (id⊢ 𝓤 _) (and-then ! (load ! (from ! (stop !)) (look ! 8 refl)) (no-more !)) (λ d. d ≡ testedOf 0 bs) (λ d ws. id⊢ 𝓤 _) (uint-vals w32) (uint-tells w32) (λ d got d-is.
       land ! (from ! (stop !)) (init ! 5 refl (uint-lawful 𝓤 H A W w32 .typed d _ d-is .0)) $ drop ! $
       -- [token; Own; _5; …; _4; …; _3; …; _2; …; _1; …; _0; …]
       assigns ! (of-opd ! (load ! (from ! (fld ! refl (stop !))) (look-in ! 8 (sub ! 1 refl (whole !))))) (from ! (stop !)) (init ! 2 refl (tt, record { fits = room .0 })) $

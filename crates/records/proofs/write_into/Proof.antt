@@ -1,4 +1,4 @@
--- `write_into` meets its contract: a walk of its MIR, by hand. `decisive_loss` reads the blocks lent, `write_frame` answers and lays what stands around them, and `write_blocks_unchecked` lays them.
+-- `write_into` meets its contract: a walk of its MIR, by hand. `tested_loss` reads the blocks lent, `write_frame` answers and lays what stands around them, and `write_blocks_unchecked` lays them.
 use Rattle.by_hand.proofs.Walking.{_≡_, refl, _∙_, List, [], _∷_, ℕ, _-_, _*_, _<_, _≤_, _^_, length, LentAgain, lends-again, comes-back, contractOf, calls-with, calls-plain, calls-lent, callsOf, loopsOf, framed, meets, URA, fullShare, named, w32, w64, Val, vint, SProp, ent, via, fst∗, emp, id⊢, Lft, Share, Fml, ftrue, flft, GName, Heap, WpFn, Atoms, givenOf, GhostRules, Running, Model, Given, Item, ‵, raw, some, later, _⊛_, ⋆, _$_, _∵_, !, qed, move, drop, use1, use2, split, join, pick, fsplit, fjoin, suffices, frame, await, done, keep, use3, feqL, whole, sub, look-in, agg, look, init, forget, stop, fld, from, load, of-opd, and-then, no-more, assigns, land, returns, enter, alloc1, alloc0, params1, pass1, pass0, free1, free0, store, hop, addr, RattleType, owns, Is, uint-makes, uint-vals, uint-tells, uint-lawful, nothing-lawful, nothing-vals, nothing-tells, u32, u64, usize, u8, RefT, now, sliceVal, ShrSlice, Room, slice-vals, shr-slice-tells, shr-slice-copy, MutSlice, mut-slice-tells, plain, owned, nothing, onEntry, cited, says, Stays, stay-none-slice, stay-none, walkOf, goes-none-slice, goes-none, ends-at, walked, gave-slice, goes-gave-slice, yes, lft-new, lft-end}
 use lib.ListN.{take}
 use denote.Enum.Laws as EL
@@ -12,14 +12,14 @@ use Rattle.utils.proofs.writer.Written.Laws as S′
 use Rattle.report.specs.declared.«report_block».ReportBlock.{ReportBlock}
 use Rattle.report.proofs.report_block.ReportBlock as T
 use Rattle.report_write.specs.Report.{countedSize}
-use Rattle.records.specs.Records.{leastOf, recordsOf, decisiveOf, framed as laidFrame, laidCount}
+use Rattle.records.specs.Records.{leastOf, recordsOf, testedOf, framed as laidFrame, laidCount}
 use Rattle.records.specs.declared.Reporter.{Reporter}
 use Rattle.records.proofs.Reports.{count-fits-in, blocks-fit-in, report-written}
 use Rattle.records.proofs.Reporter as P
 use Rattle.records.proofs.Reporter.Laws as P′
-use Rattle.records.proofs.decisive_loss as loss
-use Rattle.records.proofs.decisive_loss.Symbol as loss-def
-use Rattle.records.proofs.decisive_loss.Met as loss-thm
+use Rattle.records.proofs.tested_loss as loss
+use Rattle.records.proofs.tested_loss.Symbol as loss-def
+use Rattle.records.proofs.tested_loss.Met as loss-thm
 use Rattle.records.proofs.write_frame as around
 use Rattle.records.proofs.write_frame.Symbol as around-def
 use Rattle.records.proofs.write_frame.Met as around-thm
@@ -112,8 +112,8 @@ module _ {M : Type 1} (𝓤 : URA M) (H : Heap 𝓤) (𝓜 : Model 𝓤 H) (𝓖
       pass1 ! (init ! 26 refl (tt, (tt, (record { fits = room .0 }, tt)))) $ pass1 ! (init ! 24 refl (EL.lawful P.the-type P′.the-laws 𝓤 H A W tt .typed p _ p-is .0)) $ pass1 ! (init ! 22 refl (tt, (tt, (record { fits = room′ .0 }, tt)))) $ pass1 ! (init ! 20 refl (tt, record { fits = k-fits })) $ pass0 ! $
       move ! (31 ∷ []) $ fsplit ! $ move ! (1 ∷ []) $ fsplit ! $ drop ! $ fsplit ! $ move ! (1 ∷ []) $ drop ! $ move ! (32 ∷ []) $ split ! $ move ! (1 ∷ 2 ∷ []) $
       -- [the second token; Own; Buf's; Buf; the locals from the last to the first]
-      calls-lent W loss.ended (loss.clauses 𝓤 H A (𝓜 .mem) (𝓡 .run)) (((κ′, tt), (q′, tt), tt, (x, tt), (t ∷ [], tt)), tt) ! (framed 𝓤 H 𝓜 𝓖 𝓡 code.env) (cited 𝓤 H _ 𝓜 𝓡 code.env loss-def.name loss-def.routine code.calls-records·decisive-loss (loss-thm.met 𝓤 H 𝓜 𝓖 𝓡)) token′ (‵ Own) (shr-slice-copy 𝓤 H A W (named 1) κ′ B .twice x (t ∷ []))
-      (qed W (token′ ∷ ‵ Own ∷ []) ∵ nothing ! $ move ! (2 ∷ 0 ∷ []) $ fjoin ! $ move ! (1 ∷ 0 ∷ []) $ join ! $ frame ! $ done !) (id⊢ 𝓤 _) (and-then ! (load ! (from ! (stop !)) (look ! 26 refl)) (no-more !)) (λ d. d ≡ decisiveOf 0 bs) (λ d ws. id⊢ 𝓤 _) (uint-vals w32) (uint-tells w32) (λ d got d-is.
+      calls-lent W loss.ended (loss.clauses 𝓤 H A (𝓜 .mem) (𝓡 .run)) (((κ′, tt), (q′, tt), tt, (x, tt), (t ∷ [], tt)), tt) ! (framed 𝓤 H 𝓜 𝓖 𝓡 code.env) (cited 𝓤 H _ 𝓜 𝓡 code.env loss-def.name loss-def.routine code.calls-records·tested-loss (loss-thm.met 𝓤 H 𝓜 𝓖 𝓡)) token′ (‵ Own) (shr-slice-copy 𝓤 H A W (named 1) κ′ B .twice x (t ∷ []))
+      (qed W (token′ ∷ ‵ Own ∷ []) ∵ nothing ! $ move ! (2 ∷ 0 ∷ []) $ fjoin ! $ move ! (1 ∷ 0 ∷ []) $ join ! $ frame ! $ done !) (id⊢ 𝓤 _) (and-then ! (load ! (from ! (stop !)) (look ! 26 refl)) (no-more !)) (λ d. d ≡ testedOf 0 bs) (λ d ws. id⊢ 𝓤 _) (uint-vals w32) (uint-tells w32) (λ d got d-is.
       land ! (from ! (stop !)) (init ! 23 refl (uint-lawful 𝓤 H A W w32 .typed d _ d-is .0)) $ drop ! $
       assigns ! (addr ! (from ! (fld ! refl (hop ! (look-in ! 30 (sub ! 0 refl (whole !))) (stop !))))) (from ! (stop !)) (init ! 14 refl (tt, tt)) $
       assigns ! (agg ! (and-then ! (load ! (from ! (stop !)) (look ! 14 refl)) (and-then ! (load ! (from ! (fld ! refl (stop !))) (look-in ! 30 (sub ! 1 refl (whole !)))) (no-more !)))) (from ! (stop !)) (init ! 12 refl (tt, (tt, (record { fits = room .0 }, tt)))) $

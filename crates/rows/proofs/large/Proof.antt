@@ -1,8 +1,7 @@
 use mathlib.Core.Path.{sym}
 use Prim.Native.Nat.{ℕ}
 use lib.ListN.{length-replicate}
-use Rattle.rows.proofs.large.Statement.{statement}
 use Rattle.rows.proofs.large.Tie as tie
 
-pub large-spec : {M : Type 1} → statement M
+pub large-spec : {M : Type 1} → Rattle.rows.proofs.large.Statement.statement M
 large-spec = tie.close (tie.spec (λ c. sym (length-replicate {A = ℕ} 524288 0)))

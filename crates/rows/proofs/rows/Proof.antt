@@ -2,7 +2,6 @@ use Prim.Native.Nat.{_+_, _-_, _≤_}
 use mathlib.Core.Path.{_≡_}
 use lib.ListN.{length}
 use borrow.Author.Needs.{needs}
-use Rattle.rows.proofs.rows.Statement.{statement}
 use Rattle.rows.proofs.rows.Tie as tie
 
 abbrev Inv-loop : tie.InvT-loop
@@ -11,7 +10,7 @@ Inv-loop lines state₀ out₀ n₀ w₀ space₀ first names at₀ newline stat
 abbrev μ-loop : tie.MeasureT-loop
 μ-loop lines state₀ out₀ n₀ w₀ space₀ first names at₀ newline state out n w space at = length lines - at
 
-pub rows-spec : {M : Type 1} → statement M
+pub rows-spec : {M : Type 1} → Rattle.rows.proofs.rows.Statement.statement M
 rows-spec = tie.close
     (tie.spec Inv-loop μ-loop (λ c κs. search needs) (λ c. search needs) (λ c. search needs) (λ c. search needs) (λ c. search needs)
     (λ c. search needs) (λ c κs. search needs) (λ c. search needs) (λ c. search needs) (λ c. search needs) (λ c κs. search needs)

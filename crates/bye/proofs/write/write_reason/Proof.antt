@@ -1,4 +1,4 @@
-use lib.ListN.{length-set, length-replicate}
+use lib.ListN.{length-set}
 use mathlib.Core.Path.{_∙_}
 use native.Mathlib.Omega.{arith}
 use Rattle.bye.proofs.Writes.{writes, reason-some}

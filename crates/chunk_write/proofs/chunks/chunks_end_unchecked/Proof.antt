@@ -1,7 +1,6 @@
 use Prim.Native.Nat.{_-_}
 use lib.ListN.{length}
 use Rattle.chunk_write.proofs.Sizes.{ends, Counting}
-use Rattle.chunk_write.proofs.chunks.chunks_end_unchecked.Statement.{statement}
 use Rattle.chunk_write.proofs.chunks.chunks_end_unchecked.Tie as tie
 
 abbrev Inv-loop : tie.InvT-loop
@@ -10,10 +9,8 @@ Inv-loop start limit counts types prefixes values bytes-len n k₀ i₀ at₀ le
 abbrev μ-loop : tie.MeasureT-loop
 μ-loop start limit counts types prefixes values bytes-len n k₀ i₀ at₀ left₀ rest₀ k i at left rest = length counts - k
 
-pub chunks-end-unchecked-spec : {M : Type 1} → statement M
+pub chunks-end-unchecked-spec : {M : Type 1} → Rattle.chunk_write.proofs.chunks.chunks_end_unchecked.Statement.statement M
 chunks-end-unchecked-spec {M} =
-    let answers = tie.spec {M = M}
-    Inv-loop μ-loop (λ c. search ends) (λ c. search ends) (λ c. search ends) (λ c. search ends) (λ c. search ends) (λ c. search ends)
-    (λ c κs. search ends) (λ c. search ends) (λ c κs. search ends) (λ c. search ends) (λ c. search ends) (λ c. search ends) (λ c. search ends)
-    (λ c. search ends) (λ c. search ends) (λ c. search ends) in
-    tie.close answers
+    let answers = tie.spec {M = M} Inv-loop μ-loop (λ c. search ends) (λ c. search ends) (λ c. search ends) (λ c. search ends) (λ c. search ends)
+    (λ c. search ends) (λ c κs. search ends) (λ c. search ends) (λ c κs. search ends) (λ c. search ends) (λ c. search ends) (λ c. search ends)
+    (λ c. search ends) (λ c. search ends) (λ c. search ends) (λ c. search ends) in tie.close answers

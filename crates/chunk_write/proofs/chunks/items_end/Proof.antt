@@ -1,6 +1,5 @@
 use Prim.Native.Nat.{_-_}
 use Rattle.chunk_write.proofs.Sizes.{ends, Ending}
-use Rattle.chunk_write.proofs.chunks.items_end.Statement.{statement}
 use Rattle.chunk_write.proofs.chunks.items_end.Tie as tie
 
 abbrev Inv-loop : tie.InvT-loop
@@ -9,10 +8,8 @@ Inv-loop at bytes-left types prefixes values first last i₀ end₀ left₀ i en
 abbrev μ-loop : tie.MeasureT-loop
 μ-loop at bytes-left types prefixes values first last i₀ end₀ left₀ i end left = last - i
 
-pub items-end-spec : {M : Type 1} → statement M
+pub items-end-spec : {M : Type 1} → Rattle.chunk_write.proofs.chunks.items_end.Statement.statement M
 items-end-spec {M} =
-    let answers = tie.spec {M = M}
-    Inv-loop μ-loop (λ c. search ends) (λ c. search ends) (λ c. search ends) (λ c. search ends) (λ c. search ends) (λ c. search ends)
-    (λ c κs. search ends) (λ c. search ends) (λ c. search ends) (λ c. search ends) (λ c. search ends) (λ c. search ends) (λ c. search ends)
-    (λ c. search ends) (λ c. search ends) in
-    tie.close answers
+    let answers = tie.spec {M = M} Inv-loop μ-loop (λ c. search ends) (λ c. search ends) (λ c. search ends) (λ c. search ends) (λ c. search ends)
+    (λ c. search ends) (λ c κs. search ends) (λ c. search ends) (λ c. search ends) (λ c. search ends) (λ c. search ends) (λ c. search ends)
+    (λ c. search ends) (λ c. search ends) (λ c. search ends) in tie.close answers

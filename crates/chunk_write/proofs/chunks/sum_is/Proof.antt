@@ -1,7 +1,6 @@
 use Prim.Native.Nat.{_-_}
 use lib.ListN.{length}
 use Rattle.chunk_write.proofs.Sizes.{ends, Summing}
-use Rattle.chunk_write.proofs.chunks.sum_is.Statement.{statement}
 use Rattle.chunk_write.proofs.chunks.sum_is.Tie as tie
 
 abbrev Inv-loop : tie.InvT-loop
@@ -10,9 +9,7 @@ Inv-loop xs total n i₀ left₀ i left = Summing xs total i left
 abbrev μ-loop : tie.MeasureT-loop
 μ-loop xs total n i₀ left₀ i left = length xs - i
 
-pub sum-is-spec : {M : Type 1} → statement M
+pub sum-is-spec : {M : Type 1} → Rattle.chunk_write.proofs.chunks.sum_is.Statement.statement M
 sum-is-spec {M} =
-    let answers = tie.spec {M = M}
-    Inv-loop μ-loop (λ c. search ends) (λ c. search ends) (λ c. search ends) (λ c. search ends) (λ c. search ends) (λ c. search ends)
-    (λ c. search ends) (λ c. search ends) in
-    tie.close answers
+    let answers = tie.spec {M = M} Inv-loop μ-loop (λ c. search ends) (λ c. search ends) (λ c. search ends) (λ c. search ends) (λ c. search ends)
+    (λ c. search ends) (λ c. search ends) (λ c. search ends) in tie.close answers

@@ -1,7 +1,6 @@
 use Prim.Native.Nat.{_-_}
 use lib.ListN.{length}
 use Rattle.chunk_write.proofs.Sizes.{ends, SummingBoth}
-use Rattle.chunk_write.proofs.chunks.sums_are.Statement.{statement}
 use Rattle.chunk_write.proofs.chunks.sums_are.Tie as tie
 
 abbrev Inv-loop : tie.InvT-loop
@@ -10,9 +9,7 @@ Inv-loop prefixes values total n i₀ left₀ i left = SummingBoth prefixes valu
 abbrev μ-loop : tie.MeasureT-loop
 μ-loop prefixes values total n i₀ left₀ i left = length prefixes - i
 
-pub sums-are-spec : {M : Type 1} → statement M
+pub sums-are-spec : {M : Type 1} → Rattle.chunk_write.proofs.chunks.sums_are.Statement.statement M
 sums-are-spec {M} =
-    let answers = tie.spec {M = M}
-    Inv-loop μ-loop (λ c. search ends) (λ c. search ends) (λ c. search ends) (λ c. search ends) (λ c. search ends) (λ c. search ends)
-    (λ c. search ends) (λ c. search ends) (λ c. search ends) (λ c. search ends) (λ c. search ends) in
-    tie.close answers
+    let answers = tie.spec {M = M} Inv-loop μ-loop (λ c. search ends) (λ c. search ends) (λ c. search ends) (λ c. search ends) (λ c. search ends)
+    (λ c. search ends) (λ c. search ends) (λ c. search ends) (λ c. search ends) (λ c. search ends) (λ c. search ends) in tie.close answers

@@ -2,7 +2,6 @@ use Prim.Native.Nat.{_-_}
 use lib.ListN.{length}
 use Rattle.chunk_write.proofs.Laying.{chunks, Chunking, chunking-asks, chunking-place}
 use native.Mathlib.Omega.{arith}
-use Rattle.chunk_write.proofs.chunks.write_chunks_unchecked.Statement.{statement}
 use Rattle.chunk_write.proofs.chunks.write_chunks_unchecked.Tie as tie
 
 abbrev Inv-loop : tie.InvT-loop
@@ -17,12 +16,10 @@ write-chunk-requires c κs = chunking-asks _ _ _ _ _ _ _ _ (c .before .before .b
 add-at : tie.Need-add-at Inv-loop μ-loop
 add-at c = omega (arith, chunking-place _ _ _ _ _ _ _ _ (c .before .before .before .before .before .before .before .before .before .before .before .before .before .before .before .before .before .before .before .before .pre) _ _ _ _ _ (c .before .before .before .before .before .before .before .before .before .before .before .before .loop .inv) (search chunks) _ _ (c .before .before .before .write-chunk .ensures) (search chunks))
 
-pub write-chunks-unchecked-spec : {M : Type 1} → statement M
+pub write-chunks-unchecked-spec : {M : Type 1} → Rattle.chunk_write.proofs.chunks.write_chunks_unchecked.Statement.statement M
 write-chunks-unchecked-spec {M} =
-    let answers = tie.spec {M = M}
-    Inv-loop μ-loop (λ c. search chunks) (λ c. search chunks) (λ c. search chunks) (λ c. search chunks) (λ c. search chunks) (λ c. search chunks)
-    (λ c. search chunks) (λ c. search chunks) (λ c. search chunks) (λ c. search chunks) (λ c. search chunks) (λ c. search chunks)
-    (λ c. search chunks) (λ c. search chunks) (λ c. search chunks) (λ c. search chunks) (λ c. search chunks) (λ c. search chunks)
+    let answers = tie.spec {M = M} Inv-loop μ-loop (λ c. search chunks) (λ c. search chunks) (λ c. search chunks) (λ c. search chunks)
+    (λ c. search chunks) (λ c. search chunks) (λ c. search chunks) (λ c. search chunks) (λ c. search chunks) (λ c. search chunks) (λ c. search chunks)
+    (λ c. search chunks) (λ c. search chunks) (λ c. search chunks) (λ c. search chunks) (λ c. search chunks) (λ c. search chunks) (λ c. search chunks)
     (λ c. search chunks) (λ c. search chunks) (λ c. search chunks) write-chunk-requires add-at (λ c. search chunks) (λ c. search chunks)
-    (λ c. search chunks) (λ c. search chunks) (λ c. search chunks) in
-    tie.close answers
+    (λ c. search chunks) (λ c. search chunks) (λ c. search chunks) in tie.close answers

@@ -1,6 +1,5 @@
 use Prim.Native.Nat.{_-_}
 use Rattle.chunk_write.proofs.Laying.{chunks, LayingPart}
-use Rattle.chunk_write.proofs.chunks.write_items.Statement.{statement}
 use Rattle.chunk_write.proofs.chunks.write_items.Tie as tie
 
 abbrev Inv-loop : tie.InvT-loop
@@ -9,10 +8,8 @@ Inv-loop buf₀ to types prefixes values bytes first last from i₀ end₀ taken
 abbrev μ-loop : tie.MeasureT-loop
 μ-loop buf₀ to types prefixes values bytes first last from i₀ end₀ taken₀ buf i end taken = last - i
 
-pub write-items-spec : {M : Type 1} → statement M
+pub write-items-spec : {M : Type 1} → Rattle.chunk_write.proofs.chunks.write_items.Statement.statement M
 write-items-spec {M} =
-    let answers = tie.spec {M = M}
-    Inv-loop μ-loop (λ c. search chunks) (λ c κs. search chunks) (λ c κs. search chunks) (λ c. search chunks) (λ c κs. search chunks)
-    (λ c. search chunks) (λ c. search chunks) (λ c. search chunks) (λ c. search chunks) (λ c. search chunks) (λ c. search chunks) (λ c. search chunks)
-    (λ c. search chunks) in
-    tie.close answers
+    let answers = tie.spec {M = M} Inv-loop μ-loop (λ c. search chunks) (λ c κs. search chunks) (λ c κs. search chunks) (λ c. search chunks)
+    (λ c κs. search chunks) (λ c. search chunks) (λ c. search chunks) (λ c. search chunks) (λ c. search chunks) (λ c. search chunks)
+    (λ c. search chunks) (λ c. search chunks) (λ c. search chunks) in tie.close answers

@@ -2,7 +2,6 @@ use Prim.Native.Nat.{ℕ, _-_, _*_, _<_, _≤_}
 use lib.ListN.{length, getD}
 use native.Mathlib.Omega.{arith}
 use Rattle.compound.proofs.Listing.{listings, Rows}
-use Rattle.compound.proofs.compound.list_all_unchecked.Statement.{statement}
 use Rattle.compound.proofs.compound.list_all_unchecked.Tie as tie
 
 abbrev Inv-loop : tie.InvT-loop
@@ -16,9 +15,7 @@ loop-holds c =
     let k : (i : ℕ) → getD (c .before .before .args .s .now) i 0 < 256 = λ i. omega (arith, c .before .shared-slice-known .given i) in
     search (listings, k)
 
-pub list-all-unchecked-spec : {M : Type 1} → statement M
+pub list-all-unchecked-spec : {M : Type 1} → Rattle.compound.proofs.compound.list_all_unchecked.Statement.statement M
 list-all-unchecked-spec {M} =
-    let answers = tie.spec {M = M}
-    Inv-loop μ-loop loop-holds (λ c. search listings) (λ c κs. search listings) (λ c. search listings) (λ c. search listings) (λ c. search listings)
-    (λ c. search listings) (λ c. search listings) (λ c. search listings) in
-    tie.close answers
+    let answers = tie.spec {M = M} Inv-loop μ-loop loop-holds (λ c. search listings) (λ c κs. search listings) (λ c. search listings)
+    (λ c. search listings) (λ c. search listings) (λ c. search listings) (λ c. search listings) (λ c. search listings) in tie.close answers

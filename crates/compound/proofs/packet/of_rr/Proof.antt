@@ -1,20 +1,17 @@
 use Rattle.compound.proofs.Packets.{packets, shown}
 use Rattle.rfc3550.specs.Answer.{mapOk}
-use Rattle.report.specs.Report.{receiverOf}
+use Rattle.report.specs.Report.{parsedReceiverOf}
 use Rattle.compound.specs.Packet.{rrPacket}
-use Rattle.compound.proofs.packet.of_rr.Statement.{statement}
 use Rattle.compound.proofs.packet.of_rr.Tie as tie
 
 returns : tie.Need-returns
 unfolding mapOk
-returns c = search (packets, shown receiverOf rrPacket)
+returns c = search (packets, shown parsedReceiverOf rrPacket)
 
 returns-2 : tie.Need-returns-2
 unfolding mapOk
-returns-2 c = search (packets, shown receiverOf rrPacket)
+returns-2 c = search (packets, shown parsedReceiverOf rrPacket)
 
-pub of-rr-spec : {M : Type 1} → statement M
+pub of-rr-spec : {M : Type 1} → Rattle.compound.proofs.packet.of_rr.Statement.statement M
 of-rr-spec {M} =
-    let answers = tie.spec {M = M}
-    (λ c. search packets) (λ c. search packets) returns returns-2 in
-    tie.close answers
+    let answers = tie.spec {M = M} (λ c. search packets) (λ c. search packets) returns returns-2 in tie.close answers

@@ -1,7 +1,6 @@
 use Rattle.report.proofs.Blocks.{blocks}
 use native.Mathlib.Omega.{arith}
 use lib.ListN.{length-set}
-use Rattle.report.proofs.report_block.list_block_unchecked.Statement.{statement}
 use Rattle.report.proofs.report_block.list_block_unchecked.Tie as tie
 
 slice-write-words-2 : tie.Need-slice-write-words-2
@@ -25,11 +24,9 @@ same-length-2 c = simp length-set (omega arith)
 same-length-3 : tie.Need-same-length-3
 same-length-3 c = simp length-set (omega arith)
 
-pub list-block-unchecked-spec : {M : Type 1} → statement M
+pub list-block-unchecked-spec : {M : Type 1} → Rattle.report.proofs.report_block.list_block_unchecked.Statement.statement M
 list-block-unchecked-spec {M} =
-    let answers = tie.spec {M = M}
-    (λ c κs. search blocks) (λ c. search blocks) (λ c. search blocks) (λ c. search blocks) (λ c. search blocks) (λ c. search blocks)
-    (λ c. search blocks) (λ c. search blocks) slice-write-words-2 (λ c. search blocks) (λ c. search blocks) slice-write-words-3 (λ c. search blocks)
-    (λ c. search blocks) slice-write-words-4 (λ c. search blocks) (λ c. search blocks) slice-write-words-5 same-length same-length-2 same-length-3
-    (λ c. search blocks) in
-    tie.close answers
+    let answers = tie.spec {M = M} (λ c κs. search blocks) (λ c. search blocks) (λ c. search blocks) (λ c. search blocks) (λ c. search blocks)
+    (λ c. search blocks) (λ c. search blocks) (λ c. search blocks) slice-write-words-2 (λ c. search blocks) (λ c. search blocks) slice-write-words-3
+    (λ c. search blocks) (λ c. search blocks) slice-write-words-4 (λ c. search blocks) (λ c. search blocks) slice-write-words-5 same-length
+    same-length-2 same-length-3 (λ c. search blocks) in tie.close answers

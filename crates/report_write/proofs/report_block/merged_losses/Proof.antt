@@ -2,12 +2,12 @@ use Prim.Native.Nat.{_-_, _≤_}
 use mathlib.Core.Path.{_≡_}
 use lib.ListN.{length, drop}
 use Rattle.rfc3550.specs.Loss.{lossIn}
-use Rattle.report_write.specs.Report.{decisiveLoss}
+use Rattle.report_write.specs.Report.{testedLoss}
 use Rattle.report_write.proofs.Blocks.{blocks}
 use Rattle.report_write.proofs.report_block.merged_losses.Tie as tie
 
 abbrev Inv-loop : tie.InvT-loop
-Inv-loop losses n i₀ bits₀ i bits = (n ≡ length losses) × (i ≤ n) × (lossIn (decisiveLoss bits (drop i losses)) ≡ lossIn (decisiveLoss 0 losses))
+Inv-loop losses n i₀ bits₀ i bits = (n ≡ length losses) × (i ≤ n) × (lossIn (testedLoss bits (drop i losses)) ≡ lossIn (testedLoss 0 losses))
 
 abbrev μ-loop : tie.MeasureT-loop
 μ-loop losses n i₀ bits₀ i bits = n - i

@@ -1,6 +1,5 @@
 use Prim.Native.Nat.{_-_, _≤_}
 use borrow.Author.Needs.{needs}
-use Rattle.rows.proofs.forms.chunk.Statement.{statement}
 use Rattle.rows.proofs.forms.chunk.Tie as tie
 
 abbrev Inv-loop : tie.InvT-loop
@@ -9,7 +8,7 @@ Inv-loop s n most place₀ i₀ place i = i ≤ most
 abbrev μ-loop : tie.MeasureT-loop
 μ-loop s n most place₀ i₀ place i = most - i
 
-pub chunk-spec : {M : Type 1} → statement M
+pub chunk-spec : {M : Type 1} → Rattle.rows.proofs.forms.chunk.Statement.statement M
 chunk-spec = tie.close
     (tie.spec Inv-loop μ-loop (λ c κs. search needs) (λ c. search needs) (λ c. search needs) (λ c. search needs) (λ c κs. search needs)
     (λ c. search needs) (λ c κs. search needs) (λ c. search needs) (λ c. search needs) (λ c. search needs) (λ c κs. search needs)

@@ -2,7 +2,6 @@ use Prim.Native.Nat.{_-_, _≤_}
 use mathlib.Core.Path.{_≡_}
 use lib.ListN.{length}
 use borrow.Author.Needs.{needs}
-use Rattle.rows.proofs.forms.records.Statement.{statement}
 use Rattle.rows.proofs.forms.records.Tie as tie
 
 abbrev Inv-loop : tie.InvT-loop
@@ -11,7 +10,7 @@ Inv-loop fractions losses words list₀ i₀ list i = (length list ≡ 33) × (i
 abbrev μ-loop : tie.MeasureT-loop
 μ-loop fractions losses words list₀ i₀ list i = 33 - i
 
-pub records-spec : {M : Type 1} → statement M
+pub records-spec : {M : Type 1} → Rattle.rows.proofs.forms.records.Statement.statement M
 records-spec = tie.close
     (tie.spec Inv-loop μ-loop (λ c κs. search needs) (λ c. search needs) (λ c κs. search needs) (λ c. search needs) (λ c. search needs)
     (λ c. search needs) (λ c. search needs) (λ c. search needs) (λ c. search needs))

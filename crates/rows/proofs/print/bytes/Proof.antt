@@ -1,7 +1,6 @@
 use Prim.Native.Nat.{_-_, _≤_}
 use lib.ListN.{length}
 use borrow.Author.Needs.{needs}
-use Rattle.rows.proofs.print.bytes.Statement.{statement}
 use Rattle.rows.proofs.print.bytes.Tie as tie
 
 abbrev Inv-loop : tie.InvT-loop
@@ -10,7 +9,7 @@ Inv-loop s same₀ last₀ i₀ same last i = i ≤ length s
 abbrev μ-loop : tie.MeasureT-loop
 μ-loop s same₀ last₀ i₀ same last i = length s - i
 
-pub bytes-spec : {M : Type 1} → statement M
+pub bytes-spec : {M : Type 1} → Rattle.rows.proofs.print.bytes.Statement.statement M
 bytes-spec = tie.close
     (tie.spec Inv-loop μ-loop (λ c. search needs) (λ c κs. search needs) (λ c. search needs) (λ c. search needs) (λ c κs. search needs)
     (λ c κs. search needs) (λ c. search needs) (λ c. search needs) (λ c. search needs) (λ c κs. search needs) (λ c. search needs))

@@ -1,7 +1,6 @@
 use Prim.Native.Nat.{_-_, _≤_}
 use lib.ListN.{length}
 use borrow.Author.Needs.{needs}
-use Rattle.rows.proofs.text.find.Statement.{statement}
 use Rattle.rows.proofs.text.find.Tie as tie
 
 abbrev Inv-loop : tie.InvT-loop
@@ -10,7 +9,7 @@ Inv-loop s from b at₀ at = (from ≤ at) × (at ≤ length s)
 abbrev μ-loop : tie.MeasureT-loop
 μ-loop s from b at₀ at = length s - at
 
-pub find-spec : {M : Type 1} → statement M
+pub find-spec : {M : Type 1} → Rattle.rows.proofs.text.find.Statement.statement M
 find-spec = tie.close
     (tie.spec Inv-loop μ-loop (λ c. search needs) (λ c. search needs) (λ c. search needs) (λ c. search needs) (λ c. search needs)
     (λ c. search needs) (λ c. search needs))

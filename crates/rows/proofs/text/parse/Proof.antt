@@ -3,7 +3,6 @@ use Prim.Native.Nat.{_+_, _-_, _≤_}
 use mathlib.Core.Path.{_≡_}
 use lib.ListN.{length}
 use borrow.Author.Needs.{needs}
-use Rattle.rows.proofs.text.parse.Statement.{statement}
 use Rattle.rows.proofs.text.parse.Tie as tie
 
 abbrev Inv-loop : tie.InvT-loop
@@ -15,7 +14,7 @@ abbrev μ-loop : tie.MeasureT-loop
 returns : tie.Need-returns Inv-loop μ-loop
 returns c = search (needs, counts)
 
-pub parse-spec : {M : Type 1} → statement M
+pub parse-spec : {M : Type 1} → Rattle.rows.proofs.text.parse.Statement.statement M
 parse-spec = tie.close
     (tie.spec Inv-loop μ-loop (λ c. search needs) (λ c κs. search needs) (λ c. search needs) (λ c. search needs) (λ c. search needs)
     (λ c κs. search needs) (λ c. search needs) (λ c. search needs) (λ c. search needs) (λ c κs. search needs) (λ c. search needs)

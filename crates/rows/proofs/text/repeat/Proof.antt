@@ -2,7 +2,6 @@ use Prim.Native.Nat.{_≤_}
 use mathlib.Core.Path.{_≡_}
 use lib.ListN.{length}
 use borrow.Author.Needs.{needs}
-use Rattle.rows.proofs.text.repeat.Statement.{statement}
 use Rattle.rows.proofs.text.repeat.Tie as tie
 
 abbrev Inv-loop : tie.InvT-loop
@@ -11,7 +10,7 @@ Inv-loop out₀ from b count at₀ left₀ out at left = (at ≤ length out₀) 
 abbrev μ-loop : tie.MeasureT-loop
 μ-loop out₀ from b count at₀ left₀ out at left = left
 
-pub repeat-spec : {M : Type 1} → statement M
+pub repeat-spec : {M : Type 1} → Rattle.rows.proofs.text.repeat.Statement.statement M
 repeat-spec = tie.close
     (tie.spec Inv-loop μ-loop (λ c. search needs) (λ c. search needs) (λ c. search needs) (λ c. search needs) (λ c. search needs)
     (λ c. search needs) (λ c. search needs) (λ c. search needs) (λ c. search needs) (λ c. search needs))

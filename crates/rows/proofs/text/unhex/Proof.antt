@@ -2,7 +2,6 @@ use Prim.Native.Nat.{_-_, _≤_}
 use mathlib.Core.Path.{_≡_}
 use lib.ListN.{length}
 use borrow.Author.Needs.{needs}
-use Rattle.rows.proofs.text.unhex.Statement.{statement}
 use Rattle.rows.proofs.text.unhex.Tie as tie
 
 abbrev Inv-loop : tie.InvT-loop
@@ -11,7 +10,7 @@ Inv-loop s out₀ from at₀ i₀ out at i = (at ≤ length out₀) × (i ≤ le
 abbrev μ-loop : tie.MeasureT-loop
 μ-loop s out₀ from at₀ i₀ out at i = length s - i
 
-pub unhex-spec : {M : Type 1} → statement M
+pub unhex-spec : {M : Type 1} → Rattle.rows.proofs.text.unhex.Statement.statement M
 unhex-spec = tie.close
     (tie.spec Inv-loop μ-loop (λ c. search needs) (λ c. search needs) (λ c. search needs) (λ c. search needs) (λ c. search needs)
     (λ c. search needs) (λ c. search needs) (λ c κs. search needs) (λ c. search needs) (λ c. search needs) (λ c. search needs)

@@ -1,7 +1,6 @@
 use Prim.Native.Nat.{_-_}
 use lib.ListN.{length}
 use Rattle.sdes.proofs.ItemTurns.{rows, Counting, count-done}
-use Rattle.sdes.proofs.items.count_rows.Statement.{statement}
 use Rattle.sdes.proofs.items.count_rows.Tie as tie
 
 abbrev Inv-loop : tie.InvT-loop
@@ -13,8 +12,7 @@ abbrev μ-loop : tie.MeasureT-loop
 returns : tie.Need-returns Inv-loop μ-loop
 returns c = count-done _ _ _ (c .before .before .loop .inv) (c .before .before .before .before .before .pre .0) (c .if1 .left)
 
-pub count-rows-spec : {M : Type 1} → statement M
+pub count-rows-spec : {M : Type 1} → Rattle.sdes.proofs.items.count_rows.Statement.statement M
 count-rows-spec {M} =
-    let answers = tie.spec {M = M}
-    Inv-loop μ-loop (λ c κs. search rows) (λ c. search rows) (λ c κs. search rows) (λ c. search rows) (λ c. search rows) (λ c. search rows) returns in
-    tie.close answers
+    let answers = tie.spec {M = M} Inv-loop μ-loop (λ c κs. search rows) (λ c. search rows) (λ c κs. search rows) (λ c. search rows)
+    (λ c. search rows) (λ c. search rows) returns in tie.close answers

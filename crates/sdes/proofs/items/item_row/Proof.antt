@@ -1,7 +1,6 @@
 use Rattle.sdes.proofs.ItemTurns.{rows}
 use Rattle.sdes.proofs.ItemPlaces.{item-bound, row-value}
 use native.Mathlib.Omega.{arith}
-use Rattle.sdes.proofs.items.item_row.Statement.{statement}
 use Rattle.sdes.proofs.items.item_row.Tie as tie
 
 add-t14 : tie.Need-add-t14
@@ -28,10 +27,8 @@ add-t18 c =
     let known = row-value _ (start .args .place) (start .pre .1) _ (c .before .item-of-unchecked .ensures) (start .pre .0) (c .if1 .left) in
     omega arith
 
-pub item-row-spec : {M : Type 1} → statement M
+pub item-row-spec : {M : Type 1} → Rattle.sdes.proofs.items.item_row.Statement.statement M
 item-row-spec {M} =
-    let answers = tie.spec {M = M}
-    (λ c. search rows) (λ c. search rows) (λ c. search rows) (λ c κs. search rows) (λ c. search rows) add-t14 cast-t15 (λ c. search rows)
-    (λ c. search rows) (λ c. search rows) add-t9 add-t18 (λ c. search rows) (λ c. search rows) (λ c. search rows) (λ c. search rows)
-    (λ c. search rows) (λ c. search rows) in
-    tie.close answers
+    let answers = tie.spec {M = M} (λ c. search rows) (λ c. search rows) (λ c. search rows) (λ c κs. search rows) (λ c. search rows) add-t14 cast-t15
+    (λ c. search rows) (λ c. search rows) (λ c. search rows) add-t9 add-t18 (λ c. search rows) (λ c. search rows) (λ c. search rows)
+    (λ c. search rows) (λ c. search rows) (λ c. search rows) in tie.close answers

@@ -2,7 +2,6 @@ use Prim.Native.Nat.{ℕ, _<_}
 use native.Mathlib.Omega.{arith}
 use lib.ListN.{getD}
 use Rattle.sdes.proofs.ItemTurns.{rows, items-most, items-rows}
-use Rattle.sdes.proofs.items.items.Statement.{statement}
 use Rattle.sdes.proofs.items.items.Tie as tie
 
 needed-requires : tie.Need-needed-requires
@@ -19,9 +18,8 @@ lay-rows-requires c κs =
     let w = e .needed .ensures in
     (items-most _ _ (q .read .ensures) (e .before .before .if1 .left) known, record { n = w .n; rows = w .rows; fits = omega (arith, w .enough (c .before .if2 .left)) })
 
-pub items-spec : {M : Type 1} → statement M
+pub items-spec : {M : Type 1} → Rattle.sdes.proofs.items.items.Statement.statement M
 items-spec {M} =
-    let answers = tie.spec {M = M}
-    (λ c κs. search rows) (λ c. search rows) (λ c. search rows) (λ c. search rows) (λ c κs. search rows) (λ c. search rows) (λ c. search rows)
-    needed-requires (λ c. search rows) lay-rows-requires (λ c. search rows) (λ c. search rows) in
+    let answers = tie.spec {M = M} (λ c κs. search rows) (λ c. search rows) (λ c. search rows) (λ c. search rows) (λ c κs. search rows)
+    (λ c. search rows) (λ c. search rows) needed-requires (λ c. search rows) lay-rows-requires (λ c. search rows) (λ c. search rows) in
     tie.close answers

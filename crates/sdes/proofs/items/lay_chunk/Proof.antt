@@ -1,5 +1,4 @@
 use Rattle.sdes.proofs.ItemTurns.{rows, items-has, items-room, chunk-laid}
-use Rattle.sdes.proofs.items.lay_chunk.Statement.{statement}
 use Rattle.sdes.proofs.items.lay_chunk.Tie as tie
 
 lay-end-requires : tie.Need-lay-end-requires
@@ -10,8 +9,6 @@ lay-end-requires c κs =
 returns : tie.Need-returns
 returns c = chunk-laid _ _ _ _ _ _ _ (c .before .before .before .before .before .before .before .lay-items .ensures .1) _ _ (c .before .before .before .lay-end .ensures)
 
-pub lay-chunk-spec : {M : Type 1} → statement M
+pub lay-chunk-spec : {M : Type 1} → Rattle.sdes.proofs.items.lay_chunk.Statement.statement M
 lay-chunk-spec {M} =
-    let answers = tie.spec {M = M}
-    (λ c κs. search rows) lay-end-requires (λ c. search rows) (λ c. search rows) returns in
-    tie.close answers
+    let answers = tie.spec {M = M} (λ c κs. search rows) lay-end-requires (λ c. search rows) (λ c. search rows) returns in tie.close answers

@@ -3,7 +3,6 @@ use lib.ListN.{length}
 use Rattle.sdes.specs.ItemPlaces.{ItemsLaid}
 use Rattle.sdes.proofs.ItemTurns.{rows, items-again}
 use Rattle.sdes.proofs.ItemPlaces.{item-less}
-use Rattle.sdes.proofs.items.lay_items.Statement.{statement}
 use Rattle.sdes.proofs.items.lay_items.Tie as tie
 
 abbrev Inv-loop : tie.InvT-loop
@@ -24,9 +23,7 @@ loop-again c =
     let step = c .before .before .before .before .before in
     items-again _ _ _ _ _ _ _ (step .before .before .loop .inv) _ (step .before .item-end .ensures) (step .if1 .left) _ _ (c .before .before .before .before .item-row .ensures) (c .before .before .write-row .ensures)
 
-pub lay-items-spec : {M : Type 1} → statement M
+pub lay-items-spec : {M : Type 1} → Rattle.sdes.proofs.items.lay_items.Statement.statement M
 lay-items-spec {M} =
-    let answers = tie.spec {M = M}
-    Inv-loop μ-loop (λ c. search rows) (λ c κs. search rows) (λ c. search rows) (λ c. search rows) (λ c κs. search rows) (λ c κs. search rows)
-    (λ c. search rows) loop-less loop-again in
-    tie.close answers
+    let answers = tie.spec {M = M} Inv-loop μ-loop (λ c. search rows) (λ c κs. search rows) (λ c. search rows) (λ c. search rows)
+    (λ c κs. search rows) (λ c κs. search rows) (λ c. search rows) loop-less loop-again in tie.close answers

@@ -1,7 +1,6 @@
 use Prim.Native.Nat.{_-_}
 use lib.ListN.{length}
 use Rattle.sdes_chunk.proofs.Chunks.{chunks, Going}
-use Rattle.sdes_chunk.proofs.chunk.items_end.Statement.{statement}
 use Rattle.sdes_chunk.proofs.chunk.items_end.Tie as tie
 
 abbrev Inv-loop : tie.InvT-loop
@@ -10,10 +9,8 @@ Inv-loop chunk known at₀ cname₀ at cname = Going chunk known at cname
 abbrev μ-loop : tie.MeasureT-loop
 μ-loop chunk known at₀ cname₀ at cname = length chunk - at
 
-pub items-end-spec : {M : Type 1} → statement M
+pub items-end-spec : {M : Type 1} → Rattle.sdes_chunk.proofs.chunk.items_end.Statement.statement M
 items-end-spec {M} =
-    let answers = tie.spec {M = M}
-    Inv-loop μ-loop (λ c. search chunks) (λ c. search chunks) (λ c κs. search chunks) (λ c. search chunks) (λ c. search chunks) (λ c. search chunks)
-    (λ c. search chunks) (λ c. search chunks) (λ c κs. search chunks) (λ c. search chunks) (λ c. search chunks) (λ c κs. search chunks)
-    (λ c. search chunks) in
-    tie.close answers
+    let answers = tie.spec {M = M} Inv-loop μ-loop (λ c. search chunks) (λ c. search chunks) (λ c κs. search chunks) (λ c. search chunks)
+    (λ c. search chunks) (λ c. search chunks) (λ c. search chunks) (λ c. search chunks) (λ c κs. search chunks) (λ c. search chunks)
+    (λ c. search chunks) (λ c κs. search chunks) (λ c. search chunks) in tie.close answers

@@ -4,7 +4,7 @@ use denote.Enum.Laws as EL
 use denote.Struct.Declared.{Declared}
 use denote.Struct.Laws as LL
 use denote.Struct.Rest.{all-own, own-open, own-shut}
-use Rattle.rfc3550.specs.Walk.{moved}
+use Rattle.rfc3550.specs.Walk.{walkAfter}
 use Rattle.sdes.specs.Walk.{steppedChunkOf}
 use Rattle.sdes.specs.declared.sdes.ChunkWalk.{ChunkWalk}
 use Rattle.sdes.proofs.sdes.ChunkWalk as K
@@ -91,10 +91,10 @@ module _ {M : Type 1} (𝓤 : URA M) (H : Heap 𝓤) (𝓜 : Model 𝓤 H) (𝓖
   abbrev Said : SteppedChunk → Type 0
   Said r = steppedChunkOf r ≡ stepAt (now (d .«data»)) (d .position)
 
-  exits : (r : SteppedChunk) (p : ChunkWalk) → Said r → p ≡ moved (d .position) (steppedChunkOf r) → Is S.the-row r (EL.val S.the-type S′.the-laws r ∷ []) → Is K.the-row p (place p ∷ []) → ent 𝓤 (⋆ 𝓤 H A (token ∷ ‵ Own ∷ [])) (Post (lowered r p))
+  exits : (r : SteppedChunk) (p : ChunkWalk) → Said r → p ≡ walkAfter (d .position) (steppedChunkOf r) → Is S.the-row r (EL.val S.the-type S′.the-laws r ∷ []) → Is K.the-row p (place p ∷ []) → ent 𝓤 (⋆ 𝓤 H A (token ∷ ‵ Own ∷ [])) (Post (lowered r p))
   exits r p e at r-is p-is =
       qed W (token ∷ ‵ Own ∷ []) ∵
-      suffices ! _ (ends-at 𝓤 H A step.ended stayed (step.clauses 𝓤 H A (𝓜 .mem) (𝓡 .run)) W (((κ, tt), (q, tt), tt, (d, tt), (mach ∷ [], tt)), tt) (lowered r p) (stepped r p) (tt, tt) (tt, tt)) $ says ! (e, ap walkAt (at ∙ ap (moved (d .position)) e)) $
+      suffices ! _ (ends-at 𝓤 H A step.ended stayed (step.clauses 𝓤 H A (𝓜 .mem) (𝓡 .run)) W (((κ, tt), (q, tt), tt, (d, tt), (mach ∷ [], tt)), tt) (lowered r p) (stepped r p) (tt, tt) (tt, tt)) $ says ! (e, ap walkAt (at ∙ ap (walkAfter (d .position)) e)) $
       frame ! $ use1 W (‵ Own ⊛ ‵ Own) (LL.copy D (T′.the-copy α) 𝓤 H A W .twice d (mach ∷ [])) $ split ! $ nothing ! $ move ! (1 ∷ 0 ∷ []) $ fjoin ! $ frame ! $
       use1 W (given (mach ∷ [] ≡ mach ∷ []) (‵ (all-own (D .parts) L (d .«data», (d .position, tt))))) (own-open 𝓤 H A W D L (d .«data», (d .position, tt)) mach) $ learn ! (λ _. fsplit ! $ move ! (1 ∷ []) $ drop ! $
       nothing ! $ owned ! K.the-row (Is K.the-row) (LL.makes K.the-type K′.the-plain 𝓤 H A) p _ p-is $ fjoin ! $ move ! (1 ∷ 0 ∷ []) $ fjoin ! $ use1 W (‵ (B (κ, tt) .own (walkAt p) (_ ∷ []))) (own-shut 𝓤 H A W D L (d .«data», (p, tt))) $
@@ -116,7 +116,7 @@ module _ {M : Type 1} (𝓤 : URA M) (H : Heap 𝓤) (𝓜 : Model 𝓤 H) (𝓖
       -- [token; Own; _6; …; _5; …; _4; …; _3; …; _2; …; _1; …; room for _0; …]
       calls-plain W after.ended (after.clauses 𝓤 H A (𝓜 .mem) (𝓡 .run)) ((tt, tt, tt, (r, (d .position, tt)), (EL.vals S.the-type S′.the-laws r, (place (d .position) ∷ [], tt))), tt) ! (framed 𝓤 H 𝓜 𝓖 𝓡 code.env)
       (cited 𝓤 H _ 𝓜 𝓡 code.env after-def.name after-def.routine code.calls-sdes-walk·after (after-thm.met 𝓤 H 𝓜 𝓖 𝓡)) (id⊢ 𝓤 _) (id⊢ 𝓤 _) (EL.makes S.the-type S′.the-plain 𝓤 H A, (LL.makes K.the-type K′.the-plain 𝓤 H A, tt)) (r-is, (held .1 .0, tt))
-      (and-then ! (load ! (from ! (stop !)) (look ! 7 refl)) (and-then ! (load ! (from ! (stop !)) (look ! 9 refl)) (no-more !))) (λ p. p ≡ moved (d .position) (steppedChunkOf r)) (λ p ws. id⊢ 𝓤 _) (LL.vals K.the-type K′.the-laws) (LL.tells K.the-type K′.the-laws) (λ p at p-is.
+      (and-then ! (load ! (from ! (stop !)) (look ! 7 refl)) (and-then ! (load ! (from ! (stop !)) (look ! 9 refl)) (no-more !))) (λ p. p ≡ walkAfter (d .position) (steppedChunkOf r)) (λ p ws. id⊢ 𝓤 _) (LL.vals K.the-type K′.the-laws) (LL.tells K.the-type K′.the-laws) (λ p at p-is.
       land ! (from ! (stop !)) (init ! 4 refl (LL.lawful K.the-type K′.the-laws 𝓤 H A W .typed p _ p-is .0)) $
       assigns ! (agg ! (and-then ! (load ! (from ! (stop !)) (look ! 10 refl)) (and-then ! (load ! (from ! (stop !)) (look ! 4 refl)) (no-more !)))) (from ! (stop !)) (init ! 2 refl (LL.lawful (T.the-type αᵉ) (T′.the-laws αᵉ) 𝓤 H A W .typed (walkAt p) _ (LL.owes (T.the-type αᵉ) (T′.the-laws αᵉ) (walkAt p) (held .0, (p-is, tt))) .0)) $
       assigns ! (agg ! (and-then ! (load ! (from ! (stop !)) (look ! 6 refl)) (and-then ! (load ! (from ! (stop !)) (look ! 2 refl)) (no-more !)))) (from ! (stop !)) (init ! 14 refl (LL.lawful D₂ (U′.the-laws α) 𝓤 H A W .typed (stepped r p) _ (LL.owes D₂ (U′.the-laws α) (stepped r p) (r-is, (LL.owes D L (walkAt p) (held .0, (p-is, tt)), tt))) .0)) $

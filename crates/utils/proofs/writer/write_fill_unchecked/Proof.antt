@@ -1,7 +1,6 @@
 use Rattle.utils.proofs.WriterCases.{writer, fill-laid}
 use native.Mathlib.Omega.{arith}
 use lib.ListN.{length-set}
-use Rattle.utils.proofs.writer.write_fill_unchecked.Statement.{statement}
 use Rattle.utils.proofs.writer.write_fill_unchecked.Tie as tie
 
 returns : tie.Need-returns
@@ -25,9 +24,8 @@ slice-write-buf-4 c = simp length-set (omega arith)
 returns-4 : tie.Need-returns-4
 returns-4 c = fill-laid _ _ 3 (c .before .before .before .args .n) (omega arith) (omega arith)
 
-pub write-fill-unchecked-spec : {M : Type 1} → statement M
+pub write-fill-unchecked-spec : {M : Type 1} → Rattle.utils.proofs.writer.write_fill_unchecked.Statement.statement M
 write-fill-unchecked-spec {M} =
-    let answers = tie.spec {M = M}
-    (λ c. search writer) (λ c. search writer) returns (λ c. search writer) slice-write-buf-2 (λ c. search writer) returns-2 (λ c. search writer)
-    slice-write-buf-3 (λ c. search writer) returns-3 (λ c. search writer) slice-write-buf-4 (λ c. search writer) returns-4 in
-    tie.close answers
+    let answers = tie.spec {M = M} (λ c. search writer) (λ c. search writer) returns (λ c. search writer) slice-write-buf-2 (λ c. search writer)
+    returns-2 (λ c. search writer) slice-write-buf-3 (λ c. search writer) returns-3 (λ c. search writer) slice-write-buf-4 (λ c. search writer)
+    returns-4 in tie.close answers

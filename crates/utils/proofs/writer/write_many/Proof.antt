@@ -2,7 +2,6 @@ use Prim.Native.Nat.{_-_}
 use lib.ListN.{length}
 use Rattle.utils.proofs.WriterCases.{writer, Copying, copying-start, copying-again, group-last}
 use native.Mathlib.Omega.{arith}
-use Rattle.utils.proofs.writer.write_many.Statement.{statement}
 use Rattle.utils.proofs.writer.write_many.Tie as tie
 
 abbrev Inv-loop : tie.InvT-loop
@@ -20,9 +19,7 @@ loop-again c = copying-again 32 _ _ _ _ _ _ (c .before .before .before .before .
 returns : tie.Need-returns Inv-loop μ-loop
 returns c = group-last _ _ 32 _ _ _ _ (omega arith) (c .before .before .before .before .before .loop .inv .within) (omega arith) (omega arith) (c .before .before .copy-thirty-two2 .ensures) (c .before .before .before .before .before .loop .inv .laid)
 
-pub write-many-spec : {M : Type 1} → statement M
+pub write-many-spec : {M : Type 1} → Rattle.utils.proofs.writer.write_many.Statement.statement M
 write-many-spec {M} =
-    let answers = tie.spec {M = M}
-    Inv-loop μ-loop loop-holds (λ c. search writer) (λ c κs. search writer) (λ c. search writer) (λ c. search writer)
-    loop-again (λ c. search writer) (λ c κs. search writer) (λ c. search writer) returns in
-    tie.close answers
+    let answers = tie.spec {M = M} Inv-loop μ-loop loop-holds (λ c. search writer) (λ c κs. search writer) (λ c. search writer) (λ c. search writer)
+    loop-again (λ c. search writer) (λ c κs. search writer) (λ c. search writer) returns in tie.close answers

@@ -1,7 +1,6 @@
 use native.Mathlib.Omega.{arith}
 use lib.ListN.{length-set}
 use Rattle.utils.proofs.WriterCases.{writer}
-use Rattle.utils.proofs.writer.write_reversed.Statement.{statement}
 use Rattle.utils.proofs.writer.write_reversed.Tie as tie
 
 slice-write-buf-2 : tie.Need-slice-write-buf-2
@@ -16,9 +15,8 @@ slice-write-buf-4 c = simp length-set (omega arith)
 same-length : tie.Need-same-length
 same-length c = simp length-set (omega arith)
 
-pub write-reversed-spec : {M : Type 1} → statement M
+pub write-reversed-spec : {M : Type 1} → Rattle.utils.proofs.writer.write_reversed.Statement.statement M
 write-reversed-spec {M} =
-    let answers = tie.spec {M = M}
-    (λ c. search writer) (λ c. search writer) (λ c. search writer) (λ c. search writer) slice-write-buf-2 (λ c. search writer) (λ c. search writer)
-    slice-write-buf-3 (λ c. search writer) (λ c. search writer) slice-write-buf-4 same-length (λ c. search writer) in
-    tie.close answers
+    let answers = tie.spec {M = M} (λ c. search writer) (λ c. search writer) (λ c. search writer) (λ c. search writer) slice-write-buf-2
+    (λ c. search writer) (λ c. search writer) slice-write-buf-3 (λ c. search writer) (λ c. search writer) slice-write-buf-4 same-length
+    (λ c. search writer) in tie.close answers

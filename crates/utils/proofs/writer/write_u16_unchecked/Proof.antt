@@ -1,7 +1,6 @@
 use Rattle.utils.proofs.WriterCases.{writer}
 use native.Mathlib.Omega.{arith}
 use lib.ListN.{length-set}
-use Rattle.utils.proofs.writer.write_u16_unchecked.Statement.{statement}
 use Rattle.utils.proofs.writer.write_u16_unchecked.Tie as tie
 
 slice-write-buf-2 : tie.Need-slice-write-buf-2
@@ -10,8 +9,7 @@ slice-write-buf-2 c = simp length-set (omega arith)
 same-length : tie.Need-same-length
 same-length c = simp length-set (omega arith)
 
-pub write-u16-unchecked-spec : {M : Type 1} → statement M
+pub write-u16-unchecked-spec : {M : Type 1} → Rattle.utils.proofs.writer.write_u16_unchecked.Statement.statement M
 write-u16-unchecked-spec {M} =
-    let answers = tie.spec {M = M}
-    (λ c. search writer) (λ c. search writer) (λ c. search writer) (λ c. search writer) slice-write-buf-2 same-length (λ c. search writer) in
-    tie.close answers
+    let answers = tie.spec {M = M} (λ c. search writer) (λ c. search writer) (λ c. search writer) (λ c. search writer) slice-write-buf-2 same-length
+    (λ c. search writer) in tie.close answers

@@ -1,7 +1,6 @@
 use Rattle.utils.proofs.WriterCases.{writer}
 use native.Mathlib.Omega.{arith}
 use lib.ListN.{length-set}
-use Rattle.utils.proofs.writer.write_u64_unchecked.Statement.{statement}
 use Rattle.utils.proofs.writer.write_u64_unchecked.Tie as tie
 
 slice-write-buf-2 : tie.Need-slice-write-buf-2
@@ -28,11 +27,9 @@ slice-write-buf-8 c = simp length-set (omega arith)
 same-length : tie.Need-same-length
 same-length c = simp length-set (omega arith)
 
-pub write-u64-unchecked-spec : {M : Type 1} → statement M
+pub write-u64-unchecked-spec : {M : Type 1} → Rattle.utils.proofs.writer.write_u64_unchecked.Statement.statement M
 write-u64-unchecked-spec {M} =
-    let answers = tie.spec {M = M}
-    (λ c. search writer) (λ c. search writer) (λ c. search writer) (λ c. search writer) slice-write-buf-2 (λ c. search writer) (λ c. search writer)
-    slice-write-buf-3 (λ c. search writer) (λ c. search writer) slice-write-buf-4 (λ c. search writer) (λ c. search writer) slice-write-buf-5
-    (λ c. search writer) (λ c. search writer) slice-write-buf-6 (λ c. search writer) (λ c. search writer) slice-write-buf-7 (λ c. search writer)
-    (λ c. search writer) slice-write-buf-8 same-length (λ c. search writer) in
-    tie.close answers
+    let answers = tie.spec {M = M} (λ c. search writer) (λ c. search writer) (λ c. search writer) (λ c. search writer) slice-write-buf-2
+    (λ c. search writer) (λ c. search writer) slice-write-buf-3 (λ c. search writer) (λ c. search writer) slice-write-buf-4 (λ c. search writer)
+    (λ c. search writer) slice-write-buf-5 (λ c. search writer) (λ c. search writer) slice-write-buf-6 (λ c. search writer) (λ c. search writer)
+    slice-write-buf-7 (λ c. search writer) (λ c. search writer) slice-write-buf-8 same-length (λ c. search writer) in tie.close answers

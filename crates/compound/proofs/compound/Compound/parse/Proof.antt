@@ -1,7 +1,6 @@
 use Prim.Native.Nat.{_-_}
 use lib.ListN.{length}
 use Rattle.compound.proofs.Compounds.{compounds, Loop}
-use Rattle.compound.proofs.compound.Compound.parse.Statement.{statement}
 use Rattle.compound.proofs.compound.Compound.parse.Tie as tie
 
 abbrev Inv-loop : tie.InvT-loop
@@ -10,11 +9,9 @@ Inv-loop s at₀ n-packets₀ has-cname₀ at n-packets has-cname = Loop s at n-
 abbrev μ-loop : tie.MeasureT-loop
 μ-loop s at₀ n-packets₀ has-cname₀ at n-packets has-cname = length s - at
 
-pub parse-spec : {M : Type 1} → statement M
+pub parse-spec : {M : Type 1} → Rattle.compound.proofs.compound.Compound.parse.Statement.statement M
 parse-spec {M} =
-    let answers = tie.spec {M = M}
-    Inv-loop μ-loop (λ c. search compounds) (λ c. search compounds) (λ c. search compounds) (λ c. search compounds) (λ c. search compounds)
-    (λ c κs. search compounds) (λ c. search compounds) (λ c. search compounds) (λ c κs. search compounds) (λ c. search compounds)
-    (λ c κs. search compounds) (λ c. search compounds) (λ c. search compounds) (λ c. search compounds) (λ c. search compounds) (λ c. search compounds)
-    (λ c. search compounds) in
-    tie.close answers
+    let answers = tie.spec {M = M} Inv-loop μ-loop (λ c. search compounds) (λ c. search compounds) (λ c. search compounds) (λ c. search compounds)
+    (λ c. search compounds) (λ c κs. search compounds) (λ c. search compounds) (λ c. search compounds) (λ c κs. search compounds)
+    (λ c. search compounds) (λ c κs. search compounds) (λ c. search compounds) (λ c. search compounds) (λ c. search compounds) (λ c. search compounds)
+    (λ c. search compounds) (λ c. search compounds) in tie.close answers

@@ -6,7 +6,6 @@ use Rattle.rfc3550.specs.Write.{giveSdes}
 use Rattle.sdes_write.specs.Packets.{lists}
 use Rattle.compound_write.proofs.Writers.{add-refused, sdes-again, sdes-values, admitted-some}
 use Rattle.compound_write.proofs.Writers.{adds}
-use Rattle.compound_write.proofs.writer.Writer.add_sdes.Statement.{statement}
 use Rattle.compound_write.proofs.writer.Writer.add_sdes.Tie as tie
 
 returns : tie.Need-returns
@@ -19,12 +18,11 @@ has-cname-unchecked-requires c κs =
     let a = c .before .before .before .before .before .before .before .before .before .before .before .before .before .before .args in
     sdes-values (a .ssrcs .now) (a .counts .now) (a .types .now) (a .prefixes .now) (a .values .now) (a .bytes .now) (a .padding) _ (c .before .before .before .before .before .before .size-of .ensures) (admitted-some (writerOf (a .self)) 202 _ (length (a .buf .now)) _ (c .before .before .before .before .before .admit .ensures) (not-false _ (c .before .before .before .before .if1 .left)))
 
-pub add-sdes-spec : {M : Type 1} → statement M
+pub add-sdes-spec : {M : Type 1} → Rattle.compound_write.proofs.writer.Writer.add_sdes.Statement.statement M
 add-sdes-spec {M} =
-    let answers = tie.spec {M = M}
-    (λ c κs. search adds) (λ c κs. search adds) (λ c. search adds) (λ c. search adds) (λ c. search adds) (λ c. search adds) (λ c. search adds)
+    let answers = tie.spec {M = M} (λ c κs. search adds) (λ c κs. search adds) (λ c. search adds) (λ c. search adds) (λ c. search adds)
     (λ c. search adds) (λ c. search adds) (λ c. search adds) (λ c. search adds) (λ c. search adds) (λ c. search adds) (λ c. search adds)
-    (λ c. search adds) (λ c. search adds) (λ c. search adds) (λ c. search adds) (λ c. search adds) (λ c. search adds) (λ c κs. search adds)
-    (λ c κs. search adds) (λ c κs. search adds) returns (λ c. search adds) (λ c. search adds) (λ c. search adds) (λ c κs. search adds)
-    has-cname-unchecked-requires (λ c κs. search adds) (λ c. search adds) (λ c. search adds) in
+    (λ c. search adds) (λ c. search adds) (λ c. search adds) (λ c. search adds) (λ c. search adds) (λ c. search adds) (λ c. search adds)
+    (λ c. search adds) (λ c κs. search adds) (λ c κs. search adds) (λ c κs. search adds) returns (λ c. search adds) (λ c. search adds)
+    (λ c. search adds) (λ c κs. search adds) has-cname-unchecked-requires (λ c κs. search adds) (λ c. search adds) (λ c. search adds) in
     tie.close answers

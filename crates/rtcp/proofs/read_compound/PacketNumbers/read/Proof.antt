@@ -1,13 +1,11 @@
 use Rattle.rtcp.proofs.Datagrams.{datagrams}
-use Rattle.rtcp.proofs.read_compound.PacketNumbers.read.Statement.{statement}
 use Rattle.rtcp.proofs.read_compound.PacketNumbers.read.Tie as tie
 
-pub read-spec : {M : Type 1} → statement M
+pub read-spec : {M : Type 1} → Rattle.rtcp.proofs.read_compound.PacketNumbers.read.Statement.statement M
 read-spec {M} =
-    let answers = tie.spec {M = M}
-    (λ c κs. search datagrams) (λ c. search datagrams) (λ c κs. search datagrams) (λ c κs. search datagrams) (λ c. search datagrams)
-    (λ c κs. search datagrams) (λ c κs. search datagrams) (λ c. search datagrams) (λ c κs. search datagrams) (λ c κs. search datagrams)
+    let answers = tie.spec {M = M} (λ c κs. search datagrams) (λ c. search datagrams) (λ c κs. search datagrams) (λ c κs. search datagrams)
     (λ c. search datagrams) (λ c κs. search datagrams) (λ c κs. search datagrams) (λ c. search datagrams) (λ c κs. search datagrams)
     (λ c κs. search datagrams) (λ c. search datagrams) (λ c κs. search datagrams) (λ c κs. search datagrams) (λ c. search datagrams)
-    (λ c. search datagrams) (λ c. search datagrams) (λ c. search datagrams) (λ c. search datagrams) (λ c. search datagrams) in
+    (λ c κs. search datagrams) (λ c κs. search datagrams) (λ c. search datagrams) (λ c κs. search datagrams) (λ c κs. search datagrams)
+    (λ c. search datagrams) (λ c. search datagrams) (λ c. search datagrams) (λ c. search datagrams) (λ c. search datagrams) (λ c. search datagrams) in
     tie.close answers

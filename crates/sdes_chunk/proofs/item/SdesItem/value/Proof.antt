@@ -1,10 +1,7 @@
 use Rattle.sdes_chunk.proofs.Items.{items}
-use Rattle.sdes_chunk.proofs.item.SdesItem.value.Statement.{statement}
 use Rattle.sdes_chunk.proofs.item.SdesItem.value.Tie as tie
 
-pub value-spec : {M : Type 1} → statement M
+pub value-spec : {M : Type 1} → Rattle.sdes_chunk.proofs.item.SdesItem.value.Statement.statement M
 value-spec {M} =
-    let answers = tie.spec {M = M}
-    (λ c κs. search items) (λ c. search items) (λ c κs. search items) (λ c. search items) (λ c. search items) (λ c. search items)
-    (λ c κs. search items) (λ c. search items) (λ c κs. search items) (λ c. search items) in
-    tie.close answers
+    let answers = tie.spec {M = M} (λ c κs. search items) (λ c. search items) (λ c κs. search items) (λ c. search items) (λ c. search items)
+    (λ c. search items) (λ c κs. search items) (λ c. search items) (λ c κs. search items) (λ c. search items) in tie.close answers

@@ -1,4 +1,4 @@
--- `decisive_loss` meets its contract: a walk of its MIR, by hand, with a loop that counts the blocks.
+-- `tested_loss` meets its contract: a walk of its MIR, by hand, with a loop that counts the blocks.
 use Rattle.by_hand.proofs.Walking.{_≡_, refl, sym, _∙_, ap, subst, Bool, List, [], _∷_, ℕ, _+_, _<_, _^_, arith, length, getD, lit<, calls-plain, calls-lent, counting, callsOf, loopsOf, framed, meets, URA, fullShare, named, w32, w64, tyInt, Ty, imm, tyBool, tyRef, loop, Val, vint, vbool, SProp, ent, via, fst∗, exE, emp, id⊢, ex, guard, exI, guardI, guardE, Lft, Share, Fml, ftrue, flft, fat, froom, fdies, Heap, WpFn, Out, Env, afterSeq, afterBlock, Wp, atReturn, Atoms, givenOf, GhostRules, Running, Model, Given, Item, ‵, _⊛_, ⋆, _$_, _∵_, !, qed, by, move, drop, rewrite, fsplit, fjoin, suffices, frame, done, anyQ, atRet, keep, whole, sub, look-in, look, init, forget, stop, fld, from, load, of-opd, and-then, no-more, assigns, land, returns, enter, alloc1, alloc0, params1, pass1, pass0, free1, free0, store, lit, bin, assigns-last, stays, leaves-loop, exec, RattleType, owns, Is, uint-makes, uint-vals, uint-tells, uint-lawful, u32, usize, RefT, now, sliceVal, ShrSlice, Room, slice-vals, shr-slice-tells, shr-slice-copy, sliceTy, plain, owned, nothing, onEntry, cited, says, Stays, stay-none-slice, walkOf, goes-none-slice, ends-at, walked, yes, pointee, afterTurn}
 use lib.ListN.{drop as behind}
 use borrow.Author.Tests.{lt-ltb, le-ltb}
@@ -6,7 +6,7 @@ use denote.Struct.Laws as LL
 use Rattle.report.specs.declared.«report_block».ReportBlock.{ReportBlock}
 use Rattle.report.proofs.report_block.ReportBlock as T
 use Rattle.report.proofs.report_block.ReportBlock.Laws as T′
-use Rattle.records.specs.Records.{noBlock, laterOf, decisiveOf}
+use Rattle.records.specs.Records.{noBlock, laterOf, testedOf}
 use Rattle.records.proofs.Reports.{loss-next, loss-done}
 use Rattle.records.proofs.block_unchecked as block
 use Rattle.records.proofs.block_unchecked.Symbol as block-def
@@ -14,11 +14,11 @@ use Rattle.records.proofs.block_unchecked.Met as block-thm
 use Rattle.records.proofs.later_loss as one
 use Rattle.records.proofs.later_loss.Symbol as one-def
 use Rattle.records.proofs.later_loss.Met as one-thm
-use Rattle.records.proofs.decisive_loss.Key.{name as #own}
-use Rattle.records.proofs.decisive_loss as loss
-use Rattle.records.proofs.decisive_loss.Statement as stated
-use Rattle.records.proofs.decisive_loss.Code as code
-use Rattle.records.proofs.decisive_loss.Code.Mir as mir
+use Rattle.records.proofs.tested_loss.Key.{name as #own}
+use Rattle.records.proofs.tested_loss as loss
+use Rattle.records.proofs.tested_loss.Statement as stated
+use Rattle.records.proofs.tested_loss.Code as code
+use Rattle.records.proofs.tested_loss.Code.Mir as mir
 
 abbrev B : RattleType
 B = T.the-row
@@ -72,7 +72,7 @@ module _ {M : Type 1} (𝓤 : URA M) (H : Heap 𝓤) (𝓜 : Model 𝓤 H) (𝓖
 
     -- what decides of the loss so far and the blocks from i on is what decides of all
     abbrev Known : ℕ → ℕ → Type 0
-    Known i d = (d < 2 ^ 32) × (decisiveOf d (behind i ys) ≡ decisiveOf 0 ys)
+    Known i d = (d < 2 ^ 32) × (testedOf d (behind i ys) ≡ testedOf 0 ys)
 
     abbrev At : ℕ → SProp 𝓤
     At i = ex 𝓤 (λ (d : ℕ). guard 𝓤 (Known i d) (⋆ 𝓤 H A (Locals d i)))
@@ -101,7 +101,7 @@ module _ {M : Type 1} (𝓤 : URA M) (H : Heap 𝓤) (𝓜 : Model 𝓤 H) (𝓖
         (and-then ! (load ! (from ! (stop !)) (look ! 3 refl)) (and-then ! (load ! (from ! (stop !)) (look ! 6 refl)) (no-more !))) (λ r. r ≡ laterOf d e) (λ r ws. id⊢ 𝓤 _) (uint-vals w32) (uint-tells w32) (λ r is-later r-is. land ! (from ! (stop !)) (store ! 2 refl (uint-lawful 𝓤 H A W w32 .typed r _ r-is .0)) $
         assigns-last ! (bin ! (load ! (from ! (stop !)) (look ! 3 refl)) (lit ! tt) (record { fits = omega (arith, within, room .0) })) (from ! (stop !)) (store ! 3 refl (tt, record { fits = omega (arith, within, room .0) })) $
         forget ! 4 refl $ forget ! 5 refl $ move ! (2 ∷ 3 ∷ 4 ∷ 5 ∷ 1 ∷ 0 ∷ []) $
-        by ! (via 𝓤 (At (i + 1)) (into (i + 1) r (r-is .1, subst (λ (y : ℕ). decisiveOf y (behind (i + 1) ys) ≡ decisiveOf 0 ys) (sym (is-later ∙ ap (laterOf d) is-elem)) (loss-next ys d (decisiveOf 0 ys) i (known .1) within))) then)))))
+        by ! (via 𝓤 (At (i + 1)) (into (i + 1) r (r-is .1, subst (λ (y : ℕ). testedOf y (behind (i + 1) ys) ≡ testedOf 0 ys) (sym (is-later ∙ ap (laterOf d) is-elem)) (loss-next ys d (testedOf 0 ys) i (known .1) within))) then)))))
       where
         fits : i < 2 ^ 64
         fits = omega (arith, within, room .0)
@@ -116,7 +116,7 @@ module _ {M : Type 1} (𝓤 : URA M) (H : Heap 𝓤) (𝓜 : Model 𝓤 H) (𝓖
         assigns ! (of-opd ! (load ! (from ! (stop !)) (look ! 0 refl))) (from ! (stop !)) (init ! 8 refl (tt, record { fits = known .0 })) $
         returns ! (look ! 8 refl) $ forget ! 0 refl $ forget ! 1 refl $ forget ! 2 refl $ forget ! 6 refl $ forget ! 7 refl $ forget ! 8 refl $
         move ! (8 ∷ 9 ∷ []) $ free1 ! $ move ! (6 ∷ 8 ∷ []) $ free1 ! $ move ! (6 ∷ 7 ∷ []) $ free1 ! $ move ! (0 ∷ 6 ∷ []) $ free1 ! $ move ! (0 ∷ 5 ∷ []) $ free1 ! $ move ! (1 ∷ 4 ∷ []) $ free1 ! $ move ! (0 ∷ 3 ∷ []) $ free1 ! $ free0 ! $
-        move ! (1 ∷ 0 ∷ []) $ suffices ! _ (ends-at 𝓤 H A loss.ended stayed (loss.clauses 𝓤 H A (𝓜 .mem) (𝓡 .run)) W (((κ, tt), (q, tt), tt, (x, tt), (s ∷ [], tt)), tt) (vint w32 d) d (tt, tt) (tt, tt)) $ says ! (loss-done ys d (decisiveOf 0 ys) n (known .1) (omega arith)) $
+        move ! (1 ∷ 0 ∷ []) $ suffices ! _ (ends-at 𝓤 H A loss.ended stayed (loss.clauses 𝓤 H A (𝓜 .mem) (𝓡 .run)) W (((κ, tt), (q, tt), tt, (x, tt), (s ∷ [], tt)), tt) (vint w32 d) d (tt, tt) (tt, tt)) $ says ! (loss-done ys d (testedOf 0 ys) n (known .1) (omega arith)) $
         frame ! $ nothing ! $ move ! (1 ∷ 0 ∷ []) $ fjoin ! $ frame ! $ owned ! u32 (Is u32) (uint-makes 𝓤 H A W w32) d _ (refl, known .0) $ done !))
 
     loops : ent 𝓤 (⋆ 𝓤 H A (Locals 0 0)) (Wp 𝓤 H (callsOf 𝓤 H 𝓜 𝓖 𝓡 code.env) (loopsOf 𝓤 H 𝓜 𝓖 𝓡 code.env) E (loop mir.turn-1) Left)
@@ -131,9 +131,9 @@ module _ {M : Type 1} (𝓤 : URA M) (H : Heap 𝓤) (𝓜 : Model 𝓤 H) (𝓖
       assigns ! (of-opd ! (lit ! tt)) (from ! (stop !)) (init ! 6 refl (tt, record { fits = lit< tt })) $ assigns ! (of-opd ! (lit ! tt)) (from ! (stop !)) (init ! 4 refl (tt, record { fits = lit< tt })) $
       move ! (15 ∷ []) $ fsplit ! $ keep ! (8 ∷ 6 ∷ 2 ∷ 4 ∷ 0 ∷ 16 ∷ 12 ∷ 10 ∷ 14 ∷ 15 ∷ 13 ∷ 11 ∷ 9 ∷ 7 ∷ 5 ∷ 3 ∷ []) $ by ! (loops l₀ l₁ l₂ l₃ l₄ l₅ l₆))))))))
 
-pub decisive-loss-spec : {M : Type 1} → stated.statement M
+pub tested-loss-spec : {M : Type 1} → stated.statement M
 unfolding code.routine
-decisive-loss-spec 𝓤 H 𝓜 𝓖 𝓡 =
+tested-loss-spec 𝓤 H 𝓜 𝓖 𝓡 =
     meets 𝓤 H 𝓜 𝓖 𝓡 code.env #own code.function (code.unfolded 𝓤 H 𝓜 𝓡) loss.ended stayed (loss.clauses 𝓤 H (𝓖 .A) (𝓜 .mem) (𝓡 .run)) (goes-none-slice 𝓤 H (𝓖 .A) (givenOf 𝓤 H 𝓜 𝓖) 1 (0 ∷ []) tt (plain (λ _. B)) yes, tt)
     (walked 𝓤 H (𝓖 .A) loss.ended stayed (loss.clauses 𝓤 H (𝓖 .A) (𝓜 .mem) (𝓡 .run)) (WpFn 𝓤 H (callsOf 𝓤 H 𝓜 𝓖 𝓡 code.env) (loopsOf 𝓤 H 𝓜 𝓖 𝓡 code.env) code.function) (λ κs. (slice-vals, tt)) (λ κs. (shr-slice-tells (named 0) (κs .0) B, tt))
     (λ κs qs bounds a g are. via 𝓤 _ (fst∗ 𝓤 _ (emp 𝓤)) (walk 𝓤 H 𝓜 𝓖 𝓡 (κs .0) (qs .0) (a .0) (are .0 .0 .1))))

@@ -27,8 +27,8 @@ pub record System : Type 1 where
   -- what a call may be lent where that is the datagram so far
   pub Lent : R → List ℕ → List ℕ → Type 0
   -- what is compared
-  pub seen : W → List ℕ → O
-  pub told : B → O
+  pub shown : W → List ℕ → O
+  pub expected : B → O
 
 -- a call that was made: the request, the buffer lent, the answer, the writer returned, the buffer left
 pub record Event (s : System) : Type 0 where
@@ -50,16 +50,16 @@ module _ (s : System) where
   abbrev pub answers : List (Event s) → List ℕ → List (Answer (Unit {0}) × s .O)
   answers [] d = []
   answers (e ∷ es) d =
-      (e .answer, s .seen (e .next) (s .kept (e .request) (e .answer) (e .next) (e .left) d))
+      (e .answer, s .shown (e .next) (s .kept (e .request) (e .answer) (e .next) (e .left) d))
       ∷ answers es (s .kept (e .request) (e .answer) (e .next) (e .left) d)
 
   -- what the book is fed of a call
-  abbrev pub fed : Event s → s .R × ℕ
-  fed e = (e .request, length (e .lent))
+  abbrev pub bookInput : Event s → s .R × ℕ
+  bookInput e = (e .request, length (e .lent))
 
   abbrev pub booked : List (s .R × ℕ) → s .B → List (Answer (Unit {0}) × s .O)
   booked [] b = []
-  booked (q ∷ qs) b = (s .turn (q .0) (q .1) b .0, s .told (s .turn (q .0) (q .1) b .1)) ∷ booked qs (s .turn (q .0) (q .1) b .1)
+  booked (q ∷ qs) b = (s .turn (q .0) (q .1) b .0, s .expected (s .turn (q .0) (q .1) b .1)) ∷ booked qs (s .turn (q .0) (q .1) b .1)
 
 -- ---- the compound writer
 
@@ -79,9 +79,9 @@ pub data Closing : Type 0 where
   still-open : Closing
   reads : Answer (List Packet) → Closing
 
-abbrev pub once : Bool → Answer (List Packet) → Closing
-once true a = reads a
-once false a = still-open
+abbrev pub onceClosed : Bool → Answer (List Packet) → Closing
+onceClosed true a = reads a
+onceClosed false a = still-open
 
 abbrev pub compounds : System
 compounds =
@@ -94,6 +94,6 @@ compounds =
       turn = turn;
       kept = keeps;
       Lent = Lends;
-      seen = λ w d. (d, once (w .closed) (readCompound d));
-      told = λ b. (layouts (b .packets), once (b .closed) (ok (b .packets)));
+      shown = λ w d. (d, onceClosed (w .closed) (readCompound d));
+      expected = λ b. (layouts (b .packets), onceClosed (b .closed) (ok (b .packets)));
     }

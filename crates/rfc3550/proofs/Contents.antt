@@ -1,21 +1,20 @@
 -- What stands between the header and the padding, over the kind, both ways.
-use Prim.Native.Nat.{ℕ, zero, suc, _+_, _-_, _*_, _^_, _<_, _≤_}
+use Prim.Native.Nat.{ℕ, _+_, _-_, _*_, _<_, _≤_}
 use mathlib.Core.Path.{_≡_, refl, sym, ap, _∙_, subst}
-use mathlib.Core.Bool.{Bool, true, false, not}
+use mathlib.Core.Bool.{true, false, not}
 use mathlib.Core.List.{List, [], _∷_, _++_}
 use native.Mathlib.Omega.{arith}
-use lib.ListN.{replicate, length-replicate, length, take, drop, length-append, length-drop, take-append-drop}
+use lib.ListN.{replicate, length-replicate, length, drop, length-append, length-drop, take-append-drop}
 use lib.Seq.{take-at, drop-at, length-take-le, drop-drop, take-append-seam, drop-append-seam}
-use lib.Dec.{leb}
 use borrow.Author.Tests.{le-leb, leb-true, eqb-true, ne-eqb, not-true}
-use Rattle.rfc3550.specs.Answer.{Answer, ok, _>>=_, _>>_, need}
-use Rattle.rfc3550.specs.Bytes.{Bytes, be, val, put, get, Fits, sum}
-use Rattle.rfc3550.specs.Packet.{Block, Chunk, Reporter, receiver, sender, Leaving, no-reason, reason, Content, report, sdes, bye, app, unknown, reporterWidths, reporterFields, leavingBytes, LeavingValid, receiverWidths, senderWidths, contentBytes, lowBits, type, ContentValid, known, All, BlockValid, blocksBytes, chunksBytes}
-use Rattle.rfc3550.specs.Read.{Kind, SR, RR, SDES, BYE, APP, UNKNOWN, least, kindFor, kindOf, ofKind, readContent, readBlocks, readReport, readLeaving, receiverOf, senderOf}
-use Rattle.rfc3550.proofs.Answer.{need-inv, bind-elim, ok-injective, refused≢ok, true≢false}
+use Rattle.rfc3550.specs.Answer.{ok, _>>=_, _>>_, need}
+use Rattle.rfc3550.specs.Bytes.{Bytes, be, put, get, Fits, sum}
+use Rattle.rfc3550.specs.Packet.{Block, Reporter, receiver, sender, Leaving, no-reason, reason, Content, report, sdes, bye, app, unknown, reporterWidths, reporterFields, leavingBytes, LeavingValid, receiverWidths, senderWidths, contentBytes, lowBits, type, ContentValid, known, All, BlockValid, blocksBytes, chunksBytes}
+use Rattle.rfc3550.specs.Read.{Kind, SR, RR, SDES, BYE, APP, UNKNOWN, least, kindFor, kindOf, ofKind, readContent, readBlocks, readReport, readLeaving, receiverFrom, senderFrom}
+use Rattle.rfc3550.proofs.Answers.{need-inv, bind-elim, ok-injective, true≢false}
 use Rattle.rfc3550.proofs.Bytes.{bytes-take, bytes-drop, length-be, val-be, get-put, put-get, fits-get, length-put, length-get, be-take, val-take-lt, sum-replicate}
 use Rattle.rfc3550.proofs.Blocks.{length-blocksBytes, blocks-complete, blocks-sound}
-use Rattle.rfc3550.proofs.Sdes.{chunks-complete, chunks-sound}
+use Rattle.rfc3550.proofs.Chunks.{chunks-complete, chunks-sound}
 
 pub of-kind : (c : Content) → ContentValid c → ofKind (kindFor c) (type c) (lowBits c) ≡ true
 of-kind (report (sender s n r p o) bs e) h = refl
@@ -81,8 +80,8 @@ bye-complete ss e f h =
 
 pub content-complete : (c : Content) → ContentValid c → readContent (kindFor c) (lowBits c) (type c) (contentBytes c) ≡ ok c
 unfolding readContent contentBytes need _>>_ _>>=_
-content-complete (report (sender s n r p o) bs e) h = report-complete senderWidths senderOf (s ∷ n ∷ r ∷ p ∷ o ∷ []) bs e (h .0) (h .1)
-content-complete (report (receiver s) bs e) h = report-complete receiverWidths receiverOf (s ∷ []) bs e (h .0) (h .1)
+content-complete (report (sender s n r p o) bs e) h = report-complete senderWidths senderFrom (s ∷ n ∷ r ∷ p ∷ o ∷ []) bs e (h .0) (h .1)
+content-complete (report (receiver s) bs e) h = report-complete receiverWidths receiverFrom (s ∷ []) bs e (h .0) (h .1)
 content-complete (sdes cs) h = rw (chunks-complete cs (4 + length (chunksBytes cs)) h)
 content-complete (bye ss e) h = bye-complete ss e (h .0) (h .1)
 content-complete (app n s name d) h =
@@ -115,21 +114,21 @@ pub record ContentGot (k : Kind) (n t : ℕ) (bs : List ℕ) (c : Content) : Typ
   pub of : kindFor c ≡ k
 
 -- what a reader of the fields before the blocks has to be: its fields are those that it was given
-record Maker (k : Kind) (ws : List ℕ) (reporter : List ℕ → Reporter) (t : ℕ) : Type 0 where
+record ReporterKind (k : Kind) (ws : List ℕ) (reporter : List ℕ → Reporter) (t : ℕ) : Type 0 where
   widths : (vs : List ℕ) → reporterWidths (reporter vs) ≡ ws
   fields : (bs : List ℕ) → reporterFields (reporter (get ws bs)) ≡ get ws bs
   kind : (vs : List ℕ) (bs : List Block) (e : List ℕ) → type (report (reporter vs) bs e) ≡ t
   of : (vs : List ℕ) (bs : List Block) (e : List ℕ) → kindFor (report (reporter vs) bs e) ≡ k
 
-sender-maker : Maker SR senderWidths senderOf 200
+sender-kind : ReporterKind SR senderWidths senderFrom 200
 unfolding get
-sender-maker = record { widths = λ vs. refl; fields = λ bs. refl; kind = λ vs bs e. refl; of = λ vs bs e. refl }
+sender-kind = record { widths = λ vs. refl; fields = λ bs. refl; kind = λ vs bs e. refl; of = λ vs bs e. refl }
 
-receiver-maker : Maker RR receiverWidths receiverOf 201
+receiver-kind : ReporterKind RR receiverWidths receiverFrom 201
 unfolding get
-receiver-maker = record { widths = λ vs. refl; fields = λ bs. refl; kind = λ vs bs e. refl; of = λ vs bs e. refl }
+receiver-kind = record { widths = λ vs. refl; fields = λ bs. refl; kind = λ vs bs e. refl; of = λ vs bs e. refl }
 
-report-sound : (k : Kind) (ws : List ℕ) (reporter : List ℕ → Reporter) (n t : ℕ) (bs : List ℕ) {c : Content} → Maker k ws reporter t → Bytes bs → readReport ws reporter n bs ≡ ok c → ContentGot k n t bs c
+report-sound : (k : Kind) (ws : List ℕ) (reporter : List ℕ → Reporter) (n t : ℕ) (bs : List ℕ) {c : Content} → ReporterKind k ws reporter t → Bytes bs → readReport ws reporter n bs ≡ ok c → ContentGot k n t bs c
 unfolding readReport contentBytes
 report-sound k ws reporter n t bs m h e =
     let a = need-inv _ _ _ _ _ e in
@@ -155,8 +154,8 @@ leaving-sound at total (l ∷ bs) h q =
 
 pub content-sound : (k : Kind) (n t : ℕ) (bs : List ℕ) {c : Content} → Bytes bs → t < 256 → ofKind k t n ≡ true → least k ≤ 4 + length bs → readContent k n t bs ≡ ok c → ContentGot k n t bs c
 unfolding readContent contentBytes
-content-sound SR n t bs {c} h small q l e = subst (λ (t : ℕ). ContentGot SR n t bs c) (sym (eqb-true t 200 q)) (report-sound SR senderWidths senderOf n 200 bs sender-maker h e)
-content-sound RR n t bs {c} h small q l e = subst (λ (t : ℕ). ContentGot RR n t bs c) (sym (eqb-true t 201 q)) (report-sound RR receiverWidths receiverOf n 201 bs receiver-maker h e)
+content-sound SR n t bs {c} h small q l e = subst (λ (t : ℕ). ContentGot SR n t bs c) (sym (eqb-true t 200 q)) (report-sound SR senderWidths senderFrom n 200 bs sender-kind h e)
+content-sound RR n t bs {c} h small q l e = subst (λ (t : ℕ). ContentGot RR n t bs c) (sym (eqb-true t 201 q)) (report-sound RR receiverWidths receiverFrom n 201 bs receiver-kind h e)
 content-sound SDES n t bs h small q l e =
     bind-elim _ _ e (λ cs r e₁.
     let g = chunks-sound n (4 + length bs) bs h r in

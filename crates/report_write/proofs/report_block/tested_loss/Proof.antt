@@ -1,17 +1,17 @@
 use Prim.Native.Nat.{_-_, _≤_}
 use mathlib.Core.Path.{_≡_}
 use lib.ListN.{length, drop}
-use Rattle.report_write.specs.Report.{decisiveLoss}
+use Rattle.report_write.specs.Report.{testedLoss}
 use Rattle.report_write.proofs.Blocks.{blocks}
-use Rattle.report_write.proofs.report_block.decisive_loss.Tie as tie
+use Rattle.report_write.proofs.report_block.tested_loss.Tie as tie
 
 abbrev Inv-loop : tie.InvT-loop
-Inv-loop losses n i₀ loss₀ i loss = (n ≡ length losses) × (i ≤ n) × (decisiveLoss loss (drop i losses) ≡ decisiveLoss 0 losses)
+Inv-loop losses n i₀ loss₀ i loss = (n ≡ length losses) × (i ≤ n) × (testedLoss loss (drop i losses) ≡ testedLoss 0 losses)
 
 abbrev μ-loop : tie.MeasureT-loop
 μ-loop losses n i₀ loss₀ i loss = n - i
 
-pub decisive-loss-spec : {M : Type 1} → Rattle.report_write.proofs.report_block.decisive_loss.Statement.statement M
-decisive-loss-spec {M} =
+pub tested-loss-spec : {M : Type 1} → Rattle.report_write.proofs.report_block.tested_loss.Statement.statement M
+tested-loss-spec {M} =
     let answers = tie.spec {M = M} Inv-loop μ-loop (λ c. search blocks) (λ c. search blocks) (λ c. search blocks) (λ c κs. search blocks)
     (λ c. search blocks) (λ c. search blocks) (λ c. search blocks) (λ c. search blocks) in tie.close answers

@@ -1,20 +1,20 @@
 -- The book's text and the writer's say the same of a packet's own order.
-use Prim.Native.Nat.{ℕ, zero, suc, _+_, _-_, _*_, _%_, _<_, _≤_}
-use mathlib.Core.Path.{_≡_, refl, sym, ap, _∙_}
+use Prim.Native.Nat.{ℕ, _+_, _-_, _*_, _%_, _≤_}
+use mathlib.Core.Path.{_≡_, refl, sym, _∙_}
 use mathlib.Core.Bool.{Bool, true, false, _&&_, _||_, not}
 use mathlib.Core.List.{List, [], _∷_, _++_}
 use native.Mathlib.Omega.{arith}
 use lib.ListN.{length}
 use lib.Dec.{leb, ltb, eqb}
-use borrow.Author.Tests.{le-leb, lt-leb, lt-ltb, le-ltb, ltb-true, ltb-false, eqb-true, eqb-false, eq-eqb, ne-eqb}
+use borrow.Author.Tests.{le-leb, lt-leb, ltb-true, ltb-false, eqb-true, eqb-false, eq-eqb, ne-eqb}
 use Rattle.rfc3550.specs.Answer.{Answer, ok, refuse, need, _>>_, pick}
 use Rattle.rfc3550.specs.Bytes.{sum}
 use Rattle.rfc3550.specs.Loss.{Loss, lossIn, lossOver, lossShown, lossMost}
 use Rattle.rfc3550.specs.Packet.{layout}
-use Rattle.rfc3550.specs.Write.{BlockLists, Lists, LentItem, lentItems, Given, giveReport, giveSdes, giveBye, giveApp, packetGiven, paddingOk, blocksAgree, lossTests, valueMost, itemTests, itemsTests, listsAgree, ascii, ownTests, tests}
+use Rattle.rfc3550.specs.Write.{BlockLists, Lists, LentItem, lentItems, Given, giveReport, giveSdes, giveBye, giveApp, packetGiven, paddingOk, blocksAgree, lossTests, itemTests, itemsTests, listsAgree, ascii, ownTests, tests}
 use Rattle.rfc3550.specs.Book.{Fault, fault, firstFault, badPadding, blocksDisagree, lossFaults, itemFaults, itemsFaults, disagree, notAscii, ownFaults}
-use Rattle.rfc3550.proofs.Answer.{not-not, leb-ltb}
-use Rattle.rfc3550.proofs.Loss.{lossIn-lossOver}
+use Rattle.rfc3550.proofs.Answers.{not-not, leb-ltb}
+use Rattle.rfc3550.proofs.Losses.{lossIn-lossOver}
 
 -- ---- tests
 

@@ -1,11 +1,11 @@
 -- The laws of cumulative lost by which everything else goes.
 use Prim.Native.Nat.{ℕ, _<_}
-use mathlib.Core.Path.{_≡_, refl}
-use mathlib.Core.Bool.{Bool, true, false, not}
+use mathlib.Core.Path.{_≡_}
+use mathlib.Core.Bool.{true, not}
 use native.Mathlib.Omega.{arith}
 use borrow.Author.Tests.{leb-true}
 use Rattle.rfc3550.specs.Loss.{Loss, lossBits, lossOf, LossFits, lossIn, lossOver}
-use Rattle.rfc3550.proofs.Answer.{leb-ltb}
+use Rattle.rfc3550.proofs.Answers.{leb-ltb}
 
 pub lossBits-lt : (l : Loss) → lossBits l < 16777216
 unfolding lossBits

@@ -1,23 +1,23 @@
 -- Writing: what passes the tests is a valid packet, over the kind, and a write lays down its layout and nothing else.
 use Prim.Native.Nat.{ℕ, zero, suc, _+_, _-_, _*_, _%_, _^_, _<_, _≤_}
 use mathlib.Core.Path.{_≡_, refl, sym, ap, _∙_, subst}
-use mathlib.Core.Bool.{Bool, true, false, _&&_, _||_, not}
+use mathlib.Core.Bool.{Bool, true, false, _||_, not}
 use mathlib.Core.List.{List, [], _∷_, _++_, append-nil, map}
 use native.Mathlib.Omega.{arith}
 use lib.ListN.{length, take, drop, getD, replicate, length-append, length-drop, length-map, length-replicate}
 use lib.Seq.{getD-at}
 use lib.Dec.{leb, eqb}
 use borrow.Author.Tests.{leb-true, eqb-true, eqb-false, eq-eqb, not-true}
-use Rattle.rfc3550.specs.Answer.{Refusal, Answer, ok, refused, _>>=_, _>>_, need, after, pick}
-use Rattle.rfc3550.specs.Bytes.{Bytes, be, put, Fits, sum, store}
+use Rattle.rfc3550.specs.Answer.{Refusal, Answer, ok, refused, _>>=_, _>>_, need, pick}
+use Rattle.rfc3550.specs.Bytes.{Bytes, put, Fits, sum}
 use Rattle.rfc3550.specs.Loss.{Loss, noLoss, LossFits}
-use Rattle.rfc3550.specs.Packet.{Block, Reporter, receiver, sender, Item, item, priv, Chunk, Leaving, no-reason, reason, Content, report, sdes, bye, app, Packet, All, receiverWidths, senderWidths, reporterWidths, reporterFields, itemBytes, itemsBytes, chunkBytes, chunksBytes, leavingBytes, contentBytes, lowBits, layout, BlockValid, ItemValid, ChunkValid, LeavingValid, ContentValid, PaddingValid, Valid}
-use Rattle.rfc3550.specs.Write.{BlockLists, lentBlocks, blocksLent, wordsOf, listsOf, Lists, LentItem, LentChunk, lentItems, lentChunks, chunksLent, Given, giveReport, giveSdes, giveBye, giveApp, Typed, paddingBytes, leavingOf, itemGiven, itemsGiven, chunkGiven, chunksGiven, nameGiven, contentGiven, paddingGiven, packetGiven, paddingOk, blocksAgree, lossTests, valueMost, itemTests, itemsTests, ascii, ownTests, sizeGiven, tests, calculateSize, itemSize, chunkSize, room, written, write, writeItem, writeChunk}
-use Rattle.rfc3550.proofs.Answer.{need-inv, need-ok, then-inv, bind-elim, ok-injective, refused≢ok, and-inv}
+use Rattle.rfc3550.specs.Packet.{Block, Reporter, receiver, sender, item, priv, Chunk, All, receiverWidths, senderWidths, reporterWidths, reporterFields, itemBytes, chunkBytes, chunksBytes, leavingBytes, contentBytes, lowBits, layout, BlockValid, ItemValid, ChunkValid, LeavingValid, ContentValid, PaddingValid, Valid}
+use Rattle.rfc3550.specs.Write.{BlockLists, lentBlocks, blocksLent, wordsOf, listsOf, LentItem, LentChunk, lentItems, lentChunks, Given, giveReport, giveSdes, giveBye, giveApp, Typed, paddingBytes, leavingOf, itemGiven, itemsGiven, chunkGiven, chunksGiven, nameGiven, contentGiven, paddingGiven, packetGiven, paddingOk, blocksAgree, lossTests, itemTests, itemsTests, ownTests, sizeGiven, tests, calculateSize, itemSize, chunkSize, room, written, write, writeItem, writeChunk}
+use Rattle.rfc3550.proofs.Answers.{need-inv, need-ok, then-inv, bind-elim, ok-injective, and-inv}
 use Rattle.rfc3550.proofs.Bytes.{bytes-take, bytes-drop, bytes-append, bytes-zeros, length-be, length-put, sum-replicate, store-front}
-use Rattle.rfc3550.proofs.Loss.{lossBits-lt, lossIn-fits}
+use Rattle.rfc3550.proofs.Losses.{lossBits-lt, lossIn-fits}
 use Rattle.rfc3550.proofs.Blocks.{length-blocksBytes}
-use Rattle.rfc3550.proofs.Packet.{length-layout}
+use Rattle.rfc3550.proofs.Packets.{length-layout}
 
 -- ---- padding
 

@@ -1,22 +1,22 @@
 -- Compounds: reading accepts exactly the layouts of the lists that meet the rules, and each has one list.
-use Prim.Native.Nat.{ℕ, zero, suc, _+_, _-_, _*_, _/_, _%_, _<_, _≤_}
+use Prim.Native.Nat.{ℕ, zero, suc, _+_, _-_, _/_, _%_, _<_, _≤_}
 use mathlib.Core.Path.{_≡_, refl, sym, ap, _∙_, subst}
 use mathlib.Core.Logic.{_↔_, _⊎_, inl, inr}
 use mathlib.Core.Bool.{Bool, true, false, not, _||_}
 use mathlib.Core.List.{List, [], _∷_, _++_, append-nil}
 use native.Mathlib.Omega.{arith}
 use lib.ListN.{length, take, drop, length-append, length-drop, take-append-drop}
-use lib.Seq.{take-at, drop-at, drop-length, drop-append-le, take-append-le, drop-append-seam, getD-take}
-use lib.Dec.{leb, eqb}
+use lib.Seq.{take-at, drop-at, drop-length, drop-append-le, take-append-le, drop-append-seam}
+use lib.Dec.{eqb}
 use borrow.Author.Tests.{le-leb, leb-true, eqb-true, eqb-false, eq-eqb, ne-eqb}
 use Rattle.rfc3550.specs.Answer.{Answer, ok, _>>=_, _>>_, need}
 use Rattle.rfc3550.specs.Bytes.{Bytes}
-use Rattle.rfc3550.specs.Packet.{Packet, lowBits, type, paddingBit, layout, layouts, Valid, All, isReport, hasCname, some, OnlyLastPadded, startsWithReport, Compound}
-use Rattle.rfc3550.specs.Read.{Kind, kindFor, kindOf, versionIn, padded, lowIn, typeIn, stated, readAs}
+use Rattle.rfc3550.specs.Packet.{Packet, lowBits, type, paddingBit, layout, layouts, Valid, All, isReport, OnlyLastPadded, Compound}
+use Rattle.rfc3550.specs.Read.{kindFor, kindOf, versionIn, padded, lowIn, typeIn, stated}
 use Rattle.rfc3550.specs.Compound.{readPacket, readPackets, readCompound}
-use Rattle.rfc3550.proofs.Answer.{need-inv, bind-elim, ok-injective, true≢false, or-inv, or-true}
+use Rattle.rfc3550.proofs.Answers.{need-inv, bind-elim, ok-injective, true≢false, or-inv, or-true}
 use Rattle.rfc3550.proofs.Bytes.{bytes-take, bytes-drop}
-use Rattle.rfc3550.proofs.Packet.{packet-complete, packet-sound, kind-is, type-is, low-is, version-is, stated-is, length-layout, layout-injective}
+use Rattle.rfc3550.proofs.Packets.{packet-complete, packet-sound, kind-is, version-is, stated-is, length-layout, layout-injective}
 
 -- ---- the header of a packet that bytes follow
 

@@ -1,20 +1,20 @@
 -- SDES: the readers of fill, items and chunks against their layouts, both ways.
-use Prim.Native.Nat.{ℕ, zero, suc, _+_, _-_, _%_, _^_, _<_, _≤_}
+use Prim.Native.Nat.{ℕ, zero, suc, _+_, _-_, _%_, _<_, _≤_}
 use mathlib.Core.Path.{_≡_, refl, sym, ap, _∙_, subst}
 use mathlib.Core.Logic.{_≢_}
 use mathlib.Core.Bool.{Bool, true, false}
 use mathlib.Core.List.{List, [], _∷_, _++_, append-assoc}
 use native.Mathlib.Omega.{arith}
 use native.Mathlib.Nat.{add-zero, add-assoc}
-use lib.ListN.{length, take, drop, replicate, length-append, length-drop, length-replicate, take-append-drop}
+use lib.ListN.{length, take, drop, replicate, length-append, length-drop, take-append-drop}
 use lib.Seq.{take-at, drop-at, length-take-le, take-append-seam, drop-append-seam}
-use lib.Dec.{leb, eqb}
+use lib.Dec.{eqb}
 use borrow.Author.Tests.{le-leb, leb-true, eqb-true, eqb-false, ne-eqb}
-use Rattle.rfc3550.specs.Answer.{Answer, ok, _>>=_, _>>_, need}
+use Rattle.rfc3550.specs.Answer.{ok, _>>=_, _>>_, need}
 use Rattle.rfc3550.specs.Bytes.{Bytes, be}
 use Rattle.rfc3550.specs.Packet.{Item, item, priv, Chunk, itemType, itemRest, itemBytes, itemsBytes, chunkBytes, chunksBytes, fill, All, ItemValid, ChunkValid}
 use Rattle.rfc3550.specs.Read.{readFill, itemOf, readItem, readItems, readChunk, readChunks}
-use Rattle.rfc3550.proofs.Answer.{need-inv, bind-elim, ok-injective, refused≢ok}
+use Rattle.rfc3550.proofs.Answers.{need-inv, bind-elim, ok-injective, refused≢ok}
 use Rattle.rfc3550.proofs.Bytes.{length-be, val-be, be-take, val-take-lt, bytes-take, bytes-drop, bytes-after}
 
 -- ---- fill

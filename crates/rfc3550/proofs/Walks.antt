@@ -1,24 +1,24 @@
 -- One law for every walk, and its instances: a datagram's packets, an SDES packet's chunks, a chunk's items.
 use Prim.Native.Nat.{ℕ, zero, suc, _+_, _-_, _/_, _%_, _<_, _≤_}
-use mathlib.Core.Path.{_≡_, refl, sym, ap, _∙_, subst}
+use mathlib.Core.Path.{_≡_, refl, sym, ap, _∙_}
 use mathlib.Core.Bool.{Bool, true, false, not, _||_}
 use mathlib.Core.List.{List, [], _∷_, _++_, append-assoc, append-nil}
 use native.Mathlib.Omega.{arith}
-use lib.ListN.{length, take, drop, getD, replicate, length-append, length-replicate}
-use lib.Seq.{drop-append-seam, getD-append-add, take-all}
-use lib.Dec.{ltb, eqb}
+use lib.ListN.{length, drop, getD, replicate, length-append}
+use lib.Seq.{drop-append-seam, take-all}
+use lib.Dec.{eqb}
 use borrow.Author.Tests.{lt-ltb, le-ltb, ne-eqb}
 use Rattle.rfc3550.specs.Answer.{Answer, ok, refuse, _>>=_, _>>_, need}
 use Rattle.rfc3550.specs.Bytes.{Bytes, be}
-use Rattle.rfc3550.specs.Packet.{Item, item, priv, itemType, itemBytes, fill, Chunk, chunkBytes, chunksBytes, Reporter, receiver, sender, Content, report, sdes, bye, app, unknown, Packet, type, paddingBit, contentBytes, layout, layouts, chunksOf, All, ItemValid, ChunkValid, ContentValid, Valid, isReport, OnlyLastPadded, startsWithReport}
-use Rattle.rfc3550.specs.Read.{SDES, kindFor, nth, readItem, readChunk, readAs, stated}
+use Rattle.rfc3550.specs.Packet.{Item, item, priv, itemType, itemBytes, fill, Chunk, chunkBytes, chunksBytes, receiver, sender, Content, report, sdes, bye, app, unknown, Packet, paddingBit, contentBytes, layout, layouts, chunksOf, All, ItemValid, ChunkValid, Valid, OnlyLastPadded, startsWithReport}
+use Rattle.rfc3550.specs.Read.{SDES, kindFor, nth, readChunk, readAs}
 use Rattle.rfc3550.specs.Compound.{readCompound}
-use Rattle.rfc3550.specs.Walk.{openWalk, step, SdesWalk, openSdes, sdesStep, openItems, itemStep, gave, moved, walked}
-use Rattle.rfc3550.proofs.Answer.{bind-elim, ok-injective, true≢false}
+use Rattle.rfc3550.specs.Walk.{openWalk, step, SdesWalk, openSdes, sdesStep, openItems, itemStep, gave, walked}
+use Rattle.rfc3550.proofs.Answers.{true≢false}
 use Rattle.rfc3550.proofs.Bytes.{length-be}
-use Rattle.rfc3550.proofs.Sdes.{closed, closed-nil, closed-cons, item-complete, chunk-complete, chunk-sound, chunk-length}
-use Rattle.rfc3550.proofs.Packet.{packet-sound, length-layout}
-use Rattle.rfc3550.proofs.Compound.{Last, one-complete, follow-stated, last-of, tail-of, compound-sound}
+use Rattle.rfc3550.proofs.Chunks.{closed, closed-nil, closed-cons, item-complete, chunk-complete, chunk-sound, chunk-length}
+use Rattle.rfc3550.proofs.Packets.{packet-sound, length-layout}
+use Rattle.rfc3550.proofs.Compounds.{one-complete, follow-stated, last-of, tail-of, compound-sound}
 
 module _ {A W : Type 0} (step : W → Answer (A × W)) (Left : W → List A → Type 0) where
   -- Left w xs: from the walk w on, the parts xs are left

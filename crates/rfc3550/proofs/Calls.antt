@@ -8,21 +8,20 @@ use mathlib.Core.List.{List, [], _∷_, _++_, append-assoc, append-nil, map}
 use native.Mathlib.Omega.{arith}
 use lib.ListN.{length, take, drop, length-append}
 use lib.Seq.{take-at}
-use lib.Dec.{leb, ltb, eqb}
+use lib.Dec.{leb, ltb}
 use borrow.Author.Tests.{lt-ltb, leb-true, ltb-false, not-true}
-use Rattle.rfc3550.specs.Answer.{Answer, ok, refused, need, _>>_, after, capped}
+use Rattle.rfc3550.specs.Answer.{Answer, ok, refused, need, _>>_, capped}
 use Rattle.rfc3550.specs.Bytes.{store}
-use Rattle.rfc3550.specs.Packet.{Reporter, receiver, sender, Packet, type, layout, layouts, Valid, All, isReport, hasCname, some, OnlyLastPadded, startsWithReport, Compound}
+use Rattle.rfc3550.specs.Packet.{receiver, sender, Packet, type, layout, layouts, Valid, All, isReport, hasCname, some, OnlyLastPadded, startsWithReport, Compound}
 use Rattle.rfc3550.specs.Compound.{readCompound}
-use Rattle.rfc3550.specs.Write.{Given, giveReport, giveSdes, giveBye, giveApp, Typed, packetGiven, contentGiven, paddingGiven, sizeGiven, tests}
-use Rattle.rfc3550.specs.Writer.{Writer, fresh, Request, add, close, addTests, closeTests, added, shut, call}
-use Rattle.rfc3550.specs.Book.{Fault, fault, firstFault, ownFaults, Book, empty, soFar, isEmpty, lastPadded, roomFaults, givesReport, faults, listed, turn}
-use Rattle.rfc3550.specs.Claim.{System, Event, Made, answers, fed, booked, Lends, keeps, Closing, once, compounds}
-use Rattle.rfc3550.proofs.Answer.{need-inv, need-ok, then-inv, then-assoc, refused≢ok, true≢false, or-false, or-assoc, not-not, leb-ltb}
-use Rattle.rfc3550.proofs.Packet.{length-layout}
-use Rattle.rfc3550.proofs.Compound.{compound-complete}
-use Rattle.rfc3550.proofs.Write.{length-paddingBytes, given-packet-valid}
-use Rattle.rfc3550.proofs.Book.{or-and, need-first, need-last, then-first, tests-first}
+use Rattle.rfc3550.specs.Write.{Given, giveReport, giveSdes, giveBye, giveApp, packetGiven, contentGiven, paddingGiven, sizeGiven, tests}
+use Rattle.rfc3550.specs.Writer.{Writer, fresh, Request, add, close, addTests, closeTests, afterAdd, call}
+use Rattle.rfc3550.specs.Book.{firstFault, Book, empty, soFar, isEmpty, lastPadded, roomFaults, givesReport, faults, listed, turn}
+use Rattle.rfc3550.specs.Calls.{System, Event, Made, answers, bookInput, booked, Lends, Closing, onceClosed, compounds}
+use Rattle.rfc3550.proofs.Answers.{need-inv, need-ok, then-inv, true≢false, or-false, or-assoc, not-not, leb-ltb}
+use Rattle.rfc3550.proofs.Compounds.{compound-complete}
+use Rattle.rfc3550.proofs.Writes.{length-paddingBytes, given-packet-valid}
+use Rattle.rfc3550.proofs.Books.{or-and, need-first, need-last, then-first, tests-first}
 
 -- ---- any system
 
@@ -35,7 +34,7 @@ module _ (s : System) where
 
   module _ (Agree : s .W → List ℕ → s .B → Type 0)
       (tied : (r : s .R) (w : s .W) (d : List ℕ) (b : s .B) (l : List ℕ) → Agree w d b → s .Lent r d l → Tied Agree r w d b l)
-      (same : (w : s .W) (d : List ℕ) (b : s .B) → Agree w d b → s .seen w d ≡ s .told b) where
+      (same : (w : s .W) (d : List ℕ) (b : s .B) → Agree w d b → s .shown w d ≡ s .expected b) where
     one : (e : Event s) (w : s .W) (d : List ℕ) (b : s .B) → Agree w d b → (e .answer, e .next, e .left) ≡ s .call (e .request) w (e .lent) → s .Lent (e .request) d (e .lent)
         → (e .answer ≡ s .turn (e .request) (length (e .lent)) b .0) × Agree (e .next) (s .kept (e .request) (e .answer) (e .next) (e .left) d) (s .turn (e .request) (length (e .lent)) b .1)
     one e w d b g m k =
@@ -43,15 +42,15 @@ module _ (s : System) where
         (x .0 ≡ s .turn (e .request) (length (e .lent)) b .0) × Agree (x .1) (s .kept (e .request) (x .0) (x .1) (x .2) d) (s .turn (e .request) (length (e .lent)) b .1))
         (sym m) (tied (e .request) w d b (e .lent) g k)
 
-    pub simulation : (es : List (Event s)) (w : s .W) (d : List ℕ) (b : s .B) → Agree w d b → Made s es w d → answers s es d ≡ booked s (map (fed s) es) b
+    pub simulation : (es : List (Event s)) (w : s .W) (d : List ℕ) (b : s .B) → Agree w d b → Made s es w d → answers s es d ≡ booked s (map (bookInput s) es) b
     simulation [] w d b g m = refl
     simulation (e ∷ es) w d b g m =
         let a = one e w d b g (m .0) (m .1) in
         let d' = s .kept (e .request) (e .answer) (e .next) (e .left) d in
         let b' = s .turn (e .request) (length (e .lent)) b .1 in
-        ap (λ (z : Answer (Unit {0})). (z, s .seen (e .next) d') ∷ answers s es d') (a .0)
+        ap (λ (z : Answer (Unit {0})). (z, s .shown (e .next) d') ∷ answers s es d') (a .0)
         ∙ ap (λ (z : s .O). (s .turn (e .request) (length (e .lent)) b .0, z) ∷ answers s es d') (same (e .next) d' b' (a .1))
-        ∙ ap (λ (z : List (Answer (Unit {0}) × s .O)). (s .turn (e .request) (length (e .lent)) b .0, s .told b') ∷ z) (simulation es (e .next) d' b' (a .1) (m .2))
+        ∙ ap (λ (z : List (Answer (Unit {0}) × s .O)). (s .turn (e .request) (length (e .lent)) b .0, s .expected b') ∷ z) (simulation es (e .next) d' b' (a .1) (m .2))
 
 -- ---- a book's list, as it grows
 
@@ -137,14 +136,14 @@ unfolding closeTests
 close-first w d b n a = simp (a .closed, a .cname) (need-first (not (b .closed)) (b .closed) 26 0 0 _ _ refl (need-last (some hasCname (b .packets)) (not (some hasCname (b .packets))) 28 0 0 (not-not _)))
 
 -- an add that passed: the writer was open, its list ended unpadded, a report is first, what is given is valid, and there was room
-record Passed (w : Writer) (g : Given) (n : ℕ) : Type 0 where
+record AddPassed (w : Writer) (g : Given) (n : ℕ) : Type 0 where
   open-still : w .closed ≡ false
   unpadded : w .padded ≡ false
   report : ltb 0 (w .len) || isReport (type (contentGiven g)) ≡ true
   tested : tests g ≡ ok tt
   fits : w .len + sizeGiven g ≤ n
 
-passed : (w : Writer) (g : Given) (n : ℕ) → addTests w g n ≡ ok tt → Passed w g n
+passed : (w : Writer) (g : Given) (n : ℕ) → addTests w g n ≡ ok tt → AddPassed w g n
 unfolding addTests
 passed w g n e =
     let a = need-inv _ _ _ _ _ e in
@@ -162,8 +161,8 @@ left-is d l bs m e (inr s) h =
     let q : take m l ≡ d = ap (λ (n : ℕ). take n l) e ∙ s in
     rw (q, ← append-assoc d bs (drop (m + length bs) l)) (take-at (d ++ bs) (drop (m + length bs) l) (m + length bs) (length-append d bs ∙ ap (λ (n : ℕ). n + length bs) (sym e)))
 
-agree-add : (w : Writer) (d : List ℕ) (b : Book) (g : Given) (l : List ℕ) → Agree w d b → Lends (add g) d l → Passed w g (length l)
-    → Agree (added w g) (take (w .len + sizeGiven g) (store (w .len) (layout (packetGiven g)) l)) (listed (add g) b)
+agree-add : (w : Writer) (d : List ℕ) (b : Book) (g : Given) (l : List ℕ) → Agree w d b → Lends (add g) d l → AddPassed w g (length l)
+    → Agree (afterAdd w g) (take (w .len + sizeGiven g) (store (w .len) (layout (packetGiven g)) l)) (listed (add g) b)
 agree-add w d b g l a k p =
     let q = left-is d l (layout (packetGiven g)) (w .len) (a .len) (k .1) (p .fits) in
     let z : ltb 0 (w .len) ≡ not (isEmpty (b .packets)) = ap (ltb 0) (a .len ∙ ap length (a .bytes)) ∙ isEmpty-is (b .packets) in
@@ -209,16 +208,16 @@ closed-compound w d b a e =
     go [] c h = absurd (true≢false (sym c))
     go (p ∷ ps) c h = h
 
-same : (w : Writer) (d : List ℕ) (b : Book) → Agree w d b → compounds .seen w d ≡ compounds .told b
+same : (w : Writer) (d : List ℕ) (b : Book) → Agree w d b → compounds .shown w d ≡ compounds .expected b
 same w d b a = rw (a .closed, a .bytes) (go (b .closed) refl)
   where
-    go : (t : Bool) → b .closed ≡ t → _≡_ {A = List ℕ × Closing} (layouts (b .packets), once t (readCompound (layouts (b .packets)))) (layouts (b .packets), once t (ok (b .packets)))
+    go : (t : Bool) → b .closed ≡ t → _≡_ {A = List ℕ × Closing} (layouts (b .packets), onceClosed t (readCompound (layouts (b .packets)))) (layouts (b .packets), onceClosed t (ok (b .packets)))
     go true e = rw (compound-complete (b .packets) (closed-compound w d b a e))
     go false e = refl
 
 -- for every list of calls from a fresh writer, refused ones included: each answer is the book's, after it the datagram so far is the book's
 -- packets laid end to end, and once closed reading it gives exactly these
-pub demand3 : (es : List (Event compounds)) → Made compounds es fresh [] → answers compounds es [] ≡ booked compounds (map (fed compounds) es) empty
+pub demand3 : (es : List (Event compounds)) → Made compounds es fresh [] → answers compounds es [] ≡ booked compounds (map (bookInput compounds) es) empty
 unfolding layouts
 demand3 es m =
     simulation compounds Agree tied same es fresh [] empty

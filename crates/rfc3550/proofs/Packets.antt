@@ -1,21 +1,21 @@
 -- One packet: reading its layout gives it back, and what is read is valid and has the bytes as its layout. Over the kind.
-use Prim.Native.Nat.{ℕ, _+_, _-_, _*_, _/_, _%_, _<_, _≤_}
+use Prim.Native.Nat.{ℕ, _+_, _-_, _/_, _%_, _<_, _≤_}
 use mathlib.Core.Path.{_≡_, refl, sym, ap, _∙_, subst}
 use mathlib.Core.Logic.{_↔_}
 use mathlib.Core.Bool.{Bool, true, false, not, _&&_, _||_}
 use mathlib.Core.List.{List, [], _∷_, _++_, append-assoc}
 use native.Mathlib.Omega.{arith}
 use lib.ListN.{length, take, drop, getD, length-append, length-drop, take-append-drop}
-use lib.Seq.{take-at, drop-at, length-take-le, drop-drop, getD-append-add, getD-drop, drop-append-le}
+use lib.Seq.{take-at, drop-at, length-take-le, getD-append-add, getD-drop, drop-append-le}
 use lib.Dec.{leb, ltb, eqb}
 use borrow.Author.Tests.{le-leb, leb-true, lt-ltb, ltb-true, eqb-true, eqb-false, eq-eqb, ne-eqb}
 use Rattle.rfc3550.specs.Answer.{Answer, ok, _>>=_, _>>_, need, pick}
 use Rattle.rfc3550.specs.Bytes.{Bytes, be, val}
-use Rattle.rfc3550.specs.Packet.{Reporter, receiver, sender, Content, report, sdes, bye, app, unknown, Packet, contentBytes, lowBits, type, paddingBit, layout, ContentValid, PaddingValid, Valid, known}
+use Rattle.rfc3550.specs.Packet.{Content, Packet, contentBytes, lowBits, type, paddingBit, layout, PaddingValid, Valid}
 use Rattle.rfc3550.specs.Read.{Kind, SR, RR, SDES, BYE, APP, UNKNOWN, least, kindFor, ofKind, kindOf, versionIn, padded, lowIn, typeIn, stated, paddingCount, paddingFits, checkHeader, readContent, readAs}
-use Rattle.rfc3550.proofs.Answer.{need-inv, bind-elim, ok-injective, true≢false, and-inv}
+use Rattle.rfc3550.proofs.Answers.{need-inv, bind-elim, ok-injective, and-inv}
 use Rattle.rfc3550.proofs.Bytes.{length-be, val-be, be-take, val-take-lt, bytes-take, bytes-drop, bytes-getD}
-use Rattle.rfc3550.proofs.Content.{of-kind, kindOf-is, least-content, content-complete, ContentGot, content-sound, content-kind}
+use Rattle.rfc3550.proofs.Contents.{of-kind, kindOf-is, least-content, content-complete, ContentGot, content-sound, content-kind}
 
 -- ---- the first byte, and the last
 
