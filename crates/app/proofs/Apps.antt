@@ -1,11 +1,5 @@
 -- Reading an APP packet, from what a reader has tested, and its parts by place.
-use borrow.Author.Needs.{needs}
-use mathlib.Core.Path.{_≡_, refl, ap, _∙_, sym}
-use mathlib.Core.List.{List}
-use Prim.Native.Nat.{ℕ, _+_, _-_, _<_, _≤_}
-use native.Mathlib.Omega.{arith}
-use lib.ListN.{length, take, drop, length-drop}
-use lib.Seq.{drop-drop, length-take-le}
+use Rattle.rfc3550.proofs.Prelude.{needs, _≡_, refl, ap, _∙_, sym, List, ℕ, _+_, _-_, _<_, _≤_, arith, length, take, drop, length-drop, drop-drop, length-take-le}
 use Rattle.rfc3550.specs.Answer.{Refusal, ok, refused, mapOk}
 use Rattle.rfc3550.specs.Bytes.{val}
 use Rattle.rfc3550.specs.Packet.{Content, app, Packet}

@@ -1,14 +1,5 @@
 -- The cases of an APP's size and bytes, each from what the code has tested or called.
-use Prim.Native.Nat.{ℕ, _+_, _-_, _%_, _<_, _≤_}
-use mathlib.Core.Path.{_≡_, refl, sym, ap, _∙_}
-use mathlib.Core.Bool.{Bool, true, false}
-use mathlib.Core.List.{List, [], _++_}
-use native.Mathlib.Numerals.{add-one}
-use native.Mathlib.Omega.{arith}
-use borrow.Author.Tests.{le-leb, lt-leb, leb-true, eq-eqb, ne-eqb, not-true, not-false}
-use lib.ListN.{length, take, drop, getD, replicate, length-append, length-replicate, drop-of-length-le}
-use lib.Seq.{drop-cons}
-use lib.Dec.{leb}
+use Rattle.rfc3550.proofs.Prelude.{ℕ, _+_, _-_, _%_, _<_, _≤_, _≡_, refl, sym, ap, _∙_, Bool, true, false, List, [], _++_, add-one, arith, le-leb, lt-leb, leb-true, eq-eqb, ne-eqb, not-true, not-false, length, take, drop, getD, replicate, length-append, length-replicate, drop-of-length-le, drop-cons, leb}
 use Rattle.rfc3550.specs.Answer.{Refusal, refusal, ok, refused, need, _>>_}
 use Rattle.rfc3550.specs.Bytes.{be, store}
 use Rattle.rfc3550.specs.Packet.{app, contentBytes, layout}

@@ -1,16 +1,5 @@
 -- Reading a BYE packet, from what a reader has tested, its sources, and its parts by place.
-use borrow.Author.Needs.{needs}
-use mathlib.Core.Path.{_≡_, refl, ap, _∙_, sym, subst}
-use mathlib.Core.Bool.{true, false}
-use mathlib.Core.List.{List, [], _∷_}
-use mathlib.Core.Logic.{⊎-elim}
-use Prim.Native.Nat.{ℕ, _+_, _-_, _*_, _<_, _≤_, _^_}
-use native.Mathlib.Nat.{mod-lt, add-zero}
-use native.Mathlib.Numerals.{add-one}
-use native.Mathlib.Omega.{arith}
-use borrow.Author.Tests.{le-leb, lt-leb}
-use lib.ListN.{length, getD, take, drop, replicate, length-drop, length-replicate}
-use lib.Seq.{drop-drop, length-take-le, take-all, slice-empty, slice-cons}
+use Rattle.rfc3550.proofs.Prelude.{needs, _≡_, refl, ap, _∙_, sym, subst, true, false, List, [], _∷_, ⊎-elim, ℕ, _+_, _-_, _*_, _<_, _≤_, _^_, mod-lt, add-zero, add-one, arith, le-leb, lt-leb, length, getD, take, drop, replicate, length-drop, length-replicate, drop-drop, length-take-le, take-all, slice-empty, slice-cons}
 use Rattle.rfc3550.specs.Answer.{Refusal, refusal, Answer, ok, refused, refuse, need, _>>_, _>>=_, mapOk}
 use Rattle.rfc3550.specs.Bytes.{val, get}
 use Rattle.rfc3550.specs.Packet.{Leaving, no-reason, reason, bye, Content, Packet}

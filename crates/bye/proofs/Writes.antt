@@ -1,14 +1,5 @@
 -- The cases of a BYE's size and bytes, each from what the code has tested or called.
-use Prim.Native.Nat.{ℕ, suc, _+_, _-_, _*_, _/_, _%_, _<_, _≤_}
-use mathlib.Core.Path.{_≡_, refl, sym, ap, _∙_}
-use mathlib.Core.Bool.{Bool, true, false}
-use mathlib.Core.List.{List, [], _∷_, _++_}
-use native.Mathlib.Nat.{add-zero}
-use native.Mathlib.Numerals.{add-one}
-use native.Mathlib.Omega.{arith}
-use borrow.Author.Tests.{le-leb, lt-leb, leb-true, not-true, not-false}
-use lib.ListN.{length, take, drop, set, getD, replicate, length-append, length-drop, length-replicate, drop-of-length-le}
-use lib.Seq.{drop-cons}
+use Rattle.rfc3550.proofs.Prelude.{ℕ, suc, _+_, _-_, _*_, _/_, _%_, _<_, _≤_, _≡_, refl, sym, ap, _∙_, Bool, true, false, List, [], _∷_, _++_, add-zero, add-one, arith, le-leb, lt-leb, leb-true, not-true, not-false, length, take, drop, set, getD, replicate, length-append, length-drop, length-replicate, drop-of-length-le, drop-cons}
 use Rattle.rfc3550.specs.Answer.{Refusal, refusal, ok, refused, need, _>>_}
 use Rattle.rfc3550.specs.Bytes.{be, put, store}
 use Rattle.rfc3550.specs.Packet.{bye, contentBytes, layout, leavingBytes}

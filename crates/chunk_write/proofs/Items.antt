@@ -1,13 +1,5 @@
 -- The cases of an item's size and bytes, each from what the code has tested or called.
-use Prim.Native.Nat.{ℕ, suc, _+_, _-_, _<_, _≤_}
-use mathlib.Core.Path.{_≡_, refl, sym, ap, _∙_}
-use mathlib.Core.Bool.{Bool, true, false, _||_, _&&_, not}
-use mathlib.Core.List.{List, [], _∷_, _++_}
-use native.Mathlib.Omega.{arith}
-use borrow.Author.Tests.{le-leb, lt-leb, leb-true, eq-eqb, ne-eqb, eqb-true, eqb-false, not-true, not-false}
-use lib.ListN.{length, take, drop, set, length-append, take-append-drop}
-use lib.Seq.{length-take-le}
-use lib.Dec.{leb, eqb}
+use Rattle.rfc3550.proofs.Prelude.{ℕ, suc, _+_, _-_, _<_, _≤_, _≡_, refl, sym, ap, _∙_, Bool, true, false, _||_, _&&_, not, List, [], _∷_, _++_, arith, le-leb, lt-leb, leb-true, eq-eqb, ne-eqb, eqb-true, eqb-false, not-true, not-false, length, take, drop, set, length-append, take-append-drop, length-take-le, leb, eqb}
 use Rattle.rfc3550.specs.Answer.{Refusal, Answer, ok, refused, refusal, need, _>>_, _>>=_, pick}
 use Rattle.rfc3550.specs.Bytes.{store}
 use Rattle.rfc3550.specs.Packet.{item, priv, itemBytes}

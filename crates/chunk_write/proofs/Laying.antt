@@ -1,15 +1,5 @@
 -- The cases of items and chunks laid one after the other, and of a lone chunk, each from what the code has tested or called.
-use Prim.Native.Nat.{ℕ, zero, suc, _+_, _-_, _*_, _%_, _<_, _≤_, _^_}
-use mathlib.Core.Path.{_≡_, refl, sym, ap, _∙_}
-use mathlib.Core.Bool.{Bool, true, false}
-use mathlib.Core.List.{List, [], _∷_, _++_, append-nil}
-use native.Mathlib.Nat.{add-zero, add-assoc, zero-add, add-sub-cancel-left}
-use native.Mathlib.Numerals.{add-one}
-use native.Mathlib.Omega.{arith}
-use borrow.Author.Tests.{eq-eqb, ne-eqb, eqb-true, eqb-false}
-use lib.ListN.{length, take, drop, getD, replicate, length-append, length-take, length-drop, length-replicate, drop-of-length-le}
-use lib.Seq.{drop-cons, drop-drop, getD-drop, getD-take, take-all, take-take, length-take-le}
-use lib.Dec.{leb, eqb}
+use Rattle.rfc3550.proofs.Prelude.{ℕ, zero, suc, _+_, _-_, _*_, _%_, _<_, _≤_, _^_, _≡_, refl, sym, ap, _∙_, Bool, true, false, List, [], _∷_, _++_, append-nil, add-zero, add-assoc, zero-add, add-sub-cancel-left, add-one, arith, eq-eqb, ne-eqb, eqb-true, eqb-false, length, take, drop, getD, replicate, length-append, length-take, length-drop, length-replicate, drop-of-length-le, drop-cons, drop-drop, getD-drop, getD-take, take-all, take-take, length-take-le, leb, eqb}
 use Rattle.rfc3550.specs.Answer.{Refusal, Answer, ok, refused, refusal, need, _>>_, _>>=_, pick}
 use Rattle.rfc3550.specs.Bytes.{be, sum, store}
 use Rattle.rfc3550.specs.Packet.{item, priv, itemBytes, itemsBytes, chunkBytes, chunksBytes}

@@ -1,15 +1,5 @@
 -- The cases of the lists' sums, of the sizes of items and chunks in numbers, and of why there is none; and that the numbers are the definition's.
-use Prim.Native.Nat.{ℕ, zero, suc, _+_, _-_, _*_, _%_, _<_, _≤_, _^_}
-use mathlib.Core.Path.{_≡_, refl, sym, ap, _∙_}
-use mathlib.Core.Bool.{Bool, true, false, _&&_}
-use mathlib.Core.List.{List, [], _∷_, _++_}
-use native.Mathlib.Nat.{sub-zero, add-zero, add-sub-cancel-left}
-use native.Mathlib.Numerals.{add-one}
-use native.Mathlib.Omega.{arith}
-use borrow.Author.Tests.{le-leb, lt-leb, leb-true, leb-false, eq-eqb, ne-eqb, eqb-true, eqb-false, lt-ltb, le-ltb, ltb-true, ltb-false, not-true, not-false}
-use lib.ListN.{length, take, drop, getD, length-append, length-take, length-drop, length-replicate, drop-of-length-le, take-append-drop}
-use lib.Seq.{drop-cons, drop-drop, getD-drop, length-take-le}
-use lib.Dec.{leb, ltb, eqb}
+use Rattle.rfc3550.proofs.Prelude.{ℕ, zero, suc, _+_, _-_, _*_, _%_, _<_, _≤_, _^_, _≡_, refl, sym, ap, _∙_, Bool, true, false, _&&_, List, [], _∷_, _++_, sub-zero, add-zero, add-sub-cancel-left, add-one, arith, le-leb, lt-leb, leb-true, leb-false, eq-eqb, ne-eqb, eqb-true, eqb-false, lt-ltb, le-ltb, ltb-true, ltb-false, not-true, not-false, length, take, drop, getD, length-append, length-take, length-drop, length-replicate, drop-of-length-le, take-append-drop, drop-cons, drop-drop, getD-drop, length-take-le, leb, ltb, eqb}
 use Rattle.rfc3550.specs.Answer.{Refusal, Answer, ok, refused, refusal, _>>_, _>>=_, mapOk, pick}
 use Rattle.rfc3550.specs.Bytes.{sum}
 use Rattle.rfc3550.specs.Packet.{itemBytes, itemsBytes, chunkBytes, chunksBytes}

@@ -1,15 +1,5 @@
 -- A datagram: the steps of a packet's frame, the packet behind it, and the loop over the packets.
-use borrow.Author.Needs.{needs}
-use mathlib.Core.Path.{_≡_, refl, sym, ap, _∙_, subst}
-use mathlib.Core.Bool.{Bool, true, false, _||_, not}
-use mathlib.Core.List.{List, [], _∷_}
-use Prim.Native.Nat.{ℕ, zero, suc, _+_, _-_, _<_, _≤_, _^_}
-use native.Mathlib.Nat.{zero-add, add-zero}
-use native.Mathlib.Omega.{arith}
-use borrow.Author.Tests.{lt-leb, le-leb, lt-ltb, le-ltb, eq-eqb, ne-eqb, eqb-true, leb-true, ltb-true, not-true, not-false}
-use lib.ListN.{length, take, drop, getD, length-drop, drop-of-length-le}
-use lib.Seq.{length-take-le, take-all, drop-drop, getD-take, drop-cons}
-use lib.Dec.{eqb, ltb}
+use Rattle.rfc3550.proofs.Prelude.{needs, _≡_, refl, sym, ap, _∙_, subst, Bool, true, false, _||_, not, List, [], _∷_, ℕ, zero, suc, _+_, _-_, _<_, _≤_, _^_, zero-add, add-zero, arith, lt-leb, le-leb, lt-ltb, le-ltb, eq-eqb, ne-eqb, eqb-true, leb-true, ltb-true, not-true, not-false, length, take, drop, getD, length-drop, drop-of-length-le, length-take-le, take-all, drop-drop, getD-take, drop-cons, eqb, ltb}
 use Rattle.rfc3550.specs.Answer.{Refusal, refusal, Answer, ok, refused, refuse, need, _>>_, _>>=_, mapOk, pick}
 use Rattle.rfc3550.specs.Packet.{Packet as Read, hasCname, some}
 use Rattle.rfc3550.specs.Read.{kindOf, versionIn, padded, typeIn, lowIn, stated, readAs}

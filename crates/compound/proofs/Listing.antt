@@ -1,11 +1,5 @@
 -- The packets of an accepted datagram as rows of three numbers, laid into a list.
-use borrow.Author.Needs.{needs}
-use mathlib.Core.Path.{_≡_, refl, sym, ap, _∙_, subst}
-use mathlib.Core.List.{List, [], _∷_, _++_}
-use Prim.Native.Nat.{ℕ, suc, _+_, _-_, _*_, _<_, _≤_, _^_}
-use native.Mathlib.Omega.{arith}
-use lib.ListN.{length, take, drop, set, getD, length-append, length-drop}
-use lib.Seq.{drop-drop, drop-append-seam}
+use Rattle.rfc3550.proofs.Prelude.{needs, _≡_, refl, sym, ap, _∙_, subst, List, [], _∷_, _++_, ℕ, suc, _+_, _-_, _*_, _<_, _≤_, _^_, arith, length, take, drop, set, getD, length-append, length-drop, drop-drop, drop-append-seam}
 use Rattle.rfc3550.specs.Answer.{Refusal, refusal, ok, refused, mapOk}
 use Rattle.rfc3550.specs.Bytes.{store}
 use Rattle.rfc3550.specs.Packet.{Packet as Read, type, layout, layouts, Valid, All}

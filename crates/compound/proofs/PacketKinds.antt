@@ -1,13 +1,5 @@
 -- The kind of a packet by its type, and the kinds that have no layout.
-use borrow.Author.Needs.{needs}
-use mathlib.Core.Path.{_≡_, refl, sym, ap, _∙_}
-use mathlib.Core.Bool.{Bool, true, false, not}
-use mathlib.Core.List.{List}
-use mathlib.Core.Logic.{⊎-elim}
-use Prim.Native.Nat.{ℕ, _<_}
-use native.Mathlib.Omega.{arith}
-use borrow.Author.Tests.{eq-eqb, ne-eqb, eqb-true, le-leb, lt-leb}
-use lib.Dec.{eqb}
+use Rattle.rfc3550.proofs.Prelude.{needs, _≡_, refl, sym, ap, _∙_, Bool, true, false, not, List, ⊎-elim, ℕ, _<_, arith, eq-eqb, ne-eqb, eqb-true, le-leb, lt-leb, eqb}
 use Rattle.rfc3550.specs.Answer.{pick}
 use Rattle.rfc3550.specs.Packet.{known}
 use Rattle.rfc3550.specs.Read.{Kind as ReadKind, SR, RR, SDES, BYE, APP, UNKNOWN, kindOf, typeIn, lowIn}

@@ -1,12 +1,5 @@
 -- A packet of any kind, from the answer of its kind's reader.
-use borrow.Author.Needs.{needs}
-use mathlib.Core.Path.{_≡_, refl, sym, ap, _∙_}
-use native.Mathlib.Omega.{arith}
-use lib.Dec.{eqb}
-use mathlib.Core.Bool.{Bool, true, false}
-use mathlib.Core.List.{List}
-use Prim.Native.Nat.{ℕ, _<_}
-use borrow.Author.Tests.{ne-eqb}
+use Rattle.rfc3550.proofs.Prelude.{needs, _≡_, refl, sym, ap, _∙_, arith, eqb, Bool, true, false, List, ℕ, _<_, ne-eqb}
 use Rattle.rfc3550.specs.Answer.{Refusal, Answer, ok, refused, mapOk, pick}
 use Rattle.rfc3550.specs.Packet.{Content, report, sdes, bye, app, unknown, receiver, sender, Packet as Read, hasCname}
 use Rattle.rfc3550.specs.Read.{Kind, SR, RR, SDES, BYE, APP, UNKNOWN, kindFor, kindOf, typeIn, lowIn, readAs}

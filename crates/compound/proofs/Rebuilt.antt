@@ -1,10 +1,5 @@
 -- What a step hands over, with what the accessors give, is the whole packet.
-use mathlib.Core.Path.{_≡_, refl, sym, ap, _∙_, subst}
-use mathlib.Core.List.{List, [], _∷_}
-use Prim.Native.Nat.{ℕ, zero, suc, _+_, _-_, _≤_}
-use native.Mathlib.Omega.{arith}
-use lib.ListN.{length, take, drop, length-append}
-use lib.Dec.{eqb}
+use Rattle.rfc3550.proofs.Prelude.{_≡_, refl, sym, ap, _∙_, subst, List, [], _∷_, ℕ, zero, suc, _+_, _-_, _≤_, arith, length, take, drop, length-append, eqb}
 use Rattle.rfc3550.specs.Answer.{Answer, ok, refused, _>>_, _>>=_, mapOk}
 use Rattle.rfc3550.specs.Bytes.{Bytes}
 use Rattle.rfc3550.specs.Packet.{Block, Item, itemsBytes, Chunk, chunkBytes, no-reason, reason, Content, report, receiver, sender, sdes, bye, app, unknown, Packet as Read}

@@ -1,8 +1,5 @@
 -- The answers of a walk over a datagram, from a walk just opened: answer i gives packet i with every field, and 25 once all are given.
-use Prim.Native.Nat.{ℕ}
-use mathlib.Core.Path.{_≡_, refl, sym, ap, _∙_}
-use mathlib.Core.List.{List}
-use lib.ListN.{length}
+use Rattle.rfc3550.proofs.Prelude.{ℕ, _≡_, refl, sym, ap, _∙_, List, length}
 use Rattle.rfc3550.specs.Answer.{ok, mapOk}
 use Rattle.rfc3550.specs.Bytes.{Bytes}
 use Rattle.rfc3550.specs.Packet.{Packet as Read}

@@ -1,8 +1,5 @@
 -- The rows of `Compound::packets`: row i is packet i's type, and the bytes at its offset and length are its layout.
-use Prim.Native.Nat.{ℕ, _+_}
-use mathlib.Core.Path.{_≡_, refl, sym, ap, _∙_}
-use mathlib.Core.List.{List, [], _∷_, _++_, append-assoc, map}
-use lib.ListN.{length, take, length-append}
+use Rattle.rfc3550.proofs.Prelude.{ℕ, _+_, _≡_, refl, sym, ap, _∙_, List, [], _∷_, _++_, append-assoc, map, length, take, length-append}
 use Rattle.rfc3550.specs.Answer.{ok, mapOk}
 use Rattle.rfc3550.specs.Bytes.{Bytes}
 use Rattle.rfc3550.specs.Packet.{Packet as Read, type, layout, layouts}

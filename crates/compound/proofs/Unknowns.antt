@@ -1,12 +1,5 @@
 -- Reading an unknown packet, from what a reader has tested, and what the parts of an accepted one are.
-use borrow.Author.Needs.{needs}
-use mathlib.Core.Path.{_≡_, refl, ap, _∙_, sym}
-use mathlib.Core.Bool.{Bool}
-use mathlib.Core.List.{List}
-use Prim.Native.Nat.{ℕ, _+_, _-_, _≤_}
-use native.Mathlib.Omega.{arith}
-use lib.ListN.{length, take, drop, length-drop}
-use lib.Seq.{length-take-le}
+use Rattle.rfc3550.proofs.Prelude.{needs, _≡_, refl, ap, _∙_, sym, Bool, List, ℕ, _+_, _-_, _≤_, arith, length, take, drop, length-drop, length-take-le}
 use Rattle.rfc3550.specs.Answer.{Refusal, Answer, ok, refused, _>>=_, mapOk}
 use Rattle.rfc3550.specs.Packet.{Content, unknown, Packet}
 use Rattle.rfc3550.specs.Read.{UNKNOWN, ofKind, lowIn, typeIn, checkHeader, checkPacket, readContent, readAs}

@@ -1,16 +1,5 @@
 -- Some chunk of the lists lent has a CNAME exactly if some item lent is one.
-use Prim.Native.Nat.{ℕ, zero, suc, _+_, _<_, _≤_}
-use mathlib.Core.Path.{_≡_, refl, sym, ap, _∙_}
-use mathlib.Core.Bool.{Bool, true, false, _&&_, _||_}
-use mathlib.Core.List.{List, [], _∷_}
-use native.Mathlib.Nat.{add-zero}
-use native.Mathlib.Numerals.{add-one}
-use native.Mathlib.Omega.{arith}
-use borrow.Author.Needs.{needs}
-use borrow.Author.Tests.{eqb-true}
-use lib.ListN.{length, take, drop, getD, length-drop, drop-of-length-le}
-use lib.Seq.{drop-cons, drop-drop, getD-drop, length-take-le}
-use lib.Dec.{eqb}
+use Rattle.rfc3550.proofs.Prelude.{ℕ, zero, suc, _+_, _<_, _≤_, _≡_, refl, sym, ap, _∙_, Bool, true, false, _&&_, _||_, List, [], _∷_, add-zero, add-one, arith, needs, eqb-true, length, take, drop, getD, length-drop, drop-of-length-le, drop-cons, drop-drop, getD-drop, length-take-le, eqb}
 use Rattle.rfc3550.specs.Answer.{pick}
 use Rattle.rfc3550.specs.Bytes.{sum}
 use Rattle.rfc3550.specs.Packet.{Item, item, priv, itemType, itemRest, isCname, some, chunkHasCname}

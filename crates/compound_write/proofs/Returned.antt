@@ -1,6 +1,5 @@
 -- Demand 3 over what the writer's functions returned.
-use mathlib.Core.Path.{_≡_, ap, _∙_}
-use mathlib.Core.List.{List, [], map}
+use Rattle.rfc3550.proofs.Prelude.{_≡_, ap, _∙_, List, [], map}
 use Rattle.rfc3550.specs.Answer.{Answer}
 use Rattle.rfc3550.specs.Writer.{fresh}
 use Rattle.rfc3550.specs.Writer as rfc

@@ -1,13 +1,5 @@
 -- What every add shares, over the packet given, and closing.
-use borrow.Author.Needs.{needs}
-use Prim.Native.Nat.{ℕ, _+_, _-_, _^_, _<_, _≤_}
-use mathlib.Core.Path.{_≡_, refl, sym, ap, _∙_}
-use mathlib.Core.Bool.{Bool, true, false, _&&_, _||_, not}
-use mathlib.Core.List.{List, [], _++_}
-use native.Mathlib.Omega.{arith}
-use borrow.Author.Tests.{le-leb, lt-leb, leb-true, leb-false, lt-ltb, le-ltb, ltb-true, eq-eqb, ne-eqb, not-true, not-false}
-use lib.ListN.{length, take, drop, length-take, length-drop}
-use lib.Dec.{leb, ltb, eqb}
+use Rattle.rfc3550.proofs.Prelude.{needs, ℕ, _+_, _-_, _^_, _<_, _≤_, _≡_, refl, sym, ap, _∙_, Bool, true, false, _&&_, _||_, not, List, [], _++_, arith, le-leb, lt-leb, leb-true, leb-false, lt-ltb, le-ltb, ltb-true, eq-eqb, ne-eqb, not-true, not-false, length, take, drop, length-take, length-drop, leb, ltb, eqb}
 use Rattle.rfc3550.specs.Answer.{Refusal, refusal, Answer, ok, refused, need, _>>_, capped, pick}
 use Rattle.rfc3550.specs.Bytes.{store}
 use Rattle.rfc3550.specs.Packet.{Reporter, type, layout, isReport}

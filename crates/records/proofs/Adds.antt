@@ -1,14 +1,5 @@
 -- The cases of a report added from lent records, over whoever reports: what stands around its blocks, where they go, and the whole call.
-use Prim.Native.Nat.{ℕ, _+_, _-_, _*_, _^_, _<_, _≤_}
-use mathlib.Core.Path.{_≡_, refl, sym, ap, _∙_}
-use mathlib.Core.Bool.{Bool, true, false, _&&_, _||_, not}
-use borrow.Author.Tests.{le-leb, leb-true, leb-false, lt-ltb, le-ltb, ne-eqb}
-use lib.Dec.{leb, ltb}
-use mathlib.Core.List.{List, [], _++_, append-nil}
-use native.Mathlib.Nat.{add-zero}
-use native.Mathlib.Omega.{arith}
-use lib.ListN.{length, take, drop, length-append, length-drop, take-append-drop, drop-of-length-le}
-use lib.Seq.{length-take-le, take-all, take-length}
+use Rattle.rfc3550.proofs.Prelude.{ℕ, _+_, _-_, _*_, _^_, _<_, _≤_, _≡_, refl, sym, ap, _∙_, Bool, true, false, _&&_, _||_, not, le-leb, leb-true, leb-false, lt-ltb, le-ltb, ne-eqb, leb, ltb, List, [], _++_, append-nil, add-zero, arith, length, take, drop, length-append, length-drop, take-append-drop, drop-of-length-le, length-take-le, take-all, take-length}
 use Rattle.rfc3550.specs.Answer.{Refusal, refusal, Answer, ok, refused, need, _>>_, _>>=_, mapOk, capped, pick}
 use Rattle.rfc3550.specs.Bytes.{store}
 use Rattle.rfc3550.specs.Packet.{receiver, sender, type, isReport, blocksBytes, layout}

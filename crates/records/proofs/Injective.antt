@@ -1,8 +1,5 @@
 -- The interpretations lose nothing.
-use mathlib.Core.Path.{_≡_, refl, sym, ap}
-use mathlib.Core.Bool.{Bool, true, false, true≢false}
-use mathlib.Core.List.{List, [], _∷_, nil≢cons, cons≢nil, head-eq-of-cons-eq, tail-eq-of-cons-eq}
-use Prim.Native.Nat.{ℕ}
+use Rattle.rfc3550.proofs.Prelude.{_≡_, refl, sym, ap, Bool, true, false, true≢false, List, [], _∷_, nil≢cons, cons≢nil, head-eq-of-cons-eq, tail-eq-of-cons-eq, ℕ}
 use Rattle.rfc3550.specs.Packet as rfc
 use Rattle.report.specs.declared.«report_block».ReportBlock.{ReportBlock}
 use Rattle.report_write.proofs.Reports.{senderOf-injective}

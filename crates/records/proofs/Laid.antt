@@ -1,11 +1,5 @@
 -- Pieces of one width laid one after the other, by their index, and blocks so laid.
-use Prim.Native.Nat.{ℕ, zero, suc, _+_, _-_, _*_, _≤_}
-use mathlib.Core.Path.{_≡_, refl, sym, ap, _∙_}
-use mathlib.Core.List.{List, [], _∷_, _++_, append-nil, append-assoc}
-use native.Mathlib.Nat.{add-assoc, zero-mul, suc-mul, le-of-suc-le-suc, not-suc-le-zero}
-use native.Mathlib.Omega.{arith}
-use lib.ListN.{length, take, drop, getD, length-append}
-use lib.Seq.{length-take-le, take-append-le, take-append-add, take-take, drop-at, drop-append-add}
+use Rattle.rfc3550.proofs.Prelude.{ℕ, zero, suc, _+_, _-_, _*_, _≤_, _≡_, refl, sym, ap, _∙_, List, [], _∷_, _++_, append-nil, append-assoc, add-assoc, zero-mul, suc-mul, le-of-suc-le-suc, not-suc-le-zero, arith, length, take, drop, getD, length-append, length-take-le, take-append-le, take-append-add, take-take, drop-at, drop-append-add}
 use Rattle.rfc3550.specs.Bytes.{put, store}
 use Rattle.rfc3550.specs.Packet.{blockWidths, blockFields, blocksBytes}
 use Rattle.rfc3550.proofs.Bytes.{length-store}

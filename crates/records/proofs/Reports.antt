@@ -1,12 +1,5 @@
 -- The cases of a report of lent records, over whoever reports: its size, what stands around its blocks, and the whole written.
-use Prim.Native.Nat.{ℕ, _+_, _-_, _*_, _<_, _≤_}
-use mathlib.Core.Path.{_≡_, refl, sym, ap, _∙_}
-use mathlib.Core.List.{List, []}
-use native.Mathlib.Omega.{arith}
-use native.Mathlib.Numerals.{add-one}
-use borrow.Author.Tests.{leb-true}
-use lib.ListN.{length, take, drop, getD, length-map, drop-of-length-le}
-use lib.Seq.{drop-cons, take-length}
+use Rattle.rfc3550.proofs.Prelude.{ℕ, _+_, _-_, _*_, _<_, _≤_, _≡_, refl, sym, ap, _∙_, List, [], arith, add-one, leb-true, length, take, drop, getD, length-map, drop-of-length-le, drop-cons, take-length}
 use Rattle.rfc3550.specs.Answer.{Answer, Refusal, ok, refused, refusal, need, _>>_, _>>=_}
 use Rattle.rfc3550.specs.Bytes.{be, put, store}
 use Rattle.rfc3550.specs.Packet as rfc

@@ -1,14 +1,5 @@
 -- A report block from its seven numbers, a lone block's steps, and blocks in three lists.
-use borrow.Author.Needs.{needs}
-use mathlib.Core.Path.{_≡_, refl, sym, ap, _∙_}
-use mathlib.Core.List.{List, [], _∷_, _++_, append-assoc, append-nil}
-use Prim.Native.Nat.{ℕ, zero, suc, _+_, _*_, _/_, _%_, _^_, _<_, _≤_}
-use native.Mathlib.Nat.{mul-suc, mul-zero}
-use native.Mathlib.Numerals.{add-one}
-use native.Mathlib.Omega.{arith}
-use borrow.Author.Tests.{le-leb, lt-leb}
-use lib.ListN.{length, getD, take, drop, set, length-append, length-drop}
-use lib.Seq.{drop-drop, length-take-le}
+use Rattle.rfc3550.proofs.Prelude.{needs, _≡_, refl, sym, ap, _∙_, List, [], _∷_, _++_, append-assoc, append-nil, ℕ, zero, suc, _+_, _*_, _/_, _%_, _^_, _<_, _≤_, mul-suc, mul-zero, add-one, arith, le-leb, lt-leb, length, getD, take, drop, set, length-append, length-drop, drop-drop, length-take-le}
 use Rattle.rfc3550.specs.Answer.{ok, refuse, need, _>>_, mapOk}
 use Rattle.rfc3550.specs.Bytes.{val, get, store}
 use Rattle.rfc3550.specs.Loss.{lossOf}

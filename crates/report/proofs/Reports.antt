@@ -1,13 +1,5 @@
 -- Reading a report, over the kind: from what a reader has tested, what an accepted one tells, and its parts.
-use borrow.Author.Needs.{needs}
-use mathlib.Core.Path.{_≡_, refl, ap, _∙_, sym, subst}
-use mathlib.Core.List.{List}
-use mathlib.Core.Logic.{⊎-elim}
-use Prim.Native.Nat.{ℕ, zero, suc, _+_, _-_, _*_, _<_, _≤_}
-use native.Mathlib.Omega.{arith}
-use borrow.Author.Tests.{le-leb, lt-leb}
-use lib.ListN.{length, take, drop, length-drop}
-use lib.Seq.{drop-drop, length-take-le, take-all}
+use Rattle.rfc3550.proofs.Prelude.{needs, _≡_, refl, ap, _∙_, sym, subst, List, ⊎-elim, ℕ, zero, suc, _+_, _-_, _*_, _<_, _≤_, arith, le-leb, lt-leb, length, take, drop, length-drop, drop-drop, length-take-le, take-all}
 use Rattle.rfc3550.specs.Answer.{Refusal, refusal, Answer, ok, refused, refuse, need, _>>_, _>>=_, mapOk}
 use Rattle.rfc3550.specs.Bytes.{val, get, sum}
 use Rattle.rfc3550.specs.Packet.{Block, Reporter, Content, report, Packet, blockWidths, receiverWidths, senderWidths}

@@ -1,16 +1,5 @@
 -- Report blocks: their losses, by the one that decides, and their bytes, laid one after the other. A turn of a loop takes the next one off.
-use Prim.Native.Nat.{ℕ, zero, suc, _+_, _-_, _*_, _/_, _%_, _<_, _≤_}
-use mathlib.Core.Path.{_≡_, refl, sym, ap, _∙_}
-use mathlib.Core.Bool.{Bool, true, false}
-use mathlib.Core.List.{List, [], _∷_, _++_}
-use native.Mathlib.Nat.{add-zero, add-assoc}
-use native.Mathlib.Numerals.{add-one}
-use native.Mathlib.Omega.{arith}
-use borrow.Author.Tests.{not-true, not-false, le-leb, lt-leb, leb-true, leb-false, eq-eqb, ne-eqb, eqb-true, eqb-false}
-use lib.ListN.{length, drop, getD, length-append, length-drop, drop-of-length-le}
-use lib.Seq.{drop-cons, getD-drop}
-use lib.Bits.{bitOr, or-add-and, and-le-l, and-le-r, or-lt}
-use lib.Dec.{leb, eqb}
+use Rattle.rfc3550.proofs.Prelude.{ℕ, zero, suc, _+_, _-_, _*_, _/_, _%_, _<_, _≤_, _≡_, refl, sym, ap, _∙_, Bool, true, false, List, [], _∷_, _++_, add-zero, add-assoc, add-one, arith, not-true, not-false, le-leb, lt-leb, leb-true, leb-false, eq-eqb, ne-eqb, eqb-true, eqb-false, length, drop, getD, length-append, length-drop, drop-of-length-le, drop-cons, getD-drop, bitOr, or-add-and, and-le-l, and-le-r, or-lt, leb, eqb}
 use Rattle.rfc3550.specs.Answer.{ok, need, pick, _>>_}
 use Rattle.rfc3550.specs.Bytes.{be, put, store}
 use Rattle.rfc3550.proofs.Losses.{lossBits-lt}

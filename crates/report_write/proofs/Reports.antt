@@ -1,13 +1,5 @@
 -- The cases of a report's size and bytes, over the reporter, each from what the code has tested or called.
-use Prim.Native.Nat.{ℕ, _+_, _-_, _*_, _^_, _≤_, _<_}
-use mathlib.Core.Path.{_≡_, refl, sym, ap, _∙_}
-use mathlib.Core.Bool.{Bool, true, false}
-use mathlib.Core.List.{List, [], _∷_, append-nil}
-use native.Mathlib.Omega.{arith}
-use borrow.Author.Needs.{needs}
-use borrow.Author.Tests.{le-leb, lt-leb, leb-true, not-true, not-false}
-use lib.ListN.{length, take, drop, length-append}
-use lib.Dec.{leb}
+use Rattle.rfc3550.proofs.Prelude.{ℕ, _+_, _-_, _*_, _^_, _≤_, _<_, _≡_, refl, sym, ap, _∙_, Bool, true, false, List, [], _∷_, append-nil, arith, needs, le-leb, lt-leb, leb-true, not-true, not-false, length, take, drop, length-append, leb}
 use Rattle.rfc3550.specs.Answer.{Refusal, ok, refused, refusal, need, _>>_}
 use Rattle.rfc3550.specs.Bytes.{be, put, store}
 use Rattle.rfc3550.specs.Loss.{lossIn, lossShown, lossMost}

@@ -1,10 +1,5 @@
 -- Laws of answers: what an accepting do block says of its steps.
-use Prim.Native.Nat.{ℕ}
-use mathlib.Core.Bool.{Bool, true, false, _&&_, _||_, not}
-use mathlib.Core.Path.{_≡_, refl, sym, subst}
-use mathlib.Core.Logic.{_⊎_, inl, inr}
-use lib.Dec.{T, leb, ltb}
-use borrow.Author.Tests.{le-leb, lt-leb, ltb-true, ltb-false}
+use Rattle.rfc3550.proofs.Prelude.{ℕ, Bool, true, false, _&&_, _||_, not, _≡_, refl, sym, subst, _⊎_, inl, inr, T, leb, ltb, le-leb, lt-leb, ltb-true, ltb-false}
 use Rattle.rfc3550.specs.Answer.{Refusal, Answer, ok, refused, need, _>>=_, _>>_, mapOk}
 
 -- ---- tests

@@ -1,10 +1,5 @@
 -- Report blocks: reading their bytes gives them back, and what is read has the bytes.
-use Prim.Native.Nat.{ℕ, zero, suc, _+_, _*_, _≤_}
-use mathlib.Core.Path.{_≡_, refl, sym, ap, _∙_, subst}
-use mathlib.Core.List.{List, [], _∷_, _++_, append-assoc}
-use native.Mathlib.Omega.{arith}
-use lib.ListN.{length, drop, length-append, length-drop}
-use lib.Seq.{drop-at, drop-drop}
+use Rattle.rfc3550.proofs.Prelude.{ℕ, zero, suc, _+_, _*_, _≤_, _≡_, refl, sym, ap, _∙_, subst, List, [], _∷_, _++_, append-assoc, arith, length, drop, length-append, length-drop, drop-at, drop-drop}
 use Rattle.rfc3550.specs.Bytes.{Bytes, put, get, Fits, sum}
 use Rattle.rfc3550.specs.Loss.{LossFits}
 use Rattle.rfc3550.specs.Packet.{Block, All, blockWidths, blockFields, blocksBytes, BlockValid}

@@ -1,12 +1,5 @@
 -- The book's text and the writer's say the same of a packet's own order.
-use Prim.Native.Nat.{ℕ, _+_, _-_, _*_, _%_, _≤_}
-use mathlib.Core.Path.{_≡_, refl, sym, _∙_}
-use mathlib.Core.Bool.{Bool, true, false, _&&_, _||_, not}
-use mathlib.Core.List.{List, [], _∷_, _++_}
-use native.Mathlib.Omega.{arith}
-use lib.ListN.{length}
-use lib.Dec.{leb, ltb, eqb}
-use borrow.Author.Tests.{le-leb, lt-leb, ltb-true, ltb-false, eqb-true, eqb-false, eq-eqb, ne-eqb}
+use Rattle.rfc3550.proofs.Prelude.{ℕ, _+_, _-_, _*_, _%_, _≤_, _≡_, refl, sym, _∙_, Bool, true, false, _&&_, _||_, not, List, [], _∷_, _++_, arith, length, leb, ltb, eqb, le-leb, lt-leb, ltb-true, ltb-false, eqb-true, eqb-false, eq-eqb, ne-eqb}
 use Rattle.rfc3550.specs.Answer.{Answer, ok, refuse, need, _>>_, pick}
 use Rattle.rfc3550.specs.Bytes.{sum}
 use Rattle.rfc3550.specs.Loss.{Loss, lossIn, lossOver, lossShown, lossMost}

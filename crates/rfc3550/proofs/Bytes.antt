@@ -1,12 +1,5 @@
 -- Laws of big-endian numbers and of fields in a row, over the width.
-use Prim.Native.Nat.{ℕ, zero, suc, _+_, _-_, _*_, _%_, _^_, _<_, _≤_}
-use mathlib.Core.Path.{_≡_, refl, sym, ap, subst}
-use mathlib.Core.List.{List, [], _∷_, _++_, append-assoc}
-use native.Mathlib.Nat.{zero-add, mod-lt, div-add-mod', one-le-pow, pow-suc}
-use native.Mathlib.Omega.{arith}
-use lib.ListN.{length, take, drop, getD, replicate, length-append, length-drop, take-append-drop}
-use lib.Seq.{take-at, drop-at, length-take-le, drop-drop}
-use lib.Arith.{digits-lt, digits-div, digits-mod}
+use Rattle.rfc3550.proofs.Prelude.{ℕ, zero, suc, _+_, _-_, _*_, _%_, _^_, _<_, _≤_, _≡_, refl, sym, ap, subst, List, [], _∷_, _++_, append-assoc, zero-add, mod-lt, div-add-mod', one-le-pow, pow-suc, arith, length, take, drop, getD, replicate, length-append, length-drop, take-append-drop, take-at, drop-at, length-take-le, drop-drop, digits-lt, digits-div, digits-mod}
 use Rattle.rfc3550.specs.Bytes.{Bytes, be, val, put, get, Fits, sum, store}
 
 -- ---- be and val

@@ -1,15 +1,6 @@
 -- Demand 3. First any writer with any calls against any book: if each call answers as the book does and keeps the agreement, so does every
 -- list of calls. Then the compound writer.
-use Prim.Native.Nat.{ℕ, _+_, _<_, _≤_}
-use mathlib.Core.Path.{_≡_, refl, sym, ap, _∙_, subst}
-use mathlib.Core.Logic.{_⊎_, inl, inr}
-use mathlib.Core.Bool.{Bool, true, false, _&&_, _||_, not}
-use mathlib.Core.List.{List, [], _∷_, _++_, append-assoc, append-nil, map}
-use native.Mathlib.Omega.{arith}
-use lib.ListN.{length, take, drop, length-append}
-use lib.Seq.{take-at}
-use lib.Dec.{leb, ltb}
-use borrow.Author.Tests.{lt-ltb, leb-true, ltb-false, not-true}
+use Rattle.rfc3550.proofs.Prelude.{ℕ, _+_, _<_, _≤_, _≡_, refl, sym, ap, _∙_, subst, _⊎_, inl, inr, Bool, true, false, _&&_, _||_, not, List, [], _∷_, _++_, append-assoc, append-nil, map, arith, length, take, drop, length-append, take-at, leb, ltb, lt-ltb, leb-true, ltb-false, not-true}
 use Rattle.rfc3550.specs.Answer.{Answer, ok, refused, need, _>>_, capped}
 use Rattle.rfc3550.specs.Bytes.{store}
 use Rattle.rfc3550.specs.Packet.{receiver, sender, Packet, type, layout, layouts, Valid, All, isReport, hasCname, some, OnlyLastPadded, startsWithReport, Compound}

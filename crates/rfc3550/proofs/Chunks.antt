@@ -1,15 +1,5 @@
 -- SDES: the readers of fill, items and chunks against their layouts, both ways.
-use Prim.Native.Nat.{ℕ, zero, suc, _+_, _-_, _%_, _<_, _≤_}
-use mathlib.Core.Path.{_≡_, refl, sym, ap, _∙_, subst}
-use mathlib.Core.Logic.{_≢_}
-use mathlib.Core.Bool.{Bool, true, false}
-use mathlib.Core.List.{List, [], _∷_, _++_, append-assoc}
-use native.Mathlib.Omega.{arith}
-use native.Mathlib.Nat.{add-zero, add-assoc}
-use lib.ListN.{length, take, drop, replicate, length-append, length-drop, take-append-drop}
-use lib.Seq.{take-at, drop-at, length-take-le, take-append-seam, drop-append-seam}
-use lib.Dec.{eqb}
-use borrow.Author.Tests.{le-leb, leb-true, eqb-true, eqb-false, ne-eqb}
+use Rattle.rfc3550.proofs.Prelude.{ℕ, zero, suc, _+_, _-_, _%_, _<_, _≤_, _≡_, refl, sym, ap, _∙_, subst, _≢_, Bool, true, false, List, [], _∷_, _++_, append-assoc, arith, add-zero, add-assoc, length, take, drop, replicate, length-append, length-drop, take-append-drop, take-at, drop-at, length-take-le, take-append-seam, drop-append-seam, eqb, le-leb, leb-true, eqb-true, eqb-false, ne-eqb}
 use Rattle.rfc3550.specs.Answer.{ok, _>>=_, _>>_, need}
 use Rattle.rfc3550.specs.Bytes.{Bytes, be}
 use Rattle.rfc3550.specs.Packet.{Item, item, priv, Chunk, itemType, itemRest, itemBytes, itemsBytes, chunkBytes, chunksBytes, fill, All, ItemValid, ChunkValid}

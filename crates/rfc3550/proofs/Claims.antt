@@ -1,8 +1,5 @@
 -- What is promised to the buyer, each claim stated whole. Demand 3 comes last.
-use Prim.Native.Nat.{ℕ}
-use mathlib.Core.Path.{_≡_, refl}
-use mathlib.Core.Logic.{_↔_}
-use mathlib.Core.List.{List, [], map}
+use Rattle.rfc3550.proofs.Prelude.{ℕ, _≡_, refl, _↔_, List, [], map}
 use Rattle.rfc3550.specs.Answer.{Refusal, ok, refused}
 use Rattle.rfc3550.specs.Bytes.{Bytes}
 use Rattle.rfc3550.specs.Packet.{Chunk, Packet, layout, layouts, chunksOf, All, Valid, Compound}

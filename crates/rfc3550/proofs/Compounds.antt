@@ -1,14 +1,5 @@
 -- Compounds: reading accepts exactly the layouts of the lists that meet the rules, and each has one list.
-use Prim.Native.Nat.{ℕ, zero, suc, _+_, _-_, _/_, _%_, _<_, _≤_}
-use mathlib.Core.Path.{_≡_, refl, sym, ap, _∙_, subst}
-use mathlib.Core.Logic.{_↔_, _⊎_, inl, inr}
-use mathlib.Core.Bool.{Bool, true, false, not, _||_}
-use mathlib.Core.List.{List, [], _∷_, _++_, append-nil}
-use native.Mathlib.Omega.{arith}
-use lib.ListN.{length, take, drop, length-append, length-drop, take-append-drop}
-use lib.Seq.{take-at, drop-at, drop-length, drop-append-le, take-append-le, drop-append-seam}
-use lib.Dec.{eqb}
-use borrow.Author.Tests.{le-leb, leb-true, eqb-true, eqb-false, eq-eqb, ne-eqb}
+use Rattle.rfc3550.proofs.Prelude.{ℕ, zero, suc, _+_, _-_, _/_, _%_, _<_, _≤_, _≡_, refl, sym, ap, _∙_, subst, _↔_, _⊎_, inl, inr, Bool, true, false, not, _||_, List, [], _∷_, _++_, append-nil, arith, length, take, drop, length-append, length-drop, take-append-drop, take-at, drop-at, drop-length, drop-append-le, take-append-le, drop-append-seam, eqb, le-leb, leb-true, eqb-true, eqb-false, eq-eqb, ne-eqb}
 use Rattle.rfc3550.specs.Answer.{Answer, ok, _>>=_, _>>_, need}
 use Rattle.rfc3550.specs.Bytes.{Bytes}
 use Rattle.rfc3550.specs.Packet.{Packet, lowBits, type, paddingBit, layout, layouts, Valid, All, isReport, OnlyLastPadded, Compound}

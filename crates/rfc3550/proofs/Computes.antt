@@ -1,8 +1,5 @@
 -- The definitions compute: a compound of 3 kB is read by evaluation alone.
-use Prim.Native.Nat.{ℕ}
-use mathlib.Core.Path.{_≡_, refl}
-use mathlib.Core.List.{List, [], _∷_, _++_}
-use lib.ListN.{length, replicate}
+use Rattle.rfc3550.proofs.Prelude.{ℕ, _≡_, refl, List, [], _∷_, _++_, length, replicate}
 use Rattle.rfc3550.specs.Answer.{ok, need, _>>_, _>>=_}
 use Rattle.rfc3550.specs.Bytes.{be, val, put, get, sum}
 use Rattle.rfc3550.specs.Loss.{lossBits, lossOf}

@@ -1,12 +1,5 @@
 -- What stands between the header and the padding, over the kind, both ways.
-use Prim.Native.Nat.{ℕ, _+_, _-_, _*_, _<_, _≤_}
-use mathlib.Core.Path.{_≡_, refl, sym, ap, _∙_, subst}
-use mathlib.Core.Bool.{true, false, not}
-use mathlib.Core.List.{List, [], _∷_, _++_}
-use native.Mathlib.Omega.{arith}
-use lib.ListN.{replicate, length-replicate, length, drop, length-append, length-drop, take-append-drop}
-use lib.Seq.{take-at, drop-at, length-take-le, drop-drop, take-append-seam, drop-append-seam}
-use borrow.Author.Tests.{le-leb, leb-true, eqb-true, ne-eqb, not-true}
+use Rattle.rfc3550.proofs.Prelude.{ℕ, _+_, _-_, _*_, _<_, _≤_, _≡_, refl, sym, ap, _∙_, subst, true, false, not, List, [], _∷_, _++_, arith, replicate, length-replicate, length, drop, length-append, length-drop, take-append-drop, take-at, drop-at, length-take-le, drop-drop, take-append-seam, drop-append-seam, le-leb, leb-true, eqb-true, ne-eqb, not-true}
 use Rattle.rfc3550.specs.Answer.{ok, _>>=_, _>>_, need}
 use Rattle.rfc3550.specs.Bytes.{Bytes, be, put, get, Fits, sum}
 use Rattle.rfc3550.specs.Packet.{Block, Reporter, receiver, sender, Leaving, no-reason, reason, Content, report, sdes, bye, app, unknown, reporterWidths, reporterFields, leavingBytes, LeavingValid, receiverWidths, senderWidths, contentBytes, lowBits, type, ContentValid, known, All, BlockValid, blocksBytes, chunksBytes}

@@ -1,3 +1,4 @@
+pub mod Prelude
 -- Laws and theorems about the definitions; Claims holds the promises.
 pub mod Answers
 pub mod Bytes

@@ -1,9 +1,5 @@
 -- The laws of cumulative lost by which everything else goes.
-use Prim.Native.Nat.{ℕ, _<_}
-use mathlib.Core.Path.{_≡_}
-use mathlib.Core.Bool.{true, not}
-use native.Mathlib.Omega.{arith}
-use borrow.Author.Tests.{leb-true}
+use Rattle.rfc3550.proofs.Prelude.{ℕ, _<_, _≡_, true, not, arith, leb-true}
 use Rattle.rfc3550.specs.Loss.{Loss, lossBits, lossOf, LossFits, lossIn, lossOver}
 use Rattle.rfc3550.proofs.Answers.{leb-ltb}
 

@@ -1,14 +1,5 @@
 -- One packet: reading its layout gives it back, and what is read is valid and has the bytes as its layout. Over the kind.
-use Prim.Native.Nat.{ℕ, _+_, _-_, _/_, _%_, _<_, _≤_}
-use mathlib.Core.Path.{_≡_, refl, sym, ap, _∙_, subst}
-use mathlib.Core.Logic.{_↔_}
-use mathlib.Core.Bool.{Bool, true, false, not, _&&_, _||_}
-use mathlib.Core.List.{List, [], _∷_, _++_, append-assoc}
-use native.Mathlib.Omega.{arith}
-use lib.ListN.{length, take, drop, getD, length-append, length-drop, take-append-drop}
-use lib.Seq.{take-at, drop-at, length-take-le, getD-append-add, getD-drop, drop-append-le}
-use lib.Dec.{leb, ltb, eqb}
-use borrow.Author.Tests.{le-leb, leb-true, lt-ltb, ltb-true, eqb-true, eqb-false, eq-eqb, ne-eqb}
+use Rattle.rfc3550.proofs.Prelude.{ℕ, _+_, _-_, _/_, _%_, _<_, _≤_, _≡_, refl, sym, ap, _∙_, subst, _↔_, Bool, true, false, not, _&&_, _||_, List, [], _∷_, _++_, append-assoc, arith, length, take, drop, getD, length-append, length-drop, take-append-drop, take-at, drop-at, length-take-le, getD-append-add, getD-drop, drop-append-le, leb, ltb, eqb, le-leb, leb-true, lt-ltb, ltb-true, eqb-true, eqb-false, eq-eqb, ne-eqb}
 use Rattle.rfc3550.specs.Answer.{Answer, ok, _>>=_, _>>_, need, pick}
 use Rattle.rfc3550.specs.Bytes.{Bytes, be, val}
 use Rattle.rfc3550.specs.Packet.{Content, Packet, contentBytes, lowBits, type, paddingBit, layout, PaddingValid, Valid}

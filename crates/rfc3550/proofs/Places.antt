@@ -1,11 +1,5 @@
 -- The bytes at a place are the part that stands there: one law, and what it says of the parts of every kind of packet.
-use Prim.Native.Nat.{ℕ, _+_, _-_, _*_, _/_}
-use mathlib.Core.Path.{_≡_, refl, sym, ap, _∙_, subst}
-use mathlib.Core.List.{List, [], _∷_, _++_, append-assoc, append-nil}
-use native.Mathlib.Omega.{arith}
-use lib.ListN.{length, take, drop, replicate, length-append}
-use lib.Seq.{take-at, drop-at}
-use lib.Dec.{eqb}
+use Rattle.rfc3550.proofs.Prelude.{ℕ, _+_, _-_, _*_, _/_, _≡_, refl, sym, ap, _∙_, subst, List, [], _∷_, _++_, append-assoc, append-nil, arith, length, take, drop, replicate, length-append, take-at, drop-at, eqb}
 use Rattle.rfc3550.specs.Answer.{ok}
 use Rattle.rfc3550.specs.Bytes.{Bytes, be, put, Fits, sum}
 use Rattle.rfc3550.specs.Packet.{Block, Reporter, receiver, sender, item, priv, itemRest, itemBytes, Chunk, chunkBytes, no-reason, reason, report, bye, app, unknown, Packet, reporterWidths, reporterFields, blocksBytes, contentBytes, paddingBit, lowBits, type, layout, ContentValid}

@@ -1,9 +1,6 @@
 -- One law for the answers that any code's step function gives in turn: answer i is that of part i, and 25 once all are given. And one for the
 -- calls of any code's writer: they are calls as the system's, so what holds of every list of these holds of them.
-use Prim.Native.Nat.{ℕ, suc}
-use mathlib.Core.Path.{_≡_, refl, ap, _∙_, subst}
-use mathlib.Core.List.{List, [], _∷_, map}
-use lib.ListN.{length}
+use Rattle.rfc3550.proofs.Prelude.{ℕ, suc, _≡_, refl, ap, _∙_, subst, List, [], _∷_, map, length}
 use Rattle.rfc3550.specs.Answer.{Answer, ok, refused, mapOk}
 use Rattle.rfc3550.specs.Read.{nth}
 use Rattle.rfc3550.specs.Walk.{gave, walkAfter, walked}

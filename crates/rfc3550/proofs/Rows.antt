@@ -1,8 +1,5 @@
 -- Document 01's trial rows marked ★, as one list by one theorem.
-use Prim.Native.Nat.{ℕ}
-use mathlib.Core.Path.{_≡_, refl}
-use mathlib.Core.List.{List, [], _∷_, _++_}
-use lib.ListN.{replicate}
+use Rattle.rfc3550.proofs.Prelude.{ℕ, _≡_, refl, List, [], _∷_, _++_, replicate}
 use Rattle.rfc3550.specs.Answer.{Answer, ok, refuse, need, _>>_, _>>=_}
 use Rattle.rfc3550.specs.Bytes.{be, val, put, get, sum, store}
 use Rattle.rfc3550.specs.Packet.{item, receiver, Content, report, sdes, Packet, All, blocksBytes, itemsBytes, chunkBytes, chunksBytes, contentBytes, layout}

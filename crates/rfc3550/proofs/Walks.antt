@@ -1,13 +1,5 @@
 -- One law for every walk, and its instances: a datagram's packets, an SDES packet's chunks, a chunk's items.
-use Prim.Native.Nat.{ℕ, zero, suc, _+_, _-_, _/_, _%_, _<_, _≤_}
-use mathlib.Core.Path.{_≡_, refl, sym, ap, _∙_}
-use mathlib.Core.Bool.{Bool, true, false, not, _||_}
-use mathlib.Core.List.{List, [], _∷_, _++_, append-assoc, append-nil}
-use native.Mathlib.Omega.{arith}
-use lib.ListN.{length, drop, getD, replicate, length-append}
-use lib.Seq.{drop-append-seam, take-all}
-use lib.Dec.{eqb}
-use borrow.Author.Tests.{lt-ltb, le-ltb, ne-eqb}
+use Rattle.rfc3550.proofs.Prelude.{ℕ, zero, suc, _+_, _-_, _/_, _%_, _<_, _≤_, _≡_, refl, sym, ap, _∙_, Bool, true, false, not, _||_, List, [], _∷_, _++_, append-assoc, append-nil, arith, length, drop, getD, replicate, length-append, drop-append-seam, take-all, eqb, lt-ltb, le-ltb, ne-eqb}
 use Rattle.rfc3550.specs.Answer.{Answer, ok, refuse, _>>=_, _>>_, need}
 use Rattle.rfc3550.specs.Bytes.{Bytes, be}
 use Rattle.rfc3550.specs.Packet.{Item, item, priv, itemType, itemBytes, fill, Chunk, chunkBytes, chunksBytes, receiver, sender, Content, report, sdes, bye, app, unknown, Packet, paddingBit, contentBytes, layout, layouts, chunksOf, All, ItemValid, ChunkValid, Valid, OnlyLastPadded, startsWithReport}

@@ -1,13 +1,5 @@
 -- Writing: what passes the tests is a valid packet, over the kind, and a write lays down its layout and nothing else.
-use Prim.Native.Nat.{ℕ, zero, suc, _+_, _-_, _*_, _%_, _^_, _<_, _≤_}
-use mathlib.Core.Path.{_≡_, refl, sym, ap, _∙_, subst}
-use mathlib.Core.Bool.{Bool, true, false, _||_, not}
-use mathlib.Core.List.{List, [], _∷_, _++_, append-nil, map}
-use native.Mathlib.Omega.{arith}
-use lib.ListN.{length, take, drop, getD, replicate, length-append, length-drop, length-map, length-replicate}
-use lib.Seq.{getD-at}
-use lib.Dec.{leb, eqb}
-use borrow.Author.Tests.{leb-true, eqb-true, eqb-false, eq-eqb, not-true}
+use Rattle.rfc3550.proofs.Prelude.{ℕ, zero, suc, _+_, _-_, _*_, _%_, _^_, _<_, _≤_, _≡_, refl, sym, ap, _∙_, subst, Bool, true, false, _||_, not, List, [], _∷_, _++_, append-nil, map, arith, length, take, drop, getD, replicate, length-append, length-drop, length-map, length-replicate, getD-at, leb, eqb, leb-true, eqb-true, eqb-false, eq-eqb, not-true}
 use Rattle.rfc3550.specs.Answer.{Refusal, Answer, ok, refused, _>>=_, _>>_, need, pick}
 use Rattle.rfc3550.specs.Bytes.{Bytes, put, Fits, sum}
 use Rattle.rfc3550.specs.Loss.{Loss, noLoss, LossFits}

@@ -1,11 +1,5 @@
 -- The three lists that calls fill with a report's blocks: lent to a writer, they are the blocks again.
-use Prim.Native.Nat.{ℕ, suc, _*_}
-use mathlib.Core.Path.{_≡_, refl, sym, ap, _∙_}
-use mathlib.Core.Bool.{Bool, true, false}
-use mathlib.Core.List.{List, [], _∷_}
-use native.Mathlib.Omega.{arith}
-use lib.ListN.{length, take, drop}
-use lib.Seq.{take-at}
+use Rattle.rfc3550.proofs.Prelude.{ℕ, suc, _*_, _≡_, refl, sym, ap, _∙_, Bool, true, false, List, [], _∷_, arith, length, take, drop, take-at}
 use Rattle.rfc3550.specs.Answer.{Answer, ok, refused, mapOk}
 use Rattle.rfc3550.specs.Bytes.{store}
 use Rattle.rfc3550.specs.Packet.{Block, Packet as Read}

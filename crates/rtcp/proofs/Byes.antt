@@ -1,10 +1,5 @@
 -- BYE packets: what C gets, from what the readers answer.
-use mathlib.Core.Path.{_≡_, refl}
-use mathlib.Core.List.{List}
-use Prim.Native.Nat.{ℕ, _+_, _^_, _<_, _≤_}
-use native.Mathlib.Omega.{arith}
-use borrow.Author.Needs.{needs}
-use lib.ListN.{take, drop}
+use Rattle.rfc3550.proofs.Prelude.{_≡_, refl, List, ℕ, _+_, _^_, _<_, _≤_, arith, needs, take, drop}
 use Rattle.rfc3550.specs.Answer.{Answer, ok, mapOk}
 use Rattle.rfc3550.specs.Packet.{Packet}
 use Rattle.rfc3550.specs.Read.{BYE, readAs}

@@ -1,10 +1,5 @@
 -- Datagrams and their walk: what C gets, from what the readers answer.
-use mathlib.Core.Path.{_≡_, refl, sym, ap, _∙_}
-use mathlib.Core.List.{List}
-use Prim.Native.Nat.{ℕ, _+_, _-_}
-use native.Mathlib.Omega.{arith}
-use lib.ListN.{length, take, drop}
-use borrow.Author.Needs.{needs}
+use Rattle.rfc3550.proofs.Prelude.{_≡_, refl, sym, ap, _∙_, List, ℕ, _+_, _-_, arith, length, take, drop, needs}
 use Rattle.rfc3550.specs.Answer.{Refusal, ok, refused, mapOk}
 use Rattle.rfc3550.specs.Packet.{Packet as Read}
 use Rattle.rfc3550.specs.Read.{Kind, SR, RR, SDES, BYE, APP, UNKNOWN, kindOf, typeIn, lowIn, readAs}

@@ -1,13 +1,5 @@
 -- SDES packets, chunks, items and walks: what C gets, from what the readers answer.
-use mathlib.Core.Path.{_≡_, refl, sym, ap}
-use mathlib.Core.Bool.{Bool, not}
-use mathlib.Core.List.{List}
-use Prim.Native.Nat.{ℕ, _+_, _-_, _^_, _<_, _≤_}
-use native.Mathlib.Omega.{arith}
-use lib.ListN.{length, drop, getD}
-use lib.Dec.{eqb, ltb}
-use borrow.Author.Needs.{needs}
-use borrow.Author.Tests.{eq-eqb, ne-eqb}
+use Rattle.rfc3550.proofs.Prelude.{_≡_, refl, sym, ap, Bool, not, List, ℕ, _+_, _-_, _^_, _<_, _≤_, arith, length, drop, getD, eqb, ltb, needs, eq-eqb, ne-eqb}
 use Rattle.rfc3550.specs.Answer.{refusal, Answer, ok, refused, mapOk, pick}
 use Rattle.rfc3550.specs.Packet.{Item, item, priv, itemRest, itemBytes}
 use Rattle.rfc3550.specs.Read.{readItem, readPrefix}

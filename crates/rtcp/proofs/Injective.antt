@@ -1,10 +1,5 @@
 -- A result of C loses nothing of the answer: number 0 says that it is done, and no refusal has it.
-use Prim.Native.Nat.{ℕ, _<_}
-use mathlib.Core.Bool.{Bool, true, false}
-use mathlib.Core.Path.{_≡_, refl, sym, ap, _∙_}
-use native.Mathlib.Omega.{arith}
-use lib.Dec.{eqb}
-use borrow.Author.Tests.{ne-eqb}
+use Rattle.rfc3550.proofs.Prelude.{ℕ, _<_, Bool, true, false, _≡_, refl, sym, ap, _∙_, arith, eqb, ne-eqb}
 use Rattle.rfc3550.specs.Answer.{refusal, Answer, ok, refused, pick}
 use Rattle.rfc3550.specs.Writer.{Writer}
 use Rattle.utils.specs.Error.{numberIn, parseRefusal, writeRefusal}

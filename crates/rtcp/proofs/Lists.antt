@@ -1,11 +1,5 @@
 -- The lists that the C functions fill, back to the packets: number 0 says that the list is filled, with as many numbers as the size says.
-use Prim.Native.Nat.{ℕ}
-use mathlib.Core.Path.{_≡_, ap}
-use mathlib.Core.Bool.{Bool, true, false}
-use mathlib.Core.List.{List, map}
-use native.Mathlib.Omega.{arith}
-use lib.ListN.{length, take}
-use lib.Dec.{leb}
+use Rattle.rfc3550.proofs.Prelude.{ℕ, _≡_, ap, Bool, true, false, List, map, arith, length, take, leb}
 use Rattle.rfc3550.specs.Answer.{Answer, ok, refused, mapOk}
 use Rattle.rfc3550.specs.Bytes.{Bytes}
 use Rattle.rfc3550.specs.Packet.{chunksOf, Packet as Read}

@@ -1,10 +1,5 @@
 -- Every refusal of the writer's calls and of reading has a number above 0, so that 0 tells C that a call is done and that bytes are accepted.
-use Prim.Native.Nat.{ℕ, zero, suc, _+_, _<_}
-use mathlib.Core.Path.{_≡_, refl}
-use mathlib.Core.Bool.{Bool, true, false}
-use mathlib.Core.List.{List, [], _∷_}
-use native.Mathlib.Omega.{arith}
-use lib.ListN.{length, drop}
+use Rattle.rfc3550.proofs.Prelude.{ℕ, zero, suc, _+_, _<_, _≡_, refl, Bool, true, false, List, [], _∷_, arith, length, drop}
 use Rattle.rfc3550.specs.Answer.{Answer, ok, refused, need, _>>_, _>>=_, mapOk}
 use Rattle.rfc3550.specs.Loss.{Loss}
 use Rattle.rfc3550.specs.Packet.{itemBytes}

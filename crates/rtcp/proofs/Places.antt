@@ -1,12 +1,5 @@
 -- The numbers that C gets of a packet of any kind, and its bytes: at each place stands the part.
-use Prim.Native.Nat.{ℕ, _+_, _-_, _*_, _<_}
-use mathlib.Core.Bool.{Bool, true, false}
-use mathlib.Core.Path.{_≡_, refl, sym, ap, _∙_, subst}
-use mathlib.Core.List.{List, [], _∷_, _++_, append-assoc}
-use native.Mathlib.Omega.{arith}
-use borrow.Author.Tests.{ne-eqb}
-use lib.ListN.{length, take, drop, replicate, length-append}
-use lib.Seq.{drop-at}
+use Rattle.rfc3550.proofs.Prelude.{ℕ, _+_, _-_, _*_, _<_, Bool, true, false, _≡_, refl, sym, ap, _∙_, subst, List, [], _∷_, _++_, append-assoc, arith, ne-eqb, length, take, drop, replicate, length-append, drop-at}
 use Rattle.rfc3550.specs.Packet.{Item, itemType, itemRest, itemBytes, itemsBytes, isCname, fill, Chunk, chunkBytes, All, ItemValid, ChunkValid, receiver, sender, no-reason, reason, Content, report, sdes, bye, app, unknown, Packet as Read, contentBytes, layout, ContentValid, Valid}
 use Rattle.rfc3550.specs.Read.{Kind, least, kindFor, readItem, readAs}
 use Rattle.rfc3550.proofs.Places.{padding-at, report-body, extension-at, leaving-body, reason-at, tail-at, silent-body, app-body, name-at, data-at, body-at}

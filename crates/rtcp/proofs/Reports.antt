@@ -1,10 +1,5 @@
 -- Reports: what C gets, from what the readers answer.
-use mathlib.Core.Path.{_≡_, refl, sym, ap, _∙_}
-use mathlib.Core.List.{List}
-use Prim.Native.Nat.{ℕ, _+_, _-_, _*_, _≤_}
-use native.Mathlib.Omega.{arith}
-use borrow.Author.Needs.{needs}
-use lib.ListN.{length, take, drop}
+use Rattle.rfc3550.proofs.Prelude.{_≡_, refl, sym, ap, _∙_, List, ℕ, _+_, _-_, _*_, _≤_, arith, needs, length, take, drop}
 use Rattle.rfc3550.specs.Answer.{Answer, ok, refused, mapOk}
 use Rattle.rfc3550.specs.Packet.{Block, Reporter, Packet}
 use Rattle.rfc3550.specs.Read.{Kind, RR, SR, least, readBlocks, readAs}

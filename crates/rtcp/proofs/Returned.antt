@@ -1,12 +1,5 @@
 -- Demand 3 over what the C functions returned: walks from a walk just opened, and the writer's calls from a new writer.
-use Prim.Native.Nat.{ℕ, suc, _+_, _-_, _<_}
-use mathlib.Core.Path.{_≡_, refl, sym, ap, _∙_, subst}
-use mathlib.Core.List.{List, [], _++_, map}
-use native.Mathlib.Omega.{arith}
-use borrow.Author.Tests.{ne-eqb, ltb-true}
-use lib.ListN.{length, take, drop, length-append, take-append-drop}
-use lib.Seq.{length-take-le}
-use lib.Dec.{eqb}
+use Rattle.rfc3550.proofs.Prelude.{ℕ, suc, _+_, _-_, _<_, _≡_, refl, sym, ap, _∙_, subst, List, [], _++_, map, arith, ne-eqb, ltb-true, length, take, drop, length-append, take-append-drop, length-take-le, eqb}
 use Rattle.rfc3550.specs.Answer.{Refusal, refusal, Answer, ok, refused, mapOk}
 use Rattle.rfc3550.specs.Bytes.{Bytes}
 use Rattle.rfc3550.specs.Packet.{Item, item, priv, itemType, itemBytes, Chunk, chunkBytes, chunksOf, Packet as Read}

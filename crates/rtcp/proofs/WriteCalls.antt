@@ -1,9 +1,5 @@
 -- The compound writer: what C gets of a call, from what the writer answers. Stated once, over the call.
-use Prim.Native.Nat.{ℕ}
-use borrow.Author.Needs.{needs}
-use mathlib.Core.Path.{_≡_, refl, ap, _∙_}
-use mathlib.Core.Bool.{Bool, true, false}
-use mathlib.Core.List.{List, [], _∷_}
+use Rattle.rfc3550.proofs.Prelude.{ℕ, needs, _≡_, refl, ap, _∙_, Bool, true, false, List, [], _∷_}
 use Rattle.rfc3550.specs.Answer.{Refusal, refused}
 use Rattle.rfc3550.specs.Writer.{Writer, fresh, Request, call}
 use Rattle.utils.specs.Error.{writeRefusal, codeRefusal}

@@ -1,6 +1,5 @@
 -- What C gets of a report's size: who reports does not bear on it.
-use Prim.Native.Nat.{ℕ}
-use mathlib.Core.Path.{_≡_, _∙_}
+use Rattle.rfc3550.proofs.Prelude.{ℕ, _≡_, _∙_}
 use Rattle.rfc3550.specs.Packet.{Reporter}
 use Rattle.rfc3550.specs.Write.{BlockLists, giveReport, calculateSize}
 use Rattle.utils.specs.Writer.{writtenOf}

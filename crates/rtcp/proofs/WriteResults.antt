@@ -1,9 +1,5 @@
 -- What C gets of a write and of a size, from what a kind's function answers. Stated once, over what is written.
-use Prim.Native.Nat.{ℕ}
-use mathlib.Core.Path.{_≡_, refl, sym, ap, _∙_}
-use mathlib.Core.List.{List}
-use lib.ListN.{length, length-append}
-use borrow.Author.Needs.{needs}
+use Rattle.rfc3550.proofs.Prelude.{ℕ, _≡_, refl, sym, ap, _∙_, List, length, length-append, needs}
 use Rattle.rfc3550.specs.Answer.{Refusal, Answer, refused}
 use Rattle.rfc3550.specs.Packet.{contentBytes, chunkBytes}
 use Rattle.rfc3550.specs.Write.{Given, giveApp, contentGiven, paddingGiven, packetGiven, ownTests, tests, sizeGiven, calculateSize, chunkSize}

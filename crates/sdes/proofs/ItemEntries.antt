@@ -1,11 +1,5 @@
 -- The rows of `items`: row i is entry i of the packet's chunks, by its numbers and the bytes at its places.
-use Prim.Native.Nat.{ℕ, _+_, _-_, _/_}
-use mathlib.Core.Bool.{true, false}
-use mathlib.Core.Path.{_≡_, refl, sym, ap, _∙_}
-use mathlib.Core.List.{List, [], _∷_, _++_, append-assoc}
-use native.Mathlib.Omega.{arith}
-use borrow.Author.Tests.{ne-eqb}
-use lib.ListN.{length, take, replicate, length-append}
+use Rattle.rfc3550.proofs.Prelude.{ℕ, _+_, _-_, _/_, true, false, _≡_, refl, sym, ap, _∙_, List, [], _∷_, _++_, append-assoc, arith, ne-eqb, length, take, replicate, length-append}
 use Rattle.rfc3550.specs.Answer.{Answer, ok, mapOk}
 use Rattle.rfc3550.specs.Bytes.{Bytes, be}
 use Rattle.rfc3550.specs.Packet.{Item, item, priv, itemBytes, itemsBytes, fill, Chunk, chunkBytes, chunksBytes, receiver, sender, Content, report, sdes, bye, app, unknown, Packet, paddingBit, contentBytes, layout, chunksOf, All, ItemValid, ChunkValid, Valid}

@@ -1,14 +1,5 @@
 -- The rows that the bytes of an accepted body give, from place to place, are those of the packet.
-use Prim.Native.Nat.{ℕ, zero, suc, _+_, _-_, _*_, _%_, _^_, _<_, _≤_}
-use mathlib.Core.Path.{_≡_, refl, sym, ap, _∙_, subst}
-use mathlib.Core.Bool.{Bool, true, false}
-use mathlib.Core.List.{List, [], _∷_, _++_, append-assoc}
-use native.Mathlib.Nat.{add-zero, add-assoc}
-use native.Mathlib.Omega.{arith}
-use borrow.Author.Tests.{lt-ltb, le-ltb, eq-eqb, ne-eqb, eqb-true, eqb-false}
-use lib.ListN.{length, getD, take, drop, length-append, length-drop, length-replicate}
-use lib.Seq.{drop-drop, getD-drop}
-use lib.Dec.{eqb}
+use Rattle.rfc3550.proofs.Prelude.{ℕ, zero, suc, _+_, _-_, _*_, _%_, _^_, _<_, _≤_, _≡_, refl, sym, ap, _∙_, subst, Bool, true, false, List, [], _∷_, _++_, append-assoc, add-zero, add-assoc, arith, lt-ltb, le-ltb, eq-eqb, ne-eqb, eqb-true, eqb-false, length, getD, take, drop, length-append, length-drop, length-replicate, drop-drop, getD-drop, eqb}
 use Rattle.rfc3550.specs.Answer.{ok, mapOk}
 use Rattle.rfc3550.specs.Bytes.{Bytes, val}
 use Rattle.rfc3550.specs.Packet.{Item, item, priv, itemType, itemRest, itemBytes, itemsBytes, fill, Chunk, chunkBytes, Content, sdes, chunksOf, Packet}

@@ -1,14 +1,5 @@
 -- The turns that count and lay the rows, and the cases of the whole call.
-use Prim.Native.Nat.{ℕ, zero, suc, _+_, _-_, _*_, _/_, _^_, _<_, _≤_}
-use mathlib.Core.Path.{_≡_, refl, sym, ap, _∙_, subst}
-use mathlib.Core.List.{List, [], _∷_}
-use native.Mathlib.Nat.{zero-add}
-use native.Mathlib.Omega.{arith}
-use borrow.Author.Needs.{needs}
-use borrow.Author.Tests.{le-leb, lt-leb}
-use lib.ListN.{length, getD, set, take, drop}
-use lib.Seq.{length-take-le}
-use lib.Dec.{leb}
+use Rattle.rfc3550.proofs.Prelude.{ℕ, zero, suc, _+_, _-_, _*_, _/_, _^_, _<_, _≤_, _≡_, refl, sym, ap, _∙_, subst, List, [], _∷_, zero-add, arith, needs, le-leb, lt-leb, length, getD, set, take, drop, length-take-le, leb}
 use Rattle.rfc3550.specs.Answer.{Refusal, Answer, ok, refused, refusal, mapOk}
 use Rattle.rfc3550.specs.Bytes.{store}
 use Rattle.rfc3550.specs.Packet.{Packet, fill}

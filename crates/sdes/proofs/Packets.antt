@@ -1,14 +1,5 @@
 -- The turns over a packet's chunks, and the packet.
-use Prim.Native.Nat.{ℕ, zero, suc, _+_, _-_, _<_, _≤_}
-use mathlib.Core.Path.{_≡_, refl, sym, ap, _∙_}
-use mathlib.Core.Bool.{Bool, _||_}
-use mathlib.Core.List.{List, [], _∷_}
-use native.Mathlib.Omega.{arith}
-use borrow.Author.Needs.{needs}
-use borrow.Author.Tests.{lt-ltb}
-use lib.Dec.{ltb}
-use lib.ListN.{length, take, drop, length-drop}
-use lib.Seq.{drop-drop, length-take-le}
+use Rattle.rfc3550.proofs.Prelude.{ℕ, zero, suc, _+_, _-_, _<_, _≤_, _≡_, refl, sym, ap, _∙_, Bool, _||_, List, [], _∷_, arith, needs, lt-ltb, ltb, length, take, drop, length-drop, drop-drop, length-take-le}
 use Rattle.rfc3550.specs.Answer.{Refusal, refusal, Answer, ok, refused, refuse, _>>=_, mapOk}
 use Rattle.rfc3550.specs.Packet.{some, Chunk, chunkBytes, chunkHasCname, Content, Packet, sdes, contentBytes}
 use Rattle.rfc3550.specs.Read.{SDES, lowIn, checkPacket, readChunk, readChunks, readContent, readAs}

@@ -1,11 +1,6 @@
 -- The answers of a walk over chunks, from a walk just opened: answer i gives chunk i, its fields and its bytes, and 25 once all are given. A walk
 -- over the items of these bytes gives the chunk's items (`items-returned` of sdes_chunk).
-use Prim.Native.Nat.{ℕ, _-_}
-use mathlib.Core.Path.{_≡_, refl, sym, ap, _∙_}
-use mathlib.Core.List.{List}
-use native.Mathlib.Omega.{arith}
-use lib.ListN.{length, take, drop}
-use lib.Seq.{take-all}
+use Rattle.rfc3550.proofs.Prelude.{ℕ, _-_, _≡_, refl, sym, ap, _∙_, List, arith, length, take, drop, take-all}
 use Rattle.rfc3550.specs.Answer.{ok, mapOk}
 use Rattle.rfc3550.specs.Bytes.{Bytes}
 use Rattle.rfc3550.specs.Packet.{chunkBytes, chunksOf, Packet}

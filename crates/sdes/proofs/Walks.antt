@@ -1,12 +1,5 @@
 -- The steps of the walk over a packet's chunks.
-use Prim.Native.Nat.{ℕ, zero, suc, _+_, _-_, _^_, _<_, _≤_}
-use mathlib.Core.Path.{_≡_, refl, sym, ap, _∙_}
-use mathlib.Core.List.{List, [], _∷_}
-use native.Mathlib.Omega.{arith}
-use borrow.Author.Needs.{needs}
-use borrow.Author.Tests.{lt-ltb, le-ltb}
-use lib.ListN.{length, take, drop, length-take, length-drop}
-use lib.Seq.{length-take-le, take-all}
+use Rattle.rfc3550.proofs.Prelude.{ℕ, zero, suc, _+_, _-_, _^_, _<_, _≤_, _≡_, refl, sym, ap, _∙_, List, [], _∷_, arith, needs, lt-ltb, le-ltb, length, take, drop, length-take, length-drop, length-take-le, take-all}
 use Rattle.rfc3550.specs.Answer.{Refusal, ok, refused, refuse, need, _>>_, _>>=_, mapOk}
 use Rattle.rfc3550.specs.Packet.{Chunk, chunkBytes, Packet, contentBytes}
 use Rattle.rfc3550.specs.Read.{SDES, readChunk, readAs}

@@ -1,10 +1,5 @@
 -- Laws of mapOk, and of a slice's parts.
-use Prim.Native.Nat.{ℕ, _-_}
-use mathlib.Core.Path.{_≡_, refl, sym, ap}
-use mathlib.Core.List.{List}
-use native.Mathlib.Omega.{arith}
-use lib.ListN.{length, take, drop, length-drop}
-use lib.Seq.{take-all}
+use Rattle.rfc3550.proofs.Prelude.{ℕ, _-_, _≡_, refl, sym, ap, List, arith, length, take, drop, length-drop, take-all}
 use Rattle.rfc3550.specs.Answer.{Refusal, Answer, ok, refused, _>>=_, mapOk}
 use Rattle.utils.proofs.Reading.{mapOk-refused}
 

@@ -1,17 +1,5 @@
 -- The turns over a chunk's items and over its closing zeros, and the chunk.
-use Prim.Native.Nat.{ℕ, zero, suc, _+_, _-_, _*_, _/_, _%_, _^_, _<_, _≤_}
-use mathlib.Core.Path.{_≡_, refl, sym, ap, _∙_, subst}
-use mathlib.Core.Logic.{_≢_, _↔_}
-use mathlib.Core.Bool.{Bool, true, false, _&&_, _||_}
-use lib.Dec.{ltb, eqb}
-use mathlib.Core.List.{List, [], _∷_}
-use native.Mathlib.Omega.{arith}
-use native.Mathlib.Nat.{add-zero, add-assoc}
-use native.Mathlib.Numerals.{add-one}
-use borrow.Author.Needs.{needs}
-use borrow.Author.Tests.{le-leb, lt-leb, lt-ltb, le-ltb, ltb-true, ltb-false, eq-eqb, ne-eqb, eqb-true, eqb-false, not-true, not-false}
-use lib.ListN.{length, getD, take, drop, length-append, length-drop, length-replicate, drop-of-length-le}
-use lib.Seq.{drop-cons, drop-drop, getD-drop}
+use Rattle.rfc3550.proofs.Prelude.{ℕ, zero, suc, _+_, _-_, _*_, _/_, _%_, _^_, _<_, _≤_, _≡_, refl, sym, ap, _∙_, subst, _≢_, _↔_, Bool, true, false, _&&_, _||_, ltb, eqb, List, [], _∷_, arith, add-zero, add-assoc, add-one, needs, le-leb, lt-leb, lt-ltb, le-ltb, ltb-true, ltb-false, eq-eqb, ne-eqb, eqb-true, eqb-false, not-true, not-false, length, getD, take, drop, length-append, length-drop, length-replicate, drop-of-length-le, drop-cons, drop-drop, getD-drop}
 use Rattle.rfc3550.specs.Answer.{Refusal, refusal, Answer, ok, refused, refuse, need, _>>_, _>>=_, mapOk, pick}
 use Rattle.rfc3550.specs.Bytes.{val}
 use Rattle.rfc3550.specs.Packet.{Item, itemType, itemRest, itemBytes, itemsBytes, isCname, some, Chunk, chunkBytes, chunkHasCname, fill}

@@ -1,14 +1,5 @@
 -- The steps of reading an item, each from what the code has tested.
-use Prim.Native.Nat.{ℕ, zero, suc, _+_, _-_, _^_, min, _<_, _≤_}
-use mathlib.Core.Path.{_≡_, refl, sym, ap, _∙_}
-use mathlib.Core.List.{List, [], _∷_, _++_}
-use native.Mathlib.Omega.{arith}
-use borrow.Author.Needs.{needs}
-use borrow.Author.Tests.{le-leb, lt-leb, leb-true, leb-false, lt-ltb, le-ltb, ltb-true, ltb-false, eq-eqb, ne-eqb, eqb-true, eqb-false}
-use mathlib.Core.Bool.{Bool, true, false}
-use lib.Dec.{leb, ltb, eqb}
-use lib.ListN.{length, getD, take, drop, length-drop, take-append-drop, drop-of-length-le}
-use lib.Seq.{length-take-le}
+use Rattle.rfc3550.proofs.Prelude.{ℕ, zero, suc, _+_, _-_, _^_, min, _<_, _≤_, _≡_, refl, sym, ap, _∙_, List, [], _∷_, _++_, arith, needs, le-leb, lt-leb, leb-true, leb-false, lt-ltb, le-ltb, ltb-true, ltb-false, eq-eqb, ne-eqb, eqb-true, eqb-false, Bool, true, false, leb, ltb, eqb, length, getD, take, drop, length-drop, take-append-drop, drop-of-length-le, length-take-le}
 use Rattle.rfc3550.specs.Answer.{Refusal, refusal, Answer, ok, refused, refuse, need, _>>_, _>>=_, mapOk}
 use Rattle.rfc3550.specs.Packet.{Item, item, priv, itemType, itemBytes}
 use Rattle.rfc3550.specs.Read.{readItem, itemOf, readPrefix}

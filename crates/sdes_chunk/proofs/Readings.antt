@@ -1,14 +1,5 @@
 -- What an accepted item and an accepted chunk say of the bytes that they were read from, whatever these are.
-use Prim.Native.Nat.{ℕ, zero, suc, _+_, _-_, _<_, _≤_}
-use mathlib.Core.Path.{_≡_, refl, sym, ap, _∙_, subst}
-use mathlib.Core.Bool.{Bool, true, false}
-use mathlib.Core.List.{List, [], _∷_, _++_, append-assoc}
-use native.Mathlib.Omega.{arith}
-use native.Mathlib.Nat.{add-zero, add-assoc}
-use lib.ListN.{length, take, drop, replicate, length-append, length-drop, take-append-drop}
-use lib.Seq.{length-take-le, take-append-seam, drop-append-seam, drop-drop}
-use lib.Dec.{leb, eqb}
-use borrow.Author.Tests.{leb-true, eqb-true, eq-eqb}
+use Rattle.rfc3550.proofs.Prelude.{ℕ, zero, suc, _+_, _-_, _<_, _≤_, _≡_, refl, sym, ap, _∙_, subst, Bool, true, false, List, [], _∷_, _++_, append-assoc, arith, add-zero, add-assoc, length, take, drop, replicate, length-append, length-drop, take-append-drop, length-take-le, take-append-seam, drop-append-seam, drop-drop, leb, eqb, leb-true, eqb-true, eq-eqb}
 use Rattle.rfc3550.specs.Answer.{refusal, Answer, ok, refused, refuse, need, _>>=_, _>>_, mapOk}
 use Rattle.rfc3550.specs.Packet.{Item, item, priv, itemType, itemRest, itemBytes, itemsBytes, fill, Chunk, chunkBytes, chunksBytes}
 use Rattle.rfc3550.specs.Read.{itemOf, readItem, readItems, readChunk, readChunks, prefixOf, readPrefix}

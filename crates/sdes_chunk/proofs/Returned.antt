@@ -1,12 +1,5 @@
 -- The answers of a walk over items, from a walk just opened: answer i gives item i with every field, and 25 once all are given.
-use Prim.Native.Nat.{ℕ, suc, _+_, _-_, _<_}
-use mathlib.Core.Path.{_≡_, refl, sym, ap, _∙_, subst}
-use mathlib.Core.List.{List, _++_}
-use native.Mathlib.Omega.{arith}
-use borrow.Author.Tests.{ltb-true}
-use lib.ListN.{length, take, drop, length-append, take-append-drop}
-use lib.Seq.{length-take-le}
-use lib.Dec.{eqb}
+use Rattle.rfc3550.proofs.Prelude.{ℕ, suc, _+_, _-_, _<_, _≡_, refl, sym, ap, _∙_, subst, List, _++_, arith, ltb-true, length, take, drop, length-append, take-append-drop, length-take-le, eqb}
 use Rattle.rfc3550.specs.Answer.{ok, mapOk}
 use Rattle.rfc3550.specs.Bytes.{Bytes}
 use Rattle.rfc3550.specs.Packet.{Item, item, priv, itemType, itemBytes, Chunk}

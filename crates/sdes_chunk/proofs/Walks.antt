@@ -1,13 +1,5 @@
 -- The steps of the walk over a chunk's items.
-use Prim.Native.Nat.{ℕ, _-_, _<_, _≤_}
-use native.Mathlib.Omega.{arith}
-use mathlib.Core.Path.{_≡_, refl, sym, ap, _∙_}
-use mathlib.Core.Bool.{not}
-use mathlib.Core.List.{List}
-use lib.Dec.{ltb, eqb}
-use borrow.Author.Needs.{needs}
-use borrow.Author.Tests.{lt-ltb, ne-eqb}
-use lib.ListN.{length, getD, take, drop}
+use Rattle.rfc3550.proofs.Prelude.{ℕ, _-_, _<_, _≤_, arith, _≡_, refl, sym, ap, _∙_, not, List, ltb, eqb, needs, lt-ltb, ne-eqb, length, getD, take, drop}
 use Rattle.rfc3550.specs.Answer.{Refusal, Answer, ok, refused, need, _>>_, _>>=_, mapOk}
 use Rattle.rfc3550.specs.Packet.{Item}
 use Rattle.rfc3550.specs.Read.{readItem, readChunk}

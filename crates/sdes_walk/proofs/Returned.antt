@@ -1,8 +1,5 @@
 -- The answers of a walk that holds its bytes, from a walk just opened: answer i gives chunk i, its fields and its bytes, and 25 once all are given.
-use Prim.Native.Nat.{ℕ}
-use mathlib.Core.Path.{_≡_, refl, sym, ap, _∙_}
-use mathlib.Core.List.{List}
-use lib.ListN.{length, take, drop}
+use Rattle.rfc3550.proofs.Prelude.{ℕ, _≡_, refl, sym, ap, _∙_, List, length, take, drop}
 use denote.Ref.{RefT, now}
 use Rattle.rfc3550.specs.Answer.{Answer, ok, refused, mapOk}
 use Rattle.rfc3550.specs.Bytes.{Bytes}

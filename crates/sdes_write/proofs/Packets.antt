@@ -1,12 +1,5 @@
 -- The cases of a packet's lists, of its size and of its bytes, each from what the code has tested or called.
-use Prim.Native.Nat.{ℕ, suc, _+_, _-_, _*_, _<_, _≤_, _^_}
-use mathlib.Core.Path.{_≡_, refl, sym, ap, _∙_}
-use mathlib.Core.Bool.{Bool, true, false, _&&_}
-use mathlib.Core.List.{List, [], _∷_}
-use native.Mathlib.Omega.{arith}
-use borrow.Author.Tests.{le-leb, lt-leb, leb-true, leb-false, eq-eqb, ne-eqb, eqb-true, eqb-false, not-true, not-false}
-use lib.ListN.{length, take, drop, getD}
-use lib.Dec.{leb, eqb}
+use Rattle.rfc3550.proofs.Prelude.{ℕ, suc, _+_, _-_, _*_, _<_, _≤_, _^_, _≡_, refl, sym, ap, _∙_, Bool, true, false, _&&_, List, [], _∷_, arith, le-leb, lt-leb, leb-true, leb-false, eq-eqb, ne-eqb, eqb-true, eqb-false, not-true, not-false, length, take, drop, getD, leb, eqb}
 use Rattle.rfc3550.specs.Answer.{Refusal, Answer, ok, refused, refusal, need, _>>_, pick}
 use Rattle.rfc3550.specs.Bytes.{sum, store}
 use Rattle.rfc3550.specs.Packet.{sdes, contentBytes, layout}

@@ -1,11 +1,5 @@
 -- A lent list that was filled: the numbers stand at its start, as many as the call says.
-use Prim.Native.Nat.{ℕ}
-use mathlib.Core.Bool.{Bool, true, false}
-use mathlib.Core.Path.{_≡_, refl, sym, ap, _∙_}
-use mathlib.Core.List.{List}
-use lib.ListN.{length, take, drop}
-use lib.Seq.{take-at}
-use lib.Dec.{leb}
+use Rattle.rfc3550.proofs.Prelude.{ℕ, Bool, true, false, _≡_, refl, sym, ap, _∙_, List, length, take, drop, take-at, leb}
 use Rattle.rfc3550.specs.Answer.{Answer, ok, refused}
 use Rattle.rfc3550.proofs.Answers.{ok-injective, refused≢ok}
 use Rattle.rfc3550.proofs.Bytes.{store-front}

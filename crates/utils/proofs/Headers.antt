@@ -1,15 +1,5 @@
 -- The cases of the header's steps, each from what a reader has tested, in numbers and why, and what an accepted header tells.
-use borrow.Author.Needs.{needs}
-use mathlib.Core.Path.{_≡_, refl, ap, _∙_, sym}
-use mathlib.Core.Bool.{Bool, true, false, _&&_}
-use mathlib.Core.List.{List, [], _∷_}
-use mathlib.Core.Logic.{⊎-elim}
-use Prim.Native.Nat.{ℕ, _+_, _-_, _%_, _<_, _≤_}
-use native.Mathlib.Nat.{sub-zero}
-use native.Mathlib.Omega.{arith}
-use borrow.Author.Tests.{lt-ltb, le-leb, lt-leb, eq-eqb, ne-eqb, leb-true, not-true, not-false}
-use lib.ListN.{length, getD}
-use lib.Dec.{leb, ltb, eqb}
+use Rattle.rfc3550.proofs.Prelude.{needs, _≡_, refl, ap, _∙_, sym, Bool, true, false, _&&_, List, [], _∷_, ⊎-elim, ℕ, _+_, _-_, _%_, _<_, _≤_, sub-zero, arith, lt-ltb, le-leb, lt-leb, eq-eqb, ne-eqb, leb-true, not-true, not-false, length, getD, leb, ltb, eqb}
 use Rattle.rfc3550.specs.Answer.{Refusal, refusal, ok, refuse, need, _>>_}
 use Rattle.rfc3550.specs.Read.{versionIn, padded, lowIn, typeIn, stated, paddingCount, paddingFits, checkHeader}
 use Rattle.rfc3550.proofs.Answers.{need-inv, ok-injective, and-inv, or-inv}

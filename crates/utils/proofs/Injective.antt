@@ -1,7 +1,5 @@
 -- The interpretations lose nothing: each has an inverse on what it gives.
-use mathlib.Core.Path.{_≡_, refl, ap, _∙_, sym}
-use Prim.Native.Nat.{ℕ}
-use lib.Dec.{eqb}
+use Rattle.rfc3550.proofs.Prelude.{_≡_, refl, ap, _∙_, sym, ℕ, eqb}
 use Rattle.rfc3550.specs.Answer.{Refusal, refusal, Answer, ok, refused, pick}
 use Rattle.utils.specs.Error.{numberIn, parseRefusal, writeRefusal, codeRefusal}
 use Rattle.utils.specs.declared.error.RtcpParseError.{RtcpParseError}

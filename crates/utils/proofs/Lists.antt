@@ -1,10 +1,5 @@
 -- Numbers handed over into a lent list: each case from what the code has tested.
-use Prim.Native.Nat.{ℕ, _<_, _≤_}
-use mathlib.Core.Path.{_≡_}
-use mathlib.Core.List.{List}
-use native.Mathlib.Omega.{arith}
-use borrow.Author.Tests.{le-leb, lt-leb}
-use lib.ListN.{length}
+use Rattle.rfc3550.proofs.Prelude.{ℕ, _<_, _≤_, _≡_, List, arith, le-leb, lt-leb, length}
 use Rattle.rfc3550.specs.Answer.{Refusal, refusal, Answer, ok, refused}
 use Rattle.rfc3550.specs.Bytes.{store}
 use Rattle.utils.specs.List.{layList}

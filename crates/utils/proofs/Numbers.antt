@@ -1,12 +1,5 @@
 -- Numbers of several bytes, over their widths.
-use mathlib.Core.Path.{_≡_, refl, _∙_}
-use mathlib.Core.List.{List, [], _∷_, _++_}
-use Prim.Native.Nat.{ℕ, zero, suc, _+_, _*_, _^_, _≤_}
-use native.Mathlib.Nat.{mul-assoc, add-mul}
-use native.Mathlib.Omega.{arith}
-use lib.ListN.{length, take, drop, getD, length-append, length-drop}
-use lib.Pow.{pow-add}
-use lib.Seq.{take-add, drop-drop, length-take-le}
+use Rattle.rfc3550.proofs.Prelude.{_≡_, refl, _∙_, List, [], _∷_, _++_, ℕ, zero, suc, _+_, _*_, _^_, _≤_, mul-assoc, add-mul, arith, length, take, drop, getD, length-append, length-drop, pow-add, take-add, drop-drop, length-take-le}
 use Rattle.rfc3550.specs.Bytes.{val}
 
 pub val-append : (a b : List ℕ) → val (a ++ b) ≡ val a * 256 ^ length b + val b

@@ -1,16 +1,5 @@
 -- Parts of a list, fields of a part, and elements by index.
-use mathlib.Core.Path.{_≡_, refl, ap, _∙_, sym}
-use mathlib.Core.Bool.{Bool, true, false}
-use mathlib.Core.List.{List, [], _∷_}
-use mathlib.Core.Logic.{_⊎_, inl, inr}
-use Prim.Native.Nat.{ℕ, zero, suc, _+_, _-_, _*_, _<_, _≤_}
-use native.Mathlib.Nat.{sub-zero, zero-sub, suc-sub-suc, mul-suc, mul-zero}
-use native.Mathlib.Omega.{arith}
-use borrow.Author.Needs.{needs}
-use borrow.Author.Tests.{ltb-true, ltb-false}
-use lib.Dec.{ltb}
-use lib.ListN.{length, take, drop, replicate, length-drop}
-use lib.Seq.{take-nil, take-all, take-take, drop-drop, length-take-le}
+use Rattle.rfc3550.proofs.Prelude.{_≡_, refl, ap, _∙_, sym, Bool, true, false, List, [], _∷_, _⊎_, inl, inr, ℕ, zero, suc, _+_, _-_, _*_, _<_, _≤_, sub-zero, zero-sub, suc-sub-suc, mul-suc, mul-zero, arith, needs, ltb-true, ltb-false, ltb, length, take, drop, replicate, length-drop, take-nil, take-all, take-take, drop-drop, length-take-le}
 use Rattle.rfc3550.specs.Answer.{ok, refuse}
 use Rattle.rfc3550.specs.Bytes.{val, get, sum}
 use Rattle.rfc3550.specs.Packet.{blockWidths}

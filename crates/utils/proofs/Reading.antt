@@ -1,10 +1,5 @@
 -- A packet of a kind, from its header on: the header's answer first, then the content's, over the kind.
-use mathlib.Core.Path.{_≡_, refl, ap, _∙_, sym}
-use mathlib.Core.List.{List, []}
-use Prim.Native.Nat.{ℕ, _-_, _<_, _≤_}
-use native.Mathlib.Omega.{arith}
-use lib.ListN.{length, take, drop, length-drop}
-use lib.Seq.{take-all}
+use Rattle.rfc3550.proofs.Prelude.{_≡_, refl, ap, _∙_, sym, List, [], ℕ, _-_, _<_, _≤_, arith, length, take, drop, length-drop, take-all}
 use Rattle.rfc3550.specs.Answer.{Refusal, Answer, ok, refused, _>>=_, mapOk}
 use Rattle.rfc3550.specs.Packet.{Content, Packet}
 use Rattle.rfc3550.specs.Read.{Kind, SR, RR, SDES, BYE, APP, UNKNOWN, least, lowIn, typeIn, checkPacket, readContent, readAs}

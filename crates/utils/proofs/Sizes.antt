@@ -1,11 +1,5 @@
 -- Writing, numbers first: what a size or 0, and why there is none, say of the size's answer and of the write, over what is given.
-use Prim.Native.Nat.{ℕ, _<_, _≤_}
-use mathlib.Core.Path.{_≡_, refl, sym, ap, _∙_}
-use mathlib.Core.Bool.{Bool, true, false}
-use mathlib.Core.List.{List}
-use native.Mathlib.Omega.{arith}
-use lib.ListN.{length}
-use lib.Dec.{leb}
+use Rattle.rfc3550.proofs.Prelude.{ℕ, _<_, _≤_, _≡_, refl, sym, ap, _∙_, Bool, true, false, List, arith, length, leb}
 use Rattle.rfc3550.specs.Answer.{Refusal, refusal, Answer, ok, refused, need, _>>_, _>>=_}
 use Rattle.rfc3550.specs.Bytes.{store}
 use Rattle.rfc3550.specs.Packet.{layout}

@@ -1,7 +1,5 @@
 -- Numbers first: what a value or none says of the answer, where a number of it is 0 exactly for none.
-use Prim.Native.Nat.{ℕ, _<_}
-use mathlib.Core.Path.{_≡_, refl, sym, ap, _∙_}
-use native.Mathlib.Omega.{arith}
+use Rattle.rfc3550.proofs.Prelude.{ℕ, _<_, _≡_, refl, sym, ap, _∙_, arith}
 use Rattle.rfc3550.specs.Answer.{Refusal, Answer, ok, refused, mapOk}
 use Rattle.utils.specs.Error.{refusalIn, valueOr, orZero}
 

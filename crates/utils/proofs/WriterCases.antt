@@ -1,16 +1,5 @@
 -- The cases of what `writer` lays down, each from what the code has tested or called.
-use borrow.Author.Needs.{needs}
-use Prim.Native.Nat.{ℕ, zero, suc, _+_, _-_, _*_, _/_, _%_, _^_, _<_, _≤_}
-use mathlib.Core.Path.{_≡_, refl, sym, ap, _∙_}
-use mathlib.Core.Bool.{Bool, true, false}
-use mathlib.Core.List.{List, [], _∷_, _++_}
-use native.Mathlib.Nat.{div-one}
-use native.Mathlib.Numerals.{add-one}
-use native.Mathlib.Omega.{arith}
-use borrow.Author.Tests.{eq-eqb, ne-eqb, ltb-true, ltb-false, le-leb, lt-leb}
-use lib.ListN.{length, take, drop, set, getD, replicate, length-drop, length-set, length-replicate, replicate-append-replicate}
-use lib.Seq.{drop-cons, drop-drop, take-add, take-length, length-take-le}
-use lib.Dec.{leb, ltb}
+use Rattle.rfc3550.proofs.Prelude.{needs, ℕ, zero, suc, _+_, _-_, _*_, _/_, _%_, _^_, _<_, _≤_, _≡_, refl, sym, ap, _∙_, Bool, true, false, List, [], _∷_, _++_, div-one, add-one, arith, eq-eqb, ne-eqb, ltb-true, ltb-false, le-leb, lt-leb, length, take, drop, set, getD, replicate, length-drop, length-set, length-replicate, replicate-append-replicate, drop-cons, drop-drop, take-add, take-length, length-take-le, leb, ltb}
 use Rattle.rfc3550.specs.Bytes.{be, val, store}
 use Rattle.rfc3550.specs.Packet.{paddingBit}
 use Rattle.rfc3550.specs.Write.{paddingOk, paddingBytes}

@@ -1,12 +1,5 @@
 -- A write of anything that has a size and bytes, and a packet laid as header, content, padding.
-use Prim.Native.Nat.{ℕ, suc, _+_, _-_, _/_, _%_, _<_, _≤_}
-use mathlib.Core.Path.{_≡_, sym, ap, _∙_}
-use mathlib.Core.List.{List, _++_}
-use mathlib.Core.Bool.{Bool, true}
-use native.Mathlib.Omega.{arith}
-use lib.ListN.{length, length-append}
-use lib.Dec.{leb, eqb}
-use borrow.Author.Tests.{le-leb, lt-leb, leb-true}
+use Rattle.rfc3550.proofs.Prelude.{ℕ, suc, _+_, _-_, _/_, _%_, _<_, _≤_, _≡_, sym, ap, _∙_, List, _++_, Bool, true, arith, length, length-append, leb, eqb, le-leb, lt-leb, leb-true}
 use Rattle.rfc3550.specs.Answer.{Answer, ok, refused, refusal, need, _>>_, _>>=_}
 use Rattle.rfc3550.specs.Bytes.{store}
 use Rattle.rfc3550.specs.Packet.{Content, contentBytes, lowBits, type, layout}

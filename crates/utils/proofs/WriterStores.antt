@@ -1,13 +1,5 @@
 -- Laws of `store`: a chain of stores is one store, and what straight-line code and loops leave is a store.
-use Prim.Native.Nat.{ℕ, zero, suc, _+_, _-_, _*_, _/_, _%_, _^_, _<_, _≤_}
-use mathlib.Core.Path.{_≡_, refl, sym, ap, _∙_}
-use mathlib.Core.List.{List, [], _∷_, _++_, append-assoc, append-nil}
-use native.Mathlib.Nat.{add-assoc, add-zero, add-suc, pow-suc, zero-add, one-le-pow, mod-lt, mod-eq-of-lt, mul-comm, div-one}
-use native.Mathlib.Numerals.{add-one}
-use native.Mathlib.Omega.{arith}
-use lib.ListN.{length, take, drop, set, getD, length-append, length-drop, take-append-drop, drop-of-length-le}
-use lib.Seq.{sets, sets-eq, length-take-le, take-at, drop-at, drop-drop, drop-append-add, set-at, drop-cons, take-all}
-use lib.Arith.{digits-div, digits-mod, mod-mul}
+use Rattle.rfc3550.proofs.Prelude.{ℕ, zero, suc, _+_, _-_, _*_, _/_, _%_, _^_, _<_, _≤_, _≡_, refl, sym, ap, _∙_, List, [], _∷_, _++_, append-assoc, append-nil, add-assoc, add-zero, add-suc, pow-suc, zero-add, one-le-pow, mod-lt, mod-eq-of-lt, mul-comm, div-one, add-one, arith, length, take, drop, set, getD, length-append, length-drop, take-append-drop, drop-of-length-le, sets, sets-eq, length-take-le, take-at, drop-at, drop-drop, drop-append-add, set-at, drop-cons, take-all, digits-div, digits-mod, mod-mul}
 use Rattle.rfc3550.specs.Bytes.{be, store}
 use Rattle.rfc3550.proofs.Bytes.{length-store}
 

@@ -1,6 +1,4 @@
-use mathlib.Core.Path.{refl}
-use borrow.Author.Tests.{not-true, not-false}
-use lib.ListN.{length}
+use Rattle.rfc3550.proofs.Prelude.{refl, not-true, not-false, length}
 use Rattle.utils.specs.declared.writer.Written.the-variants.{Refused}
 use Rattle.utils.proofs.Values.{number-came}
 use Rattle.report_write.specs.Report.{countedSize}

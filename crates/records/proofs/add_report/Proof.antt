@@ -1,11 +1,10 @@
 -- `add_report` meets its contract: a walk of its MIR, by hand. `tested_loss` reads the blocks lent, `add_frame` answers and lays what stands around them, `write_blocks_unchecked` lays them, and `conclude` says the writer after it.
 use Rattle.by_hand.proofs.Walking.{_≡_, refl, _∙_, List, [], _∷_, ℕ, _-_, _*_, _<_, _≤_, _^_, length, LentAgain, lends-again, comes-back, contractOf, calls-with, calls-plain, calls-lent, callsOf, loopsOf, framed, meets, URA, fullShare, named, w32, w64, Val, vint, SProp, ent, via, fst∗, emp, id⊢, Lft, Share, Fml, ftrue, flft, GName, Heap, WpFn, Atoms, factI, givenOf, GhostRules, Running, Model, Given, Item, ‵, raw, some, later, _⊛_, ⋆, _$_, _∵_, !, qed, move, drop, use1, use2, split, join, pick, fsplit, fjoin, suffices, frame, await, done, keep, use3, feqL, whole, sub, look-in, agg, look, init, forget, stop, fld, from, load, of-opd, and-then, no-more, assigns, land, returns, enter, alloc1, alloc0, params1, pass1, pass0, free1, free0, store, hop, addr, RattleType, owns, Is, uint-makes, uint-vals, uint-tells, uint-lawful, nothing-lawful, nothing-vals, nothing-tells, u32, u64, usize, u8, RefT, now, sliceVal, ShrSlice, Room, slice-vals, shr-slice-tells, shr-slice-copy, MutSlice, mut-slice-tells, plain, owned, nothing, onEntry, cited, says, Stays, stay-none-slice, stay-none, walkOf, goes-none-slice, goes-none, ends-at, walked, gave-slice, goes-gave-slice, yes, lft-new, lft-end}
-use lib.ListN.{take}
+use Rattle.rfc3550.proofs.Prelude.{take, true}
 use denote.Enum.Laws as EL
 use denote.Struct.Laws as LL
 use Rattle.rfc3550.specs.Bytes.{store as stored}
 use Rattle.rfc3550.specs.Packet.{blocksBytes}
-use mathlib.Core.Bool.{true}
 use Rattle.utils.specs.Writer.{writtenOf}
 use Rattle.compound_write.specs.Writer.{writerOf, callOf}
 use Rattle.compound_write.specs.declared.writer.Writer.{Writer}

@@ -1,7 +1,6 @@
 -- `write_blocks_unchecked` meets its contract: a walk of its MIR, by hand, with a loop that counts the blocks. Each block is read where it stands, and buf is lent again to lay it.
 use Rattle.by_hand.proofs.Walking.{_≡_, refl, sym, _∙_, subst, Bool, List, [], _∷_, ℕ, _+_, _-_, _*_, _<_, _≤_, _^_, arith, length, getD, lit<, LentAgain, lends-again, comes-back, contractOf, calls-with, calls-lent, counting, callsOf, loopsOf, framed, meets, URA, fullShare, named, w64, tyInt, Ty, imm, tyBool, tyRef, loop, erased, mut, w8, tyUnit, Val, vint, vbool, vunit, SProp, ent, id⊢, Lft, Share, Fml, ftrue, flft, fat, froom, fdies, GName, Heap, WpFn, Out, Env, afterSeq, afterBlock, Wp, atReturn, Atoms, givenOf, GhostRules, Running, Model, Given, Item, ‵, raw, some, later, _⊛_, ⋆, _$_, _∵_, !, qed, by, move, drop, use1, use2, split, join, pick, rewrite, fsplit, fjoin, suffices, frame, await, done, anyQ, atRet, keep, use3, feqL, feqI, whole, sub, look-in, agg, look, init, forget, stop, fld, from, load, of-opd, and-then, no-more, assigns, land, returns, enter, alloc1, alloc0, params1, pass1, pass0, free1, free0, store, lit, bin, assigns-last, stays, leaves-loop, exec, hop, addr, unit-lit, RattleType, owns, Is, uint-makes, uint-vals, uint-tells, nothing-lawful, nothing-vals, nothing-tells, usize, u8, RefT, now, sliceVal, ShrSlice, Room, slice-vals, shr-slice-tells, shr-slice-copy, sliceTy, MutSlice, mut-slice-tells, plain, owned, nothing, onEntry, cited, says, Stays, stay-none-slice, stay-none, walkOf, goes-none-slice, goes-none, ends-at, walked, needs, stay-slice, goes-slice, yes, pointee, lft-new, lft-end, afterTurn}
-use native.Mathlib.Numerals.{add-one}
-use borrow.Author.Tests.{lt-ltb, le-ltb}
+use Rattle.rfc3550.proofs.Prelude.{add-one, lt-ltb, le-ltb}
 use denote.Struct.Laws as LL
 use Rattle.rfc3550.specs.Bytes.{put, store as stored}
 use Rattle.rfc3550.specs.Packet.{blockWidths, blockFields}

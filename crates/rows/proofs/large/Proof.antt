@@ -1,6 +1,4 @@
-use mathlib.Core.Path.{sym}
-use Prim.Native.Nat.{ℕ}
-use lib.ListN.{length-replicate}
+use Rattle.rfc3550.proofs.Prelude.{sym, ℕ, length-replicate}
 use Rattle.rows.proofs.large.Tie as tie
 
 pub large-spec : {M : Type 1} → Rattle.rows.proofs.large.Statement.statement M

@@ -1,5 +1,4 @@
-use borrow.Author.Needs.{needs}
-use mathlib.Core.Path.{_≡_, refl}
+use Rattle.rfc3550.proofs.Prelude.{needs, _≡_, refl}
 use Rattle.utils.specs.declared.error.RtcpParseError.{RtcpParseError}
 use Rattle.sdes.specs.declared.sdes.OpenedChunks.{OpenedChunks}
 use Rattle.sdes.specs.declared.sdes.OpenedChunks.the-variants as opened

@@ -1,7 +1,6 @@
 use Rattle.sdes_write.proofs.Packets.{sdess}
 use Rattle.utils.proofs.WriterPackets.{padding-most}
-use native.Mathlib.Omega.{arith}
-use borrow.Author.Tests.{not-false}
+use Rattle.rfc3550.proofs.Prelude.{arith, not-false}
 use Rattle.sdes_write.proofs.end_of.Tie as tie
 
 sub-chunks-end-unchecked : tie.Need-sub-chunks-end-unchecked

@@ -1,7 +1,5 @@
 use Rattle.rfc3550.specs.Write.{ascii}
-use lib.ListN.{length, drop}
-use mathlib.Core.Path.{_≡_}
-use Prim.Native.Nat.{_≤_, _-_}
+use Rattle.rfc3550.proofs.Prelude.{length, drop, _≡_, _≤_, _-_}
 use Rattle.app.proofs.Writes.{writes}
 use Rattle.app.proofs.write.is_ascii.Tie as tie
 

@@ -1,5 +1,4 @@
-use native.Mathlib.Omega.{arith}
-use borrow.Author.Tests.{not-false}
+use Rattle.rfc3550.proofs.Prelude.{arith, not-false}
 use Rattle.utils.proofs.WriterPackets.{padding-most}
 use Rattle.bye.proofs.Writes.{writes, bye-size}
 use Rattle.bye.proofs.write.size_of.Tie as tie

@@ -1,5 +1,4 @@
-use Prim.Native.Nat.{_-_}
-use lib.ListN.{length}
+use Rattle.rfc3550.proofs.Prelude.{_-_, length}
 use Rattle.bye.proofs.Writes.{writes, Sources}
 use Rattle.bye.proofs.write.write_sources.Tie as tie
 

@@ -1,5 +1,4 @@
-use Prim.Native.Nat.{_-_}
-use lib.ListN.{length}
+use Rattle.rfc3550.proofs.Prelude.{_-_, length}
 use Rattle.chunk_write.proofs.Sizes.{ends, Counting}
 use Rattle.chunk_write.proofs.chunks.chunks_end_unchecked.Tie as tie
 

@@ -1,7 +1,5 @@
-use Prim.Native.Nat.{_-_}
-use lib.ListN.{length}
+use Rattle.rfc3550.proofs.Prelude.{_-_, length, arith}
 use Rattle.chunk_write.proofs.Laying.{chunks, Chunking, chunking-asks, chunking-place}
-use native.Mathlib.Omega.{arith}
 use Rattle.chunk_write.proofs.chunks.write_chunks_unchecked.Tie as tie
 
 abbrev Inv-loop : tie.InvT-loop

@@ -1,6 +1,5 @@
-use native.Mathlib.Omega.{arith}
+use Rattle.rfc3550.proofs.Prelude.{arith, needs}
 use Rattle.chunk_write.proofs.Items.{priv-fits, plain-fits, priv-done, plain-done}
-use borrow.Author.Needs.{needs}
 use Rattle.chunk_write.proofs.item.write_into_unchecked.Tie as tie
 
 write-priv-requires : tie.Need-write-priv-requires

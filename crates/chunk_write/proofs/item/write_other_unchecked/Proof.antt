@@ -1,8 +1,5 @@
-use lib.ListN.{length-set}
-use mathlib.Core.Path.{_∙_}
-use native.Mathlib.Omega.{arith}
+use Rattle.rfc3550.proofs.Prelude.{length-set, _∙_, arith, needs}
 use Rattle.chunk_write.proofs.Items.{items}
-use borrow.Author.Needs.{needs}
 use Rattle.chunk_write.proofs.item.write_other_unchecked.Tie as tie
 
 slice-write-buf-2 : tie.Need-slice-write-buf-2

@@ -1,5 +1,4 @@
-use lib.ListN.{length-set}
-use native.Mathlib.Omega.{arith}
+use Rattle.rfc3550.proofs.Prelude.{length-set, arith}
 use Rattle.chunk_write.proofs.Items.{items}
 use Rattle.chunk_write.proofs.item.write_priv_head.Tie as tie
 

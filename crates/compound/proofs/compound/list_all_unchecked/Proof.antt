@@ -1,6 +1,4 @@
-use Prim.Native.Nat.{ℕ, _-_, _*_, _<_, _≤_}
-use lib.ListN.{length, getD}
-use native.Mathlib.Omega.{arith}
+use Rattle.rfc3550.proofs.Prelude.{ℕ, _-_, _*_, _<_, _≤_, length, getD, arith}
 use Rattle.compound.proofs.Listing.{listings, Rows}
 use Rattle.compound.proofs.compound.list_all_unchecked.Tie as tie
 

@@ -1,5 +1,4 @@
-use native.Mathlib.Omega.{arith}
-use lib.ListN.{length-set}
+use Rattle.rfc3550.proofs.Prelude.{arith, length-set}
 use Rattle.compound.proofs.Listing.{listings}
 use Rattle.compound.proofs.compound.list_packet_unchecked.Tie as tie
 

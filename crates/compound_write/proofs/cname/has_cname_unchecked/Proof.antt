@@ -1,5 +1,4 @@
-use Prim.Native.Nat.{_-_}
-use lib.ListN.{length}
+use Rattle.rfc3550.proofs.Prelude.{_-_, length}
 use Rattle.compound_write.proofs.Names.{Testing, namings}
 use Rattle.compound_write.proofs.cname.has_cname_unchecked.Tie as tie
 

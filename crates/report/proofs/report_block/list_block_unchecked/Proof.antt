@@ -1,6 +1,5 @@
 use Rattle.report.proofs.Blocks.{blocks}
-use native.Mathlib.Omega.{arith}
-use lib.ListN.{length-set}
+use Rattle.rfc3550.proofs.Prelude.{arith, length-set}
 use Rattle.report.proofs.report_block.list_block_unchecked.Tie as tie
 
 slice-write-words-2 : tie.Need-slice-write-words-2

@@ -1,6 +1,4 @@
-use Prim.Native.Nat.{_-_, _≤_}
-use mathlib.Core.Path.{_≡_}
-use lib.ListN.{length, drop}
+use Rattle.rfc3550.proofs.Prelude.{_-_, _≤_, _≡_, length, drop}
 use Rattle.rfc3550.specs.Loss.{lossIn}
 use Rattle.report_write.specs.Report.{testedLoss}
 use Rattle.report_write.proofs.Blocks.{blocks}

@@ -1,6 +1,4 @@
-use Prim.Native.Nat.{_-_, _*_, _≤_}
-use mathlib.Core.Path.{_≡_}
-use lib.ListN.{length}
+use Rattle.rfc3550.proofs.Prelude.{_-_, _*_, _≤_, _≡_, length}
 use Rattle.rfc3550.specs.Write.{lentBlocks}
 use Rattle.report_write.proofs.Blocks.{Blocks, blocks}
 use Rattle.report_write.proofs.report_block.write_blocks_unchecked.Tie as tie

@@ -1,5 +1,4 @@
-use Prim.Native.Nat.{_-_, _≤_}
-use borrow.Author.Needs.{needs}
+use Rattle.rfc3550.proofs.Prelude.{_-_, _≤_, needs}
 use Rattle.rows.proofs.forms.chunk.Tie as tie
 
 abbrev Inv-loop : tie.InvT-loop

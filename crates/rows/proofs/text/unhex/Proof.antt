@@ -1,7 +1,4 @@
-use Prim.Native.Nat.{_-_, _≤_}
-use mathlib.Core.Path.{_≡_}
-use lib.ListN.{length}
-use borrow.Author.Needs.{needs}
+use Rattle.rfc3550.proofs.Prelude.{_-_, _≤_, _≡_, length, needs}
 use Rattle.rows.proofs.text.unhex.Tie as tie
 
 abbrev Inv-loop : tie.InvT-loop

@@ -1,9 +1,8 @@
-use mathlib.Core.Path.{refl}
+use Rattle.rfc3550.proofs.Prelude.{refl, needs}
 use Rattle.bye.specs.Bye.{sourceOf}
 use Rattle.bye.specs.declared.ParsedSource.the-variants as parsed
 use Rattle.rtcp.specs.Bye.{sourceResult}
 use Rattle.rtcp.proofs.Results.{handed, turned}
-use borrow.Author.Needs.{needs}
 use Rattle.rtcp.proofs.read_bye.rtcp_bye_source.Tie as tie
 
 pub rtcp-bye-source-spec : {M : Type 1} → Rattle.rtcp.proofs.read_bye.rtcp_bye_source.Statement.statement M

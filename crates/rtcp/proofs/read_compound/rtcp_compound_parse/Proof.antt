@@ -1,9 +1,8 @@
-use mathlib.Core.Path.{refl}
+use Rattle.rfc3550.proofs.Prelude.{refl, needs}
 use Rattle.compound.specs.Compound.{parsedCompoundOf}
 use Rattle.compound.specs.declared.compound.ParsedCompound.the-variants as parsed
 use Rattle.rtcp.specs.Compound.{compoundResult}
 use Rattle.rtcp.proofs.Results.{handed, turned}
-use borrow.Author.Needs.{needs}
 use Rattle.rtcp.proofs.read_compound.rtcp_compound_parse.Tie as tie
 
 pub rtcp-compound-parse-spec : {M : Type 1} → Rattle.rtcp.proofs.read_compound.rtcp_compound_parse.Statement.statement M

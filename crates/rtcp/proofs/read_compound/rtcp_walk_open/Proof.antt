@@ -1,9 +1,8 @@
-use mathlib.Core.Path.{refl}
+use Rattle.rfc3550.proofs.Prelude.{refl, needs}
 use Rattle.compound.specs.Compound.{openedOf}
 use Rattle.compound.specs.declared.compound.OpenedWalk.the-variants as parsed
 use Rattle.rtcp.specs.Compound.{walkResult}
 use Rattle.rtcp.proofs.Results.{handed, turned}
-use borrow.Author.Needs.{needs}
 use Rattle.rtcp.proofs.read_compound.rtcp_walk_open.Tie as tie
 
 pub rtcp-walk-open-spec : {M : Type 1} → Rattle.rtcp.proofs.read_compound.rtcp_walk_open.Statement.statement M

@@ -1,9 +1,8 @@
-use mathlib.Core.Path.{refl}
+use Rattle.rfc3550.proofs.Prelude.{refl, needs}
 use Rattle.sdes_chunk.specs.Chunk.{parsedChunkOf}
 use Rattle.sdes_chunk.specs.declared.chunk.ParsedChunk.the-variants as parsed
 use Rattle.rtcp.specs.Sdes.{chunkResult}
 use Rattle.rtcp.proofs.Results.{handed, turned}
-use borrow.Author.Needs.{needs}
 use Rattle.rtcp.proofs.read_sdes.rtcp_chunk_parse.Tie as tie
 
 pub rtcp-chunk-parse-spec : {M : Type 1} → Rattle.rtcp.proofs.read_sdes.rtcp_chunk_parse.Statement.statement M

@@ -1,9 +1,8 @@
-use mathlib.Core.Path.{refl}
+use Rattle.rfc3550.proofs.Prelude.{refl, needs}
 use Rattle.sdes_chunk.specs.Walk.{openedItemsOf}
 use Rattle.sdes_chunk.specs.declared.chunk.OpenedItems.the-variants as parsed
 use Rattle.rtcp.specs.Sdes.{itemWalkResult}
 use Rattle.rtcp.proofs.Results.{handed, turned}
-use borrow.Author.Needs.{needs}
 use Rattle.rtcp.proofs.read_sdes.rtcp_item_walk_open.Tie as tie
 
 pub rtcp-item-walk-open-spec : {M : Type 1} → Rattle.rtcp.proofs.read_sdes.rtcp_item_walk_open.Statement.statement M

@@ -1,9 +1,8 @@
-use mathlib.Core.Path.{refl}
+use Rattle.rfc3550.proofs.Prelude.{refl, needs}
 use Rattle.sdes.specs.Sdes.{parsedSdesOf}
 use Rattle.sdes.specs.declared.sdes.ParsedSdes.the-variants as parsed
 use Rattle.rtcp.specs.Sdes.{sdesResult}
 use Rattle.rtcp.proofs.Results.{handed, turned}
-use borrow.Author.Needs.{needs}
 use Rattle.rtcp.proofs.read_sdes.rtcp_sdes_parse.Tie as tie
 
 pub rtcp-sdes-parse-spec : {M : Type 1} → Rattle.rtcp.proofs.read_sdes.rtcp_sdes_parse.Statement.statement M

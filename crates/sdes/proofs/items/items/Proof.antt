@@ -1,6 +1,4 @@
-use Prim.Native.Nat.{ℕ, _<_}
-use native.Mathlib.Omega.{arith}
-use lib.ListN.{getD}
+use Rattle.rfc3550.proofs.Prelude.{ℕ, _<_, arith, getD}
 use Rattle.sdes.proofs.ItemTurns.{rows, items-most, items-rows}
 use Rattle.sdes.proofs.items.items.Tie as tie
 

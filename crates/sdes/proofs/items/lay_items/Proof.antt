@@ -1,5 +1,4 @@
-use Prim.Native.Nat.{_-_}
-use lib.ListN.{length}
+use Rattle.rfc3550.proofs.Prelude.{_-_, length}
 use Rattle.sdes.specs.ItemPlaces.{ItemsLaid}
 use Rattle.sdes.proofs.ItemTurns.{rows, items-again}
 use Rattle.sdes.proofs.ItemPlaces.{item-less}

@@ -1,5 +1,4 @@
-use Prim.Native.Nat.{_-_}
-use lib.ListN.{length}
+use Rattle.rfc3550.proofs.Prelude.{_-_, length}
 use Rattle.sdes.specs.ItemPlaces.{chunkPlace, LaidUpTo}
 use Rattle.sdes.proofs.ItemTurns.{rows}
 use Rattle.sdes.proofs.items.lay_rows.Tie as tie

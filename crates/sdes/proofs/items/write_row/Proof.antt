@@ -1,5 +1,4 @@
-use native.Mathlib.Omega.{arith}
-use lib.ListN.{length-set}
+use Rattle.rfc3550.proofs.Prelude.{arith, length-set}
 use Rattle.sdes.proofs.ItemTurns.{rows}
 use Rattle.sdes.proofs.items.write_row.Tie as tie
 

@@ -1,5 +1,4 @@
-use Prim.Native.Nat.{_-_}
-use lib.ListN.{length}
+use Rattle.rfc3550.proofs.Prelude.{_-_, length}
 use Rattle.sdes_chunk.proofs.Chunks.{chunks, Going}
 use Rattle.sdes_chunk.proofs.chunk.items_end.Tie as tie
 

@@ -1,6 +1,5 @@
 use Rattle.utils.proofs.WriterCases.{writer, fill-laid}
-use native.Mathlib.Omega.{arith}
-use lib.ListN.{length-set}
+use Rattle.rfc3550.proofs.Prelude.{arith, length-set}
 use Rattle.utils.proofs.writer.write_fill_unchecked.Tie as tie
 
 returns : tie.Need-returns

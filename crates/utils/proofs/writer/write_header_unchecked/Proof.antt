@@ -1,6 +1,4 @@
-use lib.ListN.{length-set}
-use mathlib.Core.Path.{_∙_}
-use native.Mathlib.Omega.{arith}
+use Rattle.rfc3550.proofs.Prelude.{length-set, _∙_, arith}
 use Rattle.utils.proofs.WriterCases.{writer}
 use Rattle.utils.proofs.writer.write_header_unchecked.Tie as tie
 

@@ -1,7 +1,5 @@
-use Prim.Native.Nat.{_-_}
-use lib.ListN.{length}
+use Rattle.rfc3550.proofs.Prelude.{_-_, length, arith}
 use Rattle.utils.proofs.WriterCases.{writer, Copying, copying-start, copying-again, group-last}
-use native.Mathlib.Omega.{arith}
 use Rattle.utils.proofs.writer.write_many.Tie as tie
 
 abbrev Inv-loop : tie.InvT-loop

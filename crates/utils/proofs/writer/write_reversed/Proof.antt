@@ -1,5 +1,4 @@
-use native.Mathlib.Omega.{arith}
-use lib.ListN.{length-set}
+use Rattle.rfc3550.proofs.Prelude.{arith, length-set}
 use Rattle.utils.proofs.WriterCases.{writer}
 use Rattle.utils.proofs.writer.write_reversed.Tie as tie
 

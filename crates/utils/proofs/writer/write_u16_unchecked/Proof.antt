@@ -1,6 +1,5 @@
 use Rattle.utils.proofs.WriterCases.{writer}
-use native.Mathlib.Omega.{arith}
-use lib.ListN.{length-set}
+use Rattle.rfc3550.proofs.Prelude.{arith, length-set}
 use Rattle.utils.proofs.writer.write_u16_unchecked.Tie as tie
 
 slice-write-buf-2 : tie.Need-slice-write-buf-2

@@ -1,5 +1,4 @@
-use Prim.Native.Nat.{_≤_, _-_}
-use lib.ListN.{replicate}
+use Rattle.rfc3550.proofs.Prelude.{_≤_, _-_, replicate}
 use Rattle.utils.proofs.WriterCases.{writer, Laid}
 use Rattle.utils.proofs.writer.write_zeros_unchecked.Tie as tie
 

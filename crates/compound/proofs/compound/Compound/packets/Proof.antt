@@ -1,6 +1,4 @@
-use Prim.Native.Nat.{ℕ, _<_}
-use lib.ListN.{getD}
-use native.Mathlib.Omega.{arith}
+use Rattle.rfc3550.proofs.Prelude.{ℕ, _<_, getD, arith}
 use Rattle.compound.proofs.Listing.{listings}
 use Rattle.compound.proofs.compound.Compound.packets.Tie as tie
 

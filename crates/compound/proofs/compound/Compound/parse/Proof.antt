@@ -1,5 +1,4 @@
-use Prim.Native.Nat.{_-_}
-use lib.ListN.{length}
+use Rattle.rfc3550.proofs.Prelude.{_-_, length}
 use Rattle.compound.proofs.Compounds.{compounds, Loop}
 use Rattle.compound.proofs.compound.Compound.parse.Tie as tie
 

@@ -1,5 +1,4 @@
-use mathlib.Core.Path.{refl}
-use borrow.Author.Tests.{not-true}
+use Rattle.rfc3550.proofs.Prelude.{refl, not-true}
 use Rattle.rfc3550.specs.Write.{giveApp}
 use Rattle.compound_write.proofs.Writers.{add-refused, app-again}
 use Rattle.compound_write.proofs.Writers.{adds}

@@ -1,7 +1,5 @@
-use lib.ListN.{length}
+use Rattle.rfc3550.proofs.Prelude.{length, refl, not-true, not-false}
 use Rattle.compound_write.specs.Writer.{writerOf}
-use mathlib.Core.Path.{refl}
-use borrow.Author.Tests.{not-true, not-false}
 use Rattle.rfc3550.specs.Write.{giveSdes}
 use Rattle.sdes_write.specs.Packets.{lists}
 use Rattle.compound_write.proofs.Writers.{add-refused, sdes-again, sdes-values, admitted-some}

@@ -1,5 +1,4 @@
-use mathlib.Core.Path.{refl}
-use borrow.Author.Tests.{not-true}
+use Rattle.rfc3550.proofs.Prelude.{refl, not-true}
 use Rattle.rfc3550.specs.Write.{giveReport}
 use Rattle.report_write.specs.Report.{blockLists, senderOf}
 use Rattle.report_write.proofs.Reports.{report-number}

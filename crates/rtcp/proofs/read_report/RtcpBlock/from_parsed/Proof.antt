@@ -1,9 +1,8 @@
-use mathlib.Core.Path.{refl}
+use Rattle.rfc3550.proofs.Prelude.{refl, needs}
 use Rattle.report.specs.Block.{parsedBlockOf}
 use Rattle.report.specs.declared.report_block.ParsedReportBlock.the-variants as parsed
 use Rattle.rtcp.specs.Report.{blockResult}
 use Rattle.rtcp.proofs.Results.{handed, turned}
-use borrow.Author.Needs.{needs}
 use Rattle.rtcp.proofs.read_report.RtcpBlock.from_parsed.Tie as tie
 
 pub from-parsed-spec : {M : Type 1} → Rattle.rtcp.proofs.read_report.RtcpBlock.from_parsed.Statement.statement M
