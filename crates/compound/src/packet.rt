@@ -19,12 +19,7 @@ ghost use lib.Dec.{eqb};
 ghost use Rattle.rfc3550.specs.Answer.{mapOk, pick};
 ghost use Rattle.rfc3550.specs.Read.{kindOf, typeIn, lowIn, readAs};
 ghost use Rattle.utils.specs.Error.{parseRefusal, refusalIn, valueOr};
-ghost use Rattle.report.specs.Report.{parsedSenderOf, parsedReceiverOf};
-ghost use Rattle.sdes.specs.Sdes.{parsedSdesOf};
-ghost use Rattle.bye.specs.Bye.{parsedOf as byeOf};
-ghost use Rattle.app.specs.App.{parsedOf as appOf};
-ghost use Rattle.compound.specs.Unknown.{parsedUnknownOf};
-ghost use Rattle.compound.specs.Packet.{packetView, parsedOf, verdictOf, verdict, srPacket, rrPacket, sdesPacket, byePacket, appPacket, unknownPacket};
+ghost use Rattle.compound.specs.Packet.{packetView, parsedOf, verdictOf, verdict};
 
 pub enum Packet {
     Sr(SenderReport),
@@ -52,60 +47,6 @@ impl ParsedPacket {
     }
 }
 
-fn of_sr(p: ParsedSenderReport) -> ParsedPacket
-    ensures { λ r. ⌜ parsedOf r ≡ mapOk srPacket (parsedSenderOf p) ⌝ }
-{
-    match p {
-        ParsedSenderReport::Report(r) => ParsedPacket::Packet(Packet::Sr(r)),
-        ParsedSenderReport::Refused(e) => ParsedPacket::Refused(e),
-    }
-}
-
-fn of_rr(p: ParsedReceiverReport) -> ParsedPacket
-    ensures { λ r. ⌜ parsedOf r ≡ mapOk rrPacket (parsedReceiverOf p) ⌝ }
-{
-    match p {
-        ParsedReceiverReport::Report(r) => ParsedPacket::Packet(Packet::Rr(r)),
-        ParsedReceiverReport::Refused(e) => ParsedPacket::Refused(e),
-    }
-}
-
-fn of_sdes(p: ParsedSdes) -> ParsedPacket
-    ensures { λ r. ⌜ parsedOf r ≡ mapOk sdesPacket (parsedSdesOf p) ⌝ }
-{
-    match p {
-        ParsedSdes::Sdes(s) => ParsedPacket::Packet(Packet::Sdes(s)),
-        ParsedSdes::Refused(e) => ParsedPacket::Refused(e),
-    }
-}
-
-fn of_bye(p: ParsedBye) -> ParsedPacket
-    ensures { λ r. ⌜ parsedOf r ≡ mapOk byePacket (byeOf p) ⌝ }
-{
-    match p {
-        ParsedBye::Bye(b) => ParsedPacket::Packet(Packet::Bye(b)),
-        ParsedBye::Refused(e) => ParsedPacket::Refused(e),
-    }
-}
-
-fn of_app(p: ParsedApp) -> ParsedPacket
-    ensures { λ r. ⌜ parsedOf r ≡ mapOk appPacket (appOf p) ⌝ }
-{
-    match p {
-        ParsedApp::App(a) => ParsedPacket::Packet(Packet::App(a)),
-        ParsedApp::Refused(e) => ParsedPacket::Refused(e),
-    }
-}
-
-fn of_unknown(p: ParsedUnknown) -> ParsedPacket
-    ensures { λ r. ⌜ parsedOf r ≡ mapOk unknownPacket (parsedUnknownOf p) ⌝ }
-{
-    match p {
-        ParsedUnknown::Unknown(u) => ParsedPacket::Packet(Packet::Unknown(u)),
-        ParsedUnknown::Refused(e) => ParsedPacket::Refused(e),
-    }
-}
-
 // 0 where the body is, for a packet that is refused; else 1, or 2 where it has a CNAME.
 fn verdict_of(body: usize, has_cname: bool) -> usize
     ensures { λ r. ⌜ r ≡ pick (eqb body 0) 0 (verdictOf «has_cname») ⌝ }
@@ -122,12 +63,30 @@ impl Packet {
         ensures { λ r. ⌜ parsedOf r ≡ mapOk packetView (readAs (kindOf (typeIn (now (s .entry))) (lowIn (now (s .entry)))) (now (s .entry))) ⌝ }
     {
         match kind_of(s) {
-            Kind::Sr => of_sr(SenderReport::parse(s)),
-            Kind::Rr => of_rr(ReceiverReport::parse(s)),
-            Kind::Sdes => of_sdes(Sdes::parse(s)),
-            Kind::Bye => of_bye(Bye::parse(s)),
-            Kind::App => of_app(App::parse(s)),
-            Kind::Unknown => of_unknown(Unknown::parse(s)),
+            Kind::Sr => match SenderReport::parse(s) {
+                ParsedSenderReport::Report(x) => ParsedPacket::Packet(Packet::Sr(x)),
+                ParsedSenderReport::Refused(e) => ParsedPacket::Refused(e),
+            },
+            Kind::Rr => match ReceiverReport::parse(s) {
+                ParsedReceiverReport::Report(x) => ParsedPacket::Packet(Packet::Rr(x)),
+                ParsedReceiverReport::Refused(e) => ParsedPacket::Refused(e),
+            },
+            Kind::Sdes => match Sdes::parse(s) {
+                ParsedSdes::Sdes(x) => ParsedPacket::Packet(Packet::Sdes(x)),
+                ParsedSdes::Refused(e) => ParsedPacket::Refused(e),
+            },
+            Kind::Bye => match Bye::parse(s) {
+                ParsedBye::Bye(x) => ParsedPacket::Packet(Packet::Bye(x)),
+                ParsedBye::Refused(e) => ParsedPacket::Refused(e),
+            },
+            Kind::App => match App::parse(s) {
+                ParsedApp::App(x) => ParsedPacket::Packet(Packet::App(x)),
+                ParsedApp::Refused(e) => ParsedPacket::Refused(e),
+            },
+            Kind::Unknown => match Unknown::parse(s) {
+                ParsedUnknown::Unknown(x) => ParsedPacket::Packet(Packet::Unknown(x)),
+                ParsedUnknown::Refused(e) => ParsedPacket::Refused(e),
+            },
         }
     }
 

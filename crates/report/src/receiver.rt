@@ -28,18 +28,6 @@ pub enum ParsedReceiverReport {
     Refused(RtcpParseError),
 }
 
-impl ParsedReceiverReport {
-    // Why it is refused; NothingLeft where it is not.
-    pub fn refusal(self) -> RtcpParseError
-        ensures { λ r. ⌜ parseRefusal r ≡ refusalIn (parsedReceiverOf self) ⌝ }
-    {
-        match self {
-            ParsedReceiverReport::Report(_) => RtcpParseError::NothingLeft,
-            ParsedReceiverReport::Refused(e) => e,
-        }
-    }
-}
-
 impl ReceiverReport {
     pub const MIN_PACKET_LEN: usize = 8;
 

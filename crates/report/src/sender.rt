@@ -32,18 +32,6 @@ pub enum ParsedSenderReport {
     Refused(RtcpParseError),
 }
 
-impl ParsedSenderReport {
-    // Why it is refused; NothingLeft where it is not.
-    pub fn refusal(self) -> RtcpParseError
-        ensures { λ r. ⌜ parseRefusal r ≡ refusalIn (parsedSenderOf self) ⌝ }
-    {
-        match self {
-            ParsedSenderReport::Report(_) => RtcpParseError::NothingLeft,
-            ParsedSenderReport::Refused(e) => e,
-        }
-    }
-}
-
 impl SenderReport {
     pub const MIN_PACKET_LEN: usize = 28;
 

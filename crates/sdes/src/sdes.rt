@@ -26,18 +26,6 @@ pub enum ParsedSdes {
     Refused(RtcpParseError),
 }
 
-impl ParsedSdes {
-    // Why it is refused; NothingLeft where it is not.
-    pub fn refusal(self) -> RtcpParseError
-        ensures { λ r. ⌜ parseRefusal r ≡ refusalIn (parsedSdesOf self) ⌝ }
-    {
-        match self {
-            ParsedSdes::Sdes(_) => RtcpParseError::NothingLeft,
-            ParsedSdes::Refused(e) => e,
-        }
-    }
-}
-
 impl Sdes {
     pub const MIN_PACKET_LEN: usize = 4;
 

@@ -25,18 +25,6 @@ pub enum ParsedChunk {
     Refused(RtcpParseError),
 }
 
-impl ParsedChunk {
-    // Why it is refused; NothingLeft where it is not.
-    pub fn refusal(self) -> RtcpParseError
-        ensures { λ r. ⌜ parseRefusal r ≡ refusalIn (parsedChunkOf self) ⌝ }
-    {
-        match self {
-            ParsedChunk::Chunk(_) => RtcpParseError::NothingLeft,
-            ParsedChunk::Refused(e) => e,
-        }
-    }
-}
-
 // The next word boundary above a place.
 pub fn word_boundary_unchecked(at: usize) -> usize
     requires { ⌜ at < 2 ^ 63 ⌝ }

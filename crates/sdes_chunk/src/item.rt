@@ -25,18 +25,6 @@ pub enum ParsedItem {
     Refused(RtcpParseError),
 }
 
-impl ParsedItem {
-    // Why it is refused; NothingLeft where it is not.
-    pub fn refusal(self) -> RtcpParseError
-        ensures { λ r. ⌜ parseRefusal r ≡ refusalIn (parsedItemOf self) ⌝ }
-    {
-        match self {
-            ParsedItem::Item(_) => RtcpParseError::NothingLeft,
-            ParsedItem::Refused(e) => e,
-        }
-    }
-}
-
 // The place behind the item at a place that has two bytes at least; 0 where it is refused.
 fn end_unchecked(chunk: &[u8], at: usize) -> usize
     requires { ⌜ at + 2 ≤ length (now chunk) ⌝ }
