@@ -38,7 +38,7 @@ pub fn u16_from_be_bytes(s: &[u8], at: usize) -> u16
 }
 
 // The number whose bytes, least significant first, stand at a place.
-pub fn u32_from_le_bytes(s: &[u8], at: usize) -> u32
+pub fn u32_from_le_unchecked(s: &[u8], at: usize) -> u32
     requires { ⌜ at + 4 ≤ length (now s) ⌝ }
     ensures { λ r. ⌜ reversed r ≡ take 4 (drop at (now (s .entry))) ⌝ }
 {
@@ -61,7 +61,7 @@ pub fn u32_from_be_bytes(s: &[u8], at: usize) -> u32
     requires { ⌜ at + 4 ≤ length (now s) ⌝ }
     ensures { λ r. ⌜ r ≡ val (take 4 (drop at (now (s .entry)))) ⌝ }
 {
-    swap_bytes(u32_from_le_bytes(s, at))
+    swap_bytes(u32_from_le_unchecked(s, at))
 }
 
 // In halves of halves: that way it is compiled to one load and a byte swap.

@@ -92,8 +92,8 @@ fn reversed_eight(s: &[u8], at: usize) -> u64
     requires { ⌜ at + 8 ≤ length (now s) ⌝ }
     ensures { λ r. ⌜ reversedEight r ≡ take 8 (drop at (now (s .entry))) ⌝ }
 {
-    let low = parser::u32_from_le_bytes(s, at) as u64;
-    let high = parser::u32_from_le_bytes(s, at + 4) as u64;
+    let low = parser::u32_from_le_unchecked(s, at) as u64;
+    let high = parser::u32_from_le_unchecked(s, at + 4) as u64;
     low + high * 4294967296
 }
 
@@ -119,7 +119,7 @@ fn copy_four(buf: &mut [u8], at: usize, src: &[u8], k: usize)
     requires { ⌜ (k + 4 ≤ length (now src)) × (at + length (now src) ≤ length (now buf)) ⌝ }
     ensures { λ _. ⌜ now (buf .exit) ≡ store (at + k) (take 4 (drop k (now (src .entry)))) (now (buf .entry)) ⌝ }
 {
-    let v = parser::u32_from_le_bytes(src, k);
+    let v = parser::u32_from_le_unchecked(src, k);
     write_reversed(buf, at + k, v);
 }
 
