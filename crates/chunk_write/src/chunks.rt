@@ -1,11 +1,12 @@
 // The chunks of lent lists, one after the other: one SSRC and one item count for each chunk; for each item a type, a prefix length and a
 // value length; one run of bytes, item by item, prefix then value.
 use crate::item;
+use sdes_chunk::chunk::word_boundary_unchecked;
 use sdes_chunk::item::SdesItem;
 use utils::error::RtcpWriteError;
 use utils::writer;
 ghost use mathlib.Core.Path.{_≡_};
-ghost use Prim.Native.Nat.{_+_, _-_, _%_, _<_, _≤_, _^_};
+ghost use Prim.Native.Nat.{_+_, _-_, _%_, _<_, _≤_};
 ghost use lib.Dec.{eqb};
 ghost use lib.ListN.{length, drop, getD};
 ghost use Rattle.rfc3550.specs.Bytes.{sum, store};
@@ -129,10 +130,7 @@ fn items_end(
     ItemsEnd { end, left }
 }
 
-// The word boundary after index at.
-fn boundary_after(at: usize) -> usize
-    requires { ⌜ closed at < 2 ^ 64 ⌝ }
-    ensures { λ r. ⌜ r ≡ closed at ⌝ }
+   ensures { λ r. ⌜ r ≡ closed at ⌝ }
 {
     at + (4 - at % 4)
 }
@@ -167,7 +165,7 @@ pub fn chunks_end_unchecked(
         if items.end == 0 {
             return 0;
         }
-        at = boundary_after(items.end);
+        at = word_boundary_unchecked(items.end);
         left = items.left;
         i = j;
         k += 1;
@@ -269,7 +267,7 @@ fn write_chunk(
     writer::write_u32_unchecked(buf, 0, ssrc);
     let items = write_items(buf, 4, types, prefixes, values, bytes, first, last, from);
     let at = items.end;
-    let end = boundary_after(at);
+    let end = word_boundary_unchecked(at);
     writer::write_fill_unchecked(buf, at, end - at);
     LaidEnd {
         end,

@@ -27,7 +27,7 @@ pub enum ParsedChunk {
 
 // The next word boundary above a place.
 pub fn word_boundary_unchecked(at: usize) -> usize
-    requires { ⌜ at < 2 ^ 63 ⌝ }
+    requires { ⌜ at + fill at < 2 ^ 64 ⌝ }
     ensures { λ r. ⌜ r ≡ at + fill at ⌝ }
 {
     at / 4 * 4 + 4
