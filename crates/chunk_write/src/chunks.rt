@@ -130,11 +130,6 @@ fn items_end(
     ItemsEnd { end, left }
 }
 
-   ensures { λ r. ⌜ r ≡ closed at ⌝ }
-{
-    at + (4 - at % 4)
-}
-
 // The index after the chunks, if they start at index start; 0 where an item is refused, the lists disagree or that index is past the limit.
 pub fn chunks_end_unchecked(
     start: usize,
