@@ -129,7 +129,7 @@ module _ (s : List ℕ) (at n : ℕ) (h : n ≡ orZero (frameAt s at)) where
     unfolding mapOk
     walk-refused r j k x q i e b w =
         let m = body-none packet kind (ap (λ (x : PacketNumbers). x .body) (sym e) ∙ b) in
-        q ∙ ap (stepResult at) (stepped s at n h z (refused k) (ap refused w ∙ sym (ap (mapOk packetView) m)))
+        q ∙ ap (λ (x : Refusal). stepResult at (refused x)) i ∙ ap (stepResult at) (stepped s at n h z (refused k) (ap refused w ∙ sym (ap (mapOk packetView) m)))
 
     pub packet-stepped : (x : PacketNumbers) → x ≡ numbersRead kind packet → (x .body ≡ 0 → ⊥) → stepOf at n x ≡ stepResult at (mapOk stepView (step s at))
     unfolding mapOk
