@@ -13,7 +13,7 @@ use Rattle.utils.proofs.Parts.{lent-again, drop-take}
 use Rattle.utils.proofs.Values.{number-came}
 use Rattle.utils.proofs.WriterStores.{store-nil, store-store, store-part}
 use Rattle.utils.proofs.WriterPackets.{short-written, done-written, parts-laid}
-use Rattle.chunk_write.specs.Sizes.{lent, itemLength, sizeOf, Listed, part, itemsRefusal, closed, chunksFrom, atMost, chunksEnd, ChunksMeasured}
+use Rattle.chunk_write.specs.Sizes.{lent, itemLength, sizeOf, SameLengths, between, itemsRefusal, boundaryAbove, chunksFrom, atMost, chunksEnd, ChunksMeasured}
 use Rattle.chunk_write.specs.Lists.{Within, PartFits, lentAt, PartLaid, laidItems, ItemsFit, ItemsLaid, laidChunk, ChunkFits, ChunkLaid, ChunkFitsAt, ChunkLaidAt, laidChunks, ChunksFit}
 use Rattle.chunk_write.specs.declared.chunks.LaidEnd.{LaidEnd}
 use Rattle.chunk_write.proofs.Items.{SizeKnown, size-known, item-is, length-item, size-why-of, not-written}
@@ -176,7 +176,7 @@ module _ (o : ℕ) (ts ps vs bs l : List ℕ) (in-l : o ≤ length l) (f : Items
 length-range : {A : Type 0} (i j : ℕ) (xs : List A) → j ≤ length xs → length (take (j - i) (drop i xs)) ≡ j - i
 length-range i j xs h = length-take-le (j - i) (drop i xs) (rw length-drop (omega arith))
 
-range-item : (i₀ i j : ℕ) (xs : List ℕ) → i₀ ≤ i → i < j → getD (part i₀ j xs) (i - i₀) 0 ≡ getD xs i 0
+range-item : (i₀ i j : ℕ) (xs : List ℕ) → i₀ ≤ i → i < j → getD (between i₀ j xs) (i - i₀) 0 ≡ getD xs i 0
 range-item i₀ i j xs h f =
     let z : i₀ + (i - i₀) ≡ i = omega arith in
     getD-take (j - i₀) (drop i₀ xs) (i - i₀) 0 (omega arith) ∙ getD-drop i₀ xs (i - i₀) 0 ∙ ap (λ (k : ℕ). getD xs k 0) z
@@ -185,24 +185,24 @@ pub record LayingPart (o : ℕ) (ts ps vs bs l : List ℕ) (i₀ j from₀ i at 
   pub past : i₀ ≤ i
   pub most : i ≤ j
   pub after : from₀ ≤ from
-  pub is : Laying o (part i₀ j ts) (part i₀ j ps) (part i₀ j vs) (drop from₀ bs) l (i - i₀) at (from - from₀) l₁
+  pub is : Laying o (between i₀ j ts) (between i₀ j ps) (between i₀ j vs) (drop from₀ bs) l (i - i₀) at (from - from₀) l₁
 
-module _ (o : ℕ) (ts ps vs bs l : List ℕ) (i₀ j from₀ : ℕ) (b : Within ts ps vs bs i₀ j from₀) (q : o ≤ length l) (f : ItemsFit (part i₀ j ts) (part i₀ j ps) (part i₀ j vs) (drop from₀ bs) (length l - o)) where
+module _ (o : ℕ) (ts ps vs bs l : List ℕ) (i₀ j from₀ : ℕ) (b : Within ts ps vs bs i₀ j from₀) (q : o ≤ length l) (f : ItemsFit (between i₀ j ts) (between i₀ j ps) (between i₀ j vs) (drop from₀ bs) (length l - o)) where
   pub range-start : LayingPart o ts ps vs bs l i₀ j from₀ i₀ o from₀ l
   range-start =
       let z : i₀ - i₀ ≡ 0 = omega arith in
       let y : from₀ - from₀ ≡ 0 = omega arith in
-      record { past = omega arith; most = b .order; after = omega arith; is = rw (z, y) (laying-start o (part i₀ j ts) (part i₀ j ps) (part i₀ j vs) (drop from₀ bs) l q f) }
+      record { past = omega arith; most = b .order; after = omega arith; is = rw (z, y) (laying-start o (between i₀ j ts) (between i₀ j ps) (between i₀ j vs) (drop from₀ bs) l q f) }
 
   module _ (i at from : ℕ) (l₁ : List ℕ) (w : LayingPart o ts ps vs bs l i₀ j from₀ i at from l₁) where
     module _ (h : i < j) (p v : ℕ) (ep : p ≡ getD ps i 0) (ev : v ≡ getD vs i 0) where
-      among : i - i₀ < length (part i₀ j ts)
+      among : i - i₀ < length (between i₀ j ts)
       among = rw (length-range i₀ j ts (b .within)) (let k = w .past in omega arith)
 
-      first-prefix : p ≡ getD (part i₀ j ps) (i - i₀) 0
+      first-prefix : p ≡ getD (between i₀ j ps) (i - i₀) 0
       first-prefix = ep ∙ sym (range-item i₀ i j ps (w .past) h)
 
-      first-value : v ≡ getD (part i₀ j vs) (i - i₀) 0
+      first-value : v ≡ getD (between i₀ j vs) (i - i₀) 0
       first-value = ev ∙ sym (range-item i₀ i j vs (w .past) h)
 
       bytes-after : drop (from - from₀) (drop from₀ bs) ≡ drop from bs
@@ -213,7 +213,7 @@ module _ (o : ℕ) (ts ps vs bs l : List ℕ) (i₀ j from₀ : ℕ) (b : Within
 
       pub range-fits : PartFits (getD ts i 0) p v from (length bs) at (length l₁)
       range-fits =
-          let y = laying-fits o (part i₀ j ts) (part i₀ j ps) (part i₀ j vs) (drop from₀ bs) l q f (i - i₀) at (from - from₀) l₁ (w .is) among p v first-prefix first-value in
+          let y = laying-fits o (between i₀ j ts) (between i₀ j ps) (between i₀ j vs) (drop from₀ bs) l q f (i - i₀) at (from - from₀) l₁ (w .is) among p v first-prefix first-value in
           let x : PartFits (getD ts i 0) p v (from - from₀) (length (drop from₀ bs)) at (length l₁) = rw (range-item i₀ i j ts (w .past) h) at y in
           let k = w .after in
           let n = length-drop from₀ bs in
@@ -226,8 +226,8 @@ module _ (o : ℕ) (ts ps vs bs l : List ℕ) (i₀ j from₀ : ℕ) (b : Within
           let g = w .past in
           let n = length-drop from₀ bs in
           let t = range-item i₀ i j ts (w .past) h in
-          let e : lentAt (getD (part i₀ j ts) (i - i₀) 0) p v (from - from₀) (drop from₀ bs) ≡ lentAt (getD ts i 0) p v from bs = rw (t, bytes-after, value-after) in
-          let x : PartLaid (getD (part i₀ j ts) (i - i₀) 0) p v (from - from₀) (drop from₀ bs) at l₁ r l₂ =
+          let e : lentAt (getD (between i₀ j ts) (i - i₀) 0) p v (from - from₀) (drop from₀ bs) ≡ lentAt (getD ts i 0) p v from bs = rw (t, bytes-after, value-after) in
+          let x : PartLaid (getD (between i₀ j ts) (i - i₀) 0) p v (from - from₀) (drop from₀ bs) at l₁ r l₂ =
           record { size = rw t (y .size); bytes = y .bytes ∙ ap (λ (z : LentItem). store at (itemBytes (itemGiven z)) l₁) (sym e); ends = y .ends; taken = omega (arith, y .taken) } in
           let a : i - i₀ + 1 ≡ i + 1 - i₀ = omega arith in
           let c : from - from₀ + p + v ≡ from + p + v - from₀ = omega arith in
@@ -235,12 +235,12 @@ module _ (o : ℕ) (ts ps vs bs l : List ℕ) (i₀ j from₀ : ℕ) (b : Within
             past = omega arith;
             most = omega arith;
             after = omega arith;
-            is = rw (a, c) at (laying-again o (part i₀ j ts) (part i₀ j ps) (part i₀ j vs) (drop from₀ bs) l q f (i - i₀) at (from - from₀) l₁ (w .is) among p v first-prefix first-value r l₂ x);
+            is = rw (a, c) at (laying-again o (between i₀ j ts) (between i₀ j ps) (between i₀ j vs) (drop from₀ bs) l q f (i - i₀) at (from - from₀) l₁ (w .is) among p v first-prefix first-value r l₂ x);
           }
 
-    pub range-done : j ≤ i → ItemsLaid o from₀ (part i₀ j ts) (part i₀ j ps) (part i₀ j vs) (drop from₀ bs) l (record { end = at; taken = from }) l₁
+    pub range-done : j ≤ i → ItemsLaid o from₀ (between i₀ j ts) (between i₀ j ps) (between i₀ j vs) (drop from₀ bs) l (record { end = at; taken = from }) l₁
     range-done h =
-        let y = laying-done o (part i₀ j ts) (part i₀ j ps) (part i₀ j vs) (drop from₀ bs) l q f (i - i₀) at (from - from₀) l₁ (w .is) (rw (length-range i₀ j ts (b .within)) (omega arith)) in
+        let y = laying-done o (between i₀ j ts) (between i₀ j ps) (between i₀ j vs) (drop from₀ bs) l q f (i - i₀) at (from - from₀) l₁ (w .is) (rw (length-range i₀ j ts (b .within)) (omega arith)) in
         record { size = y .size; used = omega (arith, y .used, w .after); bytes = y .bytes }
 
 -- ---- a chunk
@@ -253,13 +253,13 @@ module _ (ts ps vs bs l : List ℕ) (f : ChunkFits ts ps vs bs (length l)) where
   chunk-start n e = omega (arith, f .room)
 
   module _ (from : ℕ) (l₁ l₂ : List ℕ) (r : LaidEnd) (y : ItemsLaid 4 from ts ps vs bs l₁ r l₂) where
-    pub chunk-boundary : length l < 2 ^ 64 → closed (r .end) < 2 ^ 64
+    pub chunk-boundary : length l < 2 ^ 64 → boundaryAbove (r .end) < 2 ^ 64
     chunk-boundary h = rw (y .size) (omega (arith, f .room))
 
-    pub chunk-fill : (e n : ℕ) → e ≡ closed (r .end) → n ≡ length l → (0 < e - r .end) × (e - r .end ≤ 4) × (r .end + (e - r .end) ≤ n)
-    chunk-fill e n q z = let s : closed (r .end) ≤ length l = rw (y .size) (f .room) in (omega arith, omega arith, omega arith)
+    pub chunk-fill : (e n : ℕ) → e ≡ boundaryAbove (r .end) → n ≡ length l → (0 < e - r .end) × (e - r .end ≤ 4) × (r .end + (e - r .end) ≤ n)
+    chunk-fill e n q z = let s : boundaryAbove (r .end) ≤ length l = rw (y .size) (f .room) in (omega arith, omega arith, omega arith)
 
-    pub chunk-laid : (ssrc : ℕ) (e : ℕ) (l₃ : List ℕ) → l₁ ≡ store 0 (be 4 ssrc) l → e ≡ closed (r .end) → l₃ ≡ store (r .end) (replicate (e - r .end) 0) l₂
+    pub chunk-laid : (ssrc : ℕ) (e : ℕ) (l₃ : List ℕ) → l₁ ≡ store 0 (be 4 ssrc) l → e ≡ boundaryAbove (r .end) → l₃ ≡ store (r .end) (replicate (e - r .end) 0) l₂
         → ChunkLaid ssrc from ts ps vs bs l (record { end = e; taken = r .taken }) l₃
     unfolding chunkBytes
     chunk-laid ssrc e l₃ e₁ q e₂ =
@@ -283,17 +283,17 @@ module _ (ts ps vs bs : List ℕ) (i j from at : ℕ) (l : List ℕ) (f : ChunkF
 
   -- the lists are lent again
   pub chunk-at-fits : Within (take (length ts - 0) ts) (take (length ps - 0) ps) (take (length vs - 0) vs) (take (length bs - 0) bs) i j from
-      × ChunkFits (part i j (take (length ts - 0) ts)) (part i j (take (length ps - 0) ps)) (part i j (take (length vs - 0) vs)) (drop from (take (length bs - 0) bs)) (length (take (length l - at) (drop at l)))
+      × ChunkFits (between i j (take (length ts - 0) ts)) (between i j (take (length ps - 0) ps)) (between i j (take (length vs - 0) vs)) (drop from (take (length bs - 0) bs)) (length (take (length l - at) (drop at l)))
   chunk-at-fits = rw (lent-again ts, lent-again ps, lent-again vs, lent-again bs, length-left) (record { order = f .order; within = f .within; lists = f .listed; bytes = f .bytes }, f .fits)
 
   pub chunk-at-start : at ≤ length l
   chunk-at-start = f .start
 
   pub chunk-at-laid : (ssrc : ℕ) (r : LaidEnd) (last : List ℕ)
-      → ChunkLaid ssrc from (part i j (take (length ts - 0) ts)) (part i j (take (length ps - 0) ps)) (part i j (take (length vs - 0) vs)) (drop from (take (length bs - 0) bs)) (take (length l - at) (drop at l)) r last
+      → ChunkLaid ssrc from (between i j (take (length ts - 0) ts)) (between i j (take (length ps - 0) ps)) (between i j (take (length vs - 0) vs)) (drop from (take (length bs - 0) bs)) (take (length l - at) (drop at l)) r last
       → ChunkLaidAt ssrc ts ps vs bs i j from at l r (take at l ++ (last ++ drop (length l - at) (drop at l)))
   chunk-at-laid ssrc r last lent =
-      let y : ChunkLaid ssrc from (part i j ts) (part i j ps) (part i j vs) (drop from bs) (take (length l - at) (drop at l)) r last = rw (lent-again ts, lent-again ps, lent-again vs, lent-again bs) at lent in
+      let y : ChunkLaid ssrc from (between i j ts) (between i j ps) (between i j vs) (drop from bs) (take (length l - at) (drop at l)) r last = rw (lent-again ts, lent-again ps, lent-again vs, lent-again bs) at lent in
       let z : r .end ≡ length (laidChunk ssrc (take (j - i) (drop i ts)) (take (j - i) (drop i ps)) (take (j - i) (drop i vs)) (drop from bs)) = y .size in
       let b : last ≡ store 0 (laidChunk ssrc (take (j - i) (drop i ts)) (take (j - i) (drop i ps)) (take (j - i) (drop i vs)) (drop from bs)) (take (length l - at) (drop at l)) = y .bytes in
       let n = length-chunk-of ssrc (lentItems (take (j - i) (drop i ts)) (take (j - i) (drop i ps)) (take (j - i) (drop i vs)) (drop from bs)) in
@@ -369,7 +369,7 @@ module _ (o : ℕ) (ss cs ts ps vs bs l : List ℕ) (f : ChunksFit o ss cs ts ps
           let lc = length-chunk-of (getD ss k 0) (take c (left ts ps vs bs i from)) in
           let lp : length (take (i + c - i) (drop i ps)) ≡ length (take (i + c - i) (drop i ts)) = simp (length-take, lists-long .0) in
           let lv : length (take (i + c - i) (drop i vs)) ≡ length (take (i + c - i) (drop i ts)) = simp (length-take, lists-long .1) in
-          let q : closed (4 + length (itemsBytes (itemsGiven (take c (left ts ps vs bs i from))))) ≤ length l₁ - at = omega arith in
+          let q : boundaryAbove (4 + length (itemsBytes (itemsGiven (take c (left ts ps vs bs i from))))) ≤ length l₁ - at = omega arith in
           record {
             order = omega arith;
             within = omega arith;
@@ -420,11 +420,11 @@ module _ (o : ℕ) (ss cs ts ps vs bs l : List ℕ) (f : ChunksFit o ss cs ts ps
 
     module _ (h : k < length ss) where
       pub chunking-asks : Within (take (length ts - 0) ts) (take (length ps - 0) ps) (take (length vs - 0) vs) (take (length bs - 0) bs) i (i + getD cs k 0) from
-          × ChunkFits (part i (i + getD cs k 0) (take (length ts - 0) ts)) (part i (i + getD cs k 0) (take (length ps - 0) ps)) (part i (i + getD cs k 0) (take (length vs - 0) vs)) (drop from (take (length bs - 0) bs)) (length (take (length l₁ - at) (drop at l₁)))
+          × ChunkFits (between i (i + getD cs k 0) (take (length ts - 0) ts)) (between i (i + getD cs k 0) (take (length ps - 0) ps)) (between i (i + getD cs k 0) (take (length vs - 0) vs)) (drop from (take (length bs - 0) bs)) (length (take (length l₁ - at) (drop at l₁)))
       chunking-asks = chunk-at-fits ts ps vs bs i (i + getD cs k 0) from at l₁ (chunking-fits h (getD cs k 0) refl)
 
       pub chunking-place : (r : LaidEnd) (last : List ℕ)
-          → ChunkLaid (getD ss k 0) from (part i (i + getD cs k 0) (take (length ts - 0) ts)) (part i (i + getD cs k 0) (take (length ps - 0) ps)) (part i (i + getD cs k 0) (take (length vs - 0) vs)) (drop from (take (length bs - 0) bs)) (take (length l₁ - at) (drop at l₁)) r last
+          → ChunkLaid (getD ss k 0) from (between i (i + getD cs k 0) (take (length ts - 0) ts)) (between i (i + getD cs k 0) (take (length ps - 0) ps)) (between i (i + getD cs k 0) (take (length vs - 0) vs)) (drop from (take (length bs - 0) bs)) (take (length l₁ - at) (drop at l₁)) r last
           → length l₁ < 2 ^ 64 → at + r .end < 2 ^ 64
       chunking-place r last y n = let z = chunk-at-laid ts ps vs bs i (i + getD cs k 0) from at l₁ (chunking-fits h (getD cs k 0) refl) (getD ss k 0) r last y .ends in omega arith
 
@@ -474,7 +474,7 @@ module _ (ssrc : ℕ) (ts ps vs bs : List ℕ) where
       unfolding sum need _>>_
       size-lone n h = go (eqb (sum ps + sum vs) (length bs)) refl
         where
-          d : Listed ts ps vs
+          d : SameLengths ts ps vs
           d = record { prefixes = sym ep; values = sym ev }
 
           zero-is : (m : ℕ) → m ≡ 0 → pick (leb m 262140) m 0 ≡ 0

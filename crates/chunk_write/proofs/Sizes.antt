@@ -10,7 +10,7 @@ use Rattle.utils.specs.Error.{orZero}
 use Rattle.utils.specs.Writer.{sizeRefusal}
 use Rattle.utils.proofs.Values.{number-came}
 use Rattle.utils.proofs.WriterCases.{writer}
-use Rattle.chunk_write.specs.Sizes.{lent, sizeOf, Listed, part, itemsRefusal, sizesOf, closed, chunksFrom, atMost, nowhere, itemsEnd, chunksEnd, ItemsMeasured, ItemsEnded, ChunksMeasured}
+use Rattle.chunk_write.specs.Sizes.{lent, sizeOf, SameLengths, between, itemsRefusal, sizesOf, boundaryAbove, chunksFrom, atMost, nowhere, itemsEnd, chunksEnd, ItemsMeasured, ItemsEnded, ChunksMeasured}
 use Rattle.chunk_write.specs.Lists.{laidItems, laidChunks}
 use Rattle.chunk_write.specs.declared.chunks.ItemsEnd.{ItemsEnd}
 use Rattle.chunk_write.proofs.Items.{size-known, size-most, item-is}
@@ -98,7 +98,7 @@ agreed ts ps vs bs t e q =
     let b = and-inv (eqb (length ts) (length ps)) (eqb (length ts) (length vs)) (a .0) in
     record { prefixes = sym (eqb-true _ _ (b .0)); values = sym (eqb-true _ _ (b .1)); bytes = eqb-true _ _ (a .1) }
 
-pub agreed-listed : (ts ps vs bs : List ℕ) (t : Bool) → t ≡ itemsAgree ts ps vs bs → t ≡ true → Listed ts ps vs
+pub agreed-listed : (ts ps vs bs : List ℕ) (t : Bool) → t ≡ itemsAgree ts ps vs bs → t ≡ true → SameLengths ts ps vs
 agreed-listed ts ps vs bs t e q = let a = agreed ts ps vs bs t e q in record { prefixes = a .prefixes; values = a .values }
 
 -- ---- why an item is refused
@@ -193,11 +193,11 @@ tests-append (i ∷ is) b = rw (tests-append is b) (then-assoc (itemTests i) (it
 pub tests-split : (c : ℕ) (is : List LentItem) → itemsTests is ≡ (itemsTests (take c is) >> itemsTests (drop c is))
 tests-split c is = sym (ap itemsTests (take-append-drop c is)) ∙ tests-append (take c is) (drop c is)
 
-pub length-chunk-of : (s : ℕ) (is : List LentItem) → length (chunkBytes (chunkGiven (record { ssrc = s; items = is }))) ≡ closed (4 + length (itemsBytes (itemsGiven is)))
+pub length-chunk-of : (s : ℕ) (is : List LentItem) → length (chunkBytes (chunkGiven (record { ssrc = s; items = is }))) ≡ boundaryAbove (4 + length (itemsBytes (itemsGiven is)))
 unfolding chunkBytes
 length-chunk-of s is = simp (length-append, length-be, length-replicate) (omega arith)
 
-chunk-then : (a b : Answer (Unit {0})) (x y z : ℕ) (f : ℕ → Answer ℕ) → f (closed x) ≡ (b >> ok y) → y ≡ z → (mapOk closed (a >> ok x) >>= f) ≡ ((a >> b) >> ok z)
+chunk-then : (a b : Answer (Unit {0})) (x y z : ℕ) (f : ℕ → Answer ℕ) → f (boundaryAbove x) ≡ (b >> ok y) → y ≡ z → (mapOk boundaryAbove (a >> ok x) >>= f) ≡ ((a >> b) >> ok z)
 unfolding _>>_ _>>=_ mapOk
 chunk-then (refused r) b x y z f e q = refl
 chunk-then (ok u) b x y z f e q = e ∙ ap (λ (k : ℕ). b >> ok k) q
@@ -220,13 +220,13 @@ chunks-are n (s ∷ ss) (c ∷ cs) ts ps vs bs d ec es ep ev h =
     let sz : sizesOf (n + 4) (take c ts) (take c ps) (take c vs) ≡ (itemsTests (take c (lentItems ts ps vs bs)) >> ok (n + 4 + length (itemsBytes (itemsGiven (take c (lentItems ts ps vs bs)))))) =
     rw it (sizes-are (n + 4) (take c ts) (take c ps) (take c vs) bs (simp (length-take, ep)) (simp (length-take, ev)) (omega arith)) in
     let lt : length (drop c ts) ≡ length ts - c = length-drop c ts in
-    let ih : chunksFrom (closed (n + 4 + length (itemsBytes (itemsGiven (take c (lentItems ts ps vs bs)))))) cs (drop c ts) (drop c ps) (drop c vs)
-    ≡ (itemsTests (drop c (lentItems ts ps vs bs)) >> ok (closed (n + 4 + length (itemsBytes (itemsGiven (take c (lentItems ts ps vs bs))))) + length (chunksBytes (chunksGiven (lentChunks ss cs (drop c (lentItems ts ps vs bs))))))) =
-    rw id (chunks-are (closed (n + 4 + length (itemsBytes (itemsGiven (take c (lentItems ts ps vs bs)))))) ss cs (drop c ts) (drop c ps) (drop c vs) (drop (sum (take c ps) + sum (take c vs)) bs)
+    let ih : chunksFrom (boundaryAbove (n + 4 + length (itemsBytes (itemsGiven (take c (lentItems ts ps vs bs)))))) cs (drop c ts) (drop c ps) (drop c vs)
+    ≡ (itemsTests (drop c (lentItems ts ps vs bs)) >> ok (boundaryAbove (n + 4 + length (itemsBytes (itemsGiven (take c (lentItems ts ps vs bs))))) + length (chunksBytes (chunksGiven (lentChunks ss cs (drop c (lentItems ts ps vs bs))))))) =
+    rw id (chunks-are (boundaryAbove (n + 4 + length (itemsBytes (itemsGiven (take c (lentItems ts ps vs bs)))))) ss cs (drop c ts) (drop c ps) (drop c vs) (drop (sum (take c ps) + sum (take c vs)) bs)
     (omega arith) (omega arith) (omega arith) (simp (length-drop, ep)) (simp (length-drop, ev)) (rw length-drop (omega arith))) in
     let k = length-chunk-of s (take c (lentItems ts ps vs bs)) in
     let m = length-append (chunkBytes (chunkGiven (record { ssrc = s; items = take c (lentItems ts ps vs bs) }))) (chunksBytes (chunksGiven (lentChunks ss cs (drop c (lentItems ts ps vs bs))))) in
-    let q : closed (n + 4 + length (itemsBytes (itemsGiven (take c (lentItems ts ps vs bs))))) + length (chunksBytes (chunksGiven (lentChunks ss cs (drop c (lentItems ts ps vs bs)))))
+    let q : boundaryAbove (n + 4 + length (itemsBytes (itemsGiven (take c (lentItems ts ps vs bs))))) + length (chunksBytes (chunksGiven (lentChunks ss cs (drop c (lentItems ts ps vs bs)))))
     ≡ n + length (chunkBytes (chunkGiven (record { ssrc = s; items = take c (lentItems ts ps vs bs) })) ++ chunksBytes (chunksGiven (lentChunks ss cs (drop c (lentItems ts ps vs bs))))) = omega arith in
     rw (sz, tests-split c (lentItems ts ps vs bs)) (chunk-then (itemsTests (take c (lentItems ts ps vs bs))) (itemsTests (drop c (lentItems ts ps vs bs))) _ _ _ (λ (e : ℕ). chunksFrom e cs (drop c ts) (drop c ps) (drop c vs)) ih q)
 
@@ -251,13 +251,13 @@ refusal-of ts ps vs bs n ep ev h = refusal-is 0 ts ps vs ∙ ap sizeRefusal (siz
 
 -- ---- items in numbers
 
-part-next : (i j : ℕ) (xs : List ℕ) → i < j → j ≤ length xs → part i j xs ≡ getD xs i 0 ∷ part (i + 1) j xs
+part-next : (i j : ℕ) (xs : List ℕ) → i < j → j ≤ length xs → between i j xs ≡ getD xs i 0 ∷ between (i + 1) j xs
 part-next i j xs h f = let z : j - i ≡ suc (j - suc i) = omega arith in rw (z, drop-cons xs i 0 (omega arith)) (simp add-one)
 
 pub record Ending (at₀ left₀ : ℕ) (ts ps vs : List ℕ) (i₀ j i end left : ℕ) : Type 0 where
   pub past : i₀ ≤ i
   pub most : i ≤ j
-  pub rest : itemsEnd end left (part i j ts) (part i j ps) (part i j vs) ≡ itemsEnd at₀ left₀ (part i₀ j ts) (part i₀ j ps) (part i₀ j vs)
+  pub rest : itemsEnd end left (between i j ts) (between i j ps) (between i j vs) ≡ itemsEnd at₀ left₀ (between i₀ j ts) (between i₀ j ps) (between i₀ j vs)
   pub room : end + left + 3 * (j - i) ≤ at₀ + left₀ + 3 * (j - i₀)
 
 module _ (at₀ left₀ : ℕ) (ts ps vs : List ℕ) (i₀ j : ℕ) (f : ItemsMeasured at₀ left₀ ts ps vs i₀ j) where
@@ -267,12 +267,12 @@ module _ (at₀ left₀ : ℕ) (ts ps vs : List ℕ) (i₀ j : ℕ) (f : ItemsMe
   module _ (i end left : ℕ) (w : Ending at₀ left₀ ts ps vs i₀ j i end left) where
     module _ (h : i < j) (n : ℕ) (e : n ≡ orZero (sizeOf (getD ts i 0) (getD ps i 0) (getD vs i 0))) where
       ends-next : pick (eqb n 0) nowhere (pick (ltb left (getD ps i 0)) nowhere (pick (ltb (left - getD ps i 0) (getD vs i 0)) nowhere
-          (itemsEnd (end + n) (left - getD ps i 0 - getD vs i 0) (part (i + 1) j ts) (part (i + 1) j ps) (part (i + 1) j vs))))
-          ≡ itemsEnd at₀ left₀ (part i₀ j ts) (part i₀ j ps) (part i₀ j vs)
+          (itemsEnd (end + n) (left - getD ps i 0 - getD vs i 0) (between (i + 1) j ts) (between (i + 1) j ps) (between (i + 1) j vs))))
+          ≡ itemsEnd at₀ left₀ (between i₀ j ts) (between i₀ j ps) (between i₀ j vs)
       unfolding itemsEnd
       ends-next =
-          let p : part i j ps ≡ getD ps i 0 ∷ part (i + 1) j ps = part-next i j ps h (omega (arith, f .within, f .listed .prefixes)) in
-          let v : part i j vs ≡ getD vs i 0 ∷ part (i + 1) j vs = part-next i j vs h (omega (arith, f .within, f .listed .values)) in
+          let p : between i j ps ≡ getD ps i 0 ∷ between (i + 1) j ps = part-next i j ps h (omega (arith, f .within, f .listed .prefixes)) in
+          let v : between i j vs ≡ getD vs i 0 ∷ between (i + 1) j vs = part-next i j vs h (omega (arith, f .within, f .listed .values)) in
           rw e (rw (part-next i j ts h (f .within), p, v) at (w .rest))
 
       pub ending-refused : n ≡ 0 → ItemsEnded at₀ left₀ ts ps vs i₀ j (record { end = 0; left = 0 })
@@ -312,7 +312,7 @@ pub record Counting (start left₀ : ℕ) (cs ts ps vs : List ℕ) (k i at left 
   pub rest : chunksEnd at left (drop k cs) (drop i ts) (drop i ps) (drop i vs) ≡ chunksEnd start left₀ cs ts ps vs
   pub room : at + left + 3 * (length ts - i) + 8 * (length cs - k) ≤ start + left₀ + 3 * length ts + 8 * length cs
 
-closed-most : (e : ℕ) → closed e ≤ e + 4
+closed-most : (e : ℕ) → boundaryAbove e ≤ e + 4
 closed-most e = omega arith
 
 room-next : (e l at left c x y b m : ℕ) → e + l ≤ at + 4 + left + 3 * c → m ≤ e + 4 → at + left + 3 * (c + x) + 8 * (1 + y) ≤ b → m + l + 3 * x + 8 * y ≤ b
@@ -325,7 +325,7 @@ module _ (start left₀ : ℕ) (cs ts ps vs : List ℕ) (f : ChunksMeasured star
   module _ (k i at left more : ℕ) (w : Counting start left₀ cs ts ps vs k i at left more) where
     module _ (h : k < length cs) where
       counts-next : pick (ltb (length ts - i) (getD cs k 0)) 0 (pick (eqb (itemsEnd (at + 4) left (take (getD cs k 0) (drop i ts)) (take (getD cs k 0) (drop i ps)) (take (getD cs k 0) (drop i vs)) .end) 0) 0
-          (chunksEnd (closed (itemsEnd (at + 4) left (take (getD cs k 0) (drop i ts)) (take (getD cs k 0) (drop i ps)) (take (getD cs k 0) (drop i vs)) .end)) (itemsEnd (at + 4) left (take (getD cs k 0) (drop i ts)) (take (getD cs k 0) (drop i ps)) (take (getD cs k 0) (drop i vs)) .left) (drop (k + 1) cs) (drop (i + getD cs k 0) ts) (drop (i + getD cs k 0) ps) (drop (i + getD cs k 0) vs)))
+          (chunksEnd (boundaryAbove (itemsEnd (at + 4) left (take (getD cs k 0) (drop i ts)) (take (getD cs k 0) (drop i ps)) (take (getD cs k 0) (drop i vs)) .end)) (itemsEnd (at + 4) left (take (getD cs k 0) (drop i ts)) (take (getD cs k 0) (drop i ps)) (take (getD cs k 0) (drop i vs)) .left) (drop (k + 1) cs) (drop (i + getD cs k 0) ts) (drop (i + getD cs k 0) ps) (drop (i + getD cs k 0) vs)))
           ≡ chunksEnd start left₀ cs ts ps vs
       unfolding chunksEnd
       counts-next = simp add-one (simp (drop-cons cs k 0 h, length-drop, drop-drop) at (w .rest))
@@ -347,16 +347,16 @@ module _ (start left₀ : ℕ) (cs ts ps vs : List ℕ) (f : ChunksMeasured star
           same : r ≡ itemsEnd (at + 4) left (take (getD cs k 0) (drop i ts)) (take (getD cs k 0) (drop i ps)) (take (getD cs k 0) (drop i vs))
           same = rw (add-sub-cancel-left i (getD cs k 0)) at (y .is)
 
-          next : pick (eqb (r .end) 0) 0 (chunksEnd (closed (r .end)) (r .left) (drop (k + 1) cs) (drop (i + getD cs k 0) ts) (drop (i + getD cs k 0) ps) (drop (i + getD cs k 0) vs)) ≡ chunksEnd start left₀ cs ts ps vs
+          next : pick (eqb (r .end) 0) 0 (chunksEnd (boundaryAbove (r .end)) (r .left) (drop (k + 1) cs) (drop (i + getD cs k 0) ts) (drop (i + getD cs k 0) ps) (drop (i + getD cs k 0) vs)) ≡ chunksEnd start left₀ cs ts ps vs
           next = let b : ltb (length ts - i) (getD cs k 0) ≡ false = le-ltb (length ts - i) (getD cs k 0) (omega (arith, w .items)) in rw (b, ← same) at counts-next
 
           pub counting-refused : r .end ≡ 0 → 0 ≡ chunksEnd start left₀ cs ts ps vs
           counting-refused z = rw (eq-eqb _ _ z) at next
 
-          pub counting-end : closed (r .end) < 2 ^ 64
+          pub counting-end : boundaryAbove (r .end) < 2 ^ 64
           counting-end = omega (arith, y .most, w .room, f .room)
 
-          pub counting-again : (r .end ≡ 0 → ⊥) → (m : ℕ) → m ≡ closed (r .end) → Counting start left₀ cs ts ps vs (k + 1) (i + getD cs k 0) m (r .left) (more - getD cs k 0)
+          pub counting-again : (r .end ≡ 0 → ⊥) → (m : ℕ) → m ≡ boundaryAbove (r .end) → Counting start left₀ cs ts ps vs (k + 1) (i + getD cs k 0) m (r .left) (more - getD cs k 0)
           counting-again z m q =
               let a : length ts - i ≡ getD cs k 0 + (length ts - (i + getD cs k 0)) = omega (arith, w .items) in
               let b : length cs - k ≡ 1 + (length cs - (k + 1)) = omega arith in
@@ -477,8 +477,8 @@ disagreeing false d = refl
 module _ (at left c : ℕ) (cs ts ps vs : List ℕ) (ep : length ps ≡ length ts) (ev : length vs ≡ length ts) (f : c ≤ length ts)
     (ih : (e n : ℕ) → chunksEnd e n cs (drop c ts) (drop c ps) (drop c vs) ≡ agreeing n cs (drop c ts) (drop c ps) (drop c vs) (orZero (chunksFrom e cs (drop c ts) (drop c ps) (drop c vs)))) where
   ends-step : (m : Answer ℕ) → sizesOf (at + 4) (take c ts) (take c ps) (take c vs) ≡ m → (x : Bool) → leb (sum (take c ps) + sum (take c vs)) left ≡ x
-      → pick (eqb (pick x (found m (left - (sum (take c ps) + sum (take c vs)))) nowhere .end) 0) 0 (chunksEnd (closed (pick x (found m (left - (sum (take c ps) + sum (take c vs)))) nowhere .end)) (pick x (found m (left - (sum (take c ps) + sum (take c vs)))) nowhere .left) cs (drop c ts) (drop c ps) (drop c vs))
-      ≡ agreeing left (c ∷ cs) ts ps vs (orZero (mapOk closed m >>= (λ (e : ℕ). chunksFrom e cs (drop c ts) (drop c ps) (drop c vs))))
+      → pick (eqb (pick x (found m (left - (sum (take c ps) + sum (take c vs)))) nowhere .end) 0) 0 (chunksEnd (boundaryAbove (pick x (found m (left - (sum (take c ps) + sum (take c vs)))) nowhere .end)) (pick x (found m (left - (sum (take c ps) + sum (take c vs)))) nowhere .left) cs (drop c ts) (drop c ps) (drop c vs))
+      ≡ agreeing left (c ∷ cs) ts ps vs (orZero (mapOk boundaryAbove m >>= (λ (e : ℕ). chunksFrom e cs (drop c ts) (drop c ps) (drop c vs))))
   unfolding sum found mapOk _>>=_
   ends-step m q false d =
       let h : left < sum (take c ps) + sum (take c vs) = leb-false _ _ d in
@@ -496,7 +496,7 @@ module _ (at left c : ℕ) (cs ts ps vs : List ℕ) (ep : length ps ≡ length t
       let z : eqb e 0 ≡ false = ne-eqb e 0 (λ y. omega arith) in
       let u : eqb (sum cs) (length (drop c ts)) ≡ eqb (c + sum cs) (length ts) = eqb-same (sum cs) (length (drop c ts)) (c + sum cs) (length ts) (λ y. omega arith) (λ y. omega arith) in
       let v : eqb (sum (drop c ps) + sum (drop c vs)) (left - (sum (take c ps) + sum (take c vs))) ≡ eqb (sum ps + sum vs) left = eqb-same (sum (drop c ps) + sum (drop c vs)) (left - (sum (take c ps) + sum (take c vs))) (sum ps + sum vs) left (λ y. omega arith) (λ y. omega arith) in
-      rw z (ih (closed e) (left - (sum (take c ps) + sum (take c vs))) ∙ rw (u, v))
+      rw z (ih (boundaryAbove e) (left - (sum (take c ps) + sum (take c vs))) ∙ rw (u, v))
 
 ends-are : (at left : ℕ) (cs ts ps vs : List ℕ) → length ps ≡ length ts → length vs ≡ length ts → chunksEnd at left cs ts ps vs ≡ agreeing left cs ts ps vs (orZero (chunksFrom at cs ts ps vs))
 unfolding chunksEnd chunksFrom sum
@@ -507,8 +507,8 @@ ends-are at left [] (t ∷ ts) ps vs ep ev = let b : eqb 0 (length (t ∷ ts)) �
 ends-are at left (c ∷ cs) ts ps vs ep ev = go (ltb (length ts) c) refl (λ e n. ends-are e n cs (drop c ts) (drop c ps) (drop c vs) (simp (length-drop, ep)) (simp (length-drop, ev)))
   where
     go : (x : Bool) → ltb (length ts) c ≡ x → ((e n : ℕ) → chunksEnd e n cs (drop c ts) (drop c ps) (drop c vs) ≡ agreeing n cs (drop c ts) (drop c ps) (drop c vs) (orZero (chunksFrom e cs (drop c ts) (drop c ps) (drop c vs))))
-        → pick x 0 (pick (eqb (itemsEnd (at + 4) left (take c ts) (take c ps) (take c vs) .end) 0) 0 (chunksEnd (closed (itemsEnd (at + 4) left (take c ts) (take c ps) (take c vs) .end)) (itemsEnd (at + 4) left (take c ts) (take c ps) (take c vs) .left) cs (drop c ts) (drop c ps) (drop c vs)))
-        ≡ agreeing left (c ∷ cs) ts ps vs (orZero (mapOk closed (sizesOf (at + 4) (take c ts) (take c ps) (take c vs)) >>= (λ (e : ℕ). chunksFrom e cs (drop c ts) (drop c ps) (drop c vs))))
+        → pick x 0 (pick (eqb (itemsEnd (at + 4) left (take c ts) (take c ps) (take c vs) .end) 0) 0 (chunksEnd (boundaryAbove (itemsEnd (at + 4) left (take c ts) (take c ps) (take c vs) .end)) (itemsEnd (at + 4) left (take c ts) (take c ps) (take c vs) .left) cs (drop c ts) (drop c ps) (drop c vs)))
+        ≡ agreeing left (c ∷ cs) ts ps vs (orZero (mapOk boundaryAbove (sizesOf (at + 4) (take c ts) (take c ps) (take c vs)) >>= (λ (e : ℕ). chunksFrom e cs (drop c ts) (drop c ps) (drop c vs))))
     go true q ih = let h : length ts < c = ltb-true _ _ q in let z : eqb (c + sum cs) (length ts) ≡ false = ne-eqb (c + sum cs) (length ts) (λ y. omega arith) in rw z
     go false q ih =
         rw (items-are (at + 4) left (take c ts) (take c ps) (take c vs) (simp (length-take, ep)) (simp (length-take, ev)))
@@ -520,7 +520,7 @@ pub record EndKnown (start left : ℕ) (cs ts ps vs : List ℕ) (n : ℕ) : Type
   pub bytes : sum ps + sum vs ≡ left
   pub is : chunksFrom start cs ts ps vs ≡ ok n
 
-module _ (start left : ℕ) (cs ts ps vs : List ℕ) (d : Listed ts ps vs) (n : ℕ) (h : n ≡ chunksEnd start left cs ts ps vs) where
+module _ (start left : ℕ) (cs ts ps vs : List ℕ) (d : SameLengths ts ps vs) (n : ℕ) (h : n ≡ chunksEnd start left cs ts ps vs) where
   pub end-known : (n ≡ 0 → ⊥) → EndKnown start left cs ts ps vs n
   end-known z = go (eqb (sum cs) (length ts)) refl (eqb (sum ps + sum vs) left) refl (h ∙ ends-are start left cs ts ps vs (d .prefixes) (d .values))
     where

@@ -7,13 +7,13 @@ use Rattle.rfc3550.specs.Answer.{ok}
 use Rattle.rfc3550.specs.Bytes.{sum, store}
 use Rattle.rfc3550.specs.Packet.{itemBytes, itemsBytes, chunkBytes, chunksBytes}
 use Rattle.rfc3550.specs.Write.{LentItem, lentItems, lentChunks, itemGiven, itemsGiven, chunkGiven, chunksGiven, itemsTests}
-use Rattle.chunk_write.specs.Sizes.{lent, itemLength, sizeOf, Listed, part, closed}
+use Rattle.chunk_write.specs.Sizes.{lent, itemLength, sizeOf, SameLengths, between, boundaryAbove}
 use Rattle.chunk_write.specs.declared.chunks.LaidEnd.{LaidEnd}
 
 pub record Within (ts ps vs bs : List ℕ) (i j from : ℕ) : Type 0 where
   pub order : i ≤ j
   pub within : j ≤ length ts
-  pub lists : Listed ts ps vs
+  pub lists : SameLengths ts ps vs
   pub bytes : from ≤ length bs
 
 -- the bytes of the lent items
@@ -36,7 +36,7 @@ pub record PartLaid (t p v from : ℕ) (bs : List ℕ) (at : ℕ) (l : List ℕ)
   pub taken : from + p + v ≤ length bs
 
 pub record ItemsFit (ts ps vs bs : List ℕ) (space : ℕ) : Type 0 where
-  pub listed : Listed ts ps vs
+  pub listed : SameLengths ts ps vs
   pub bytes : sum ps + sum vs ≤ length bs
   pub tests : itemsTests (lentItems ts ps vs bs) ≡ ok tt
   pub room : length (laidItems ts ps vs bs) ≤ space
@@ -52,10 +52,10 @@ abbrev pub laidChunk : ℕ → List ℕ → List ℕ → List ℕ → List ℕ �
 laidChunk ssrc ts ps vs bs = chunkBytes (chunkGiven (record { ssrc = ssrc; items = lentItems ts ps vs bs }))
 
 pub record ChunkFits (ts ps vs bs : List ℕ) (space : ℕ) : Type 0 where
-  pub listed : Listed ts ps vs
+  pub listed : SameLengths ts ps vs
   pub bytes : sum ps + sum vs ≤ length bs
   pub tests : itemsTests (lentItems ts ps vs bs) ≡ ok tt
-  pub room : closed (4 + length (laidItems ts ps vs bs)) ≤ space
+  pub room : boundaryAbove (4 + length (laidItems ts ps vs bs)) ≤ space
 
 pub record ChunkLaid (ssrc from : ℕ) (ts ps vs bs l : List ℕ) (r : LaidEnd) (l₁ : List ℕ) : Type 0 where
   pub size : r .end ≡ length (laidChunk ssrc ts ps vs bs)
@@ -65,15 +65,15 @@ pub record ChunkLaid (ssrc from : ℕ) (ts ps vs bs l : List ℕ) (r : LaidEnd) 
 pub record ChunkFitsAt (ts ps vs bs : List ℕ) (i j from at space : ℕ) : Type 0 where
   pub order : i ≤ j
   pub within : j ≤ length ts
-  pub listed : Listed ts ps vs
+  pub listed : SameLengths ts ps vs
   pub start : at ≤ space
   pub bytes : from ≤ length bs
-  pub fits : ChunkFits (part i j ts) (part i j ps) (part i j vs) (drop from bs) (space - at)
+  pub fits : ChunkFits (between i j ts) (between i j ps) (between i j vs) (drop from bs) (space - at)
 
 pub record ChunkLaidAt (ssrc : ℕ) (ts ps vs bs : List ℕ) (i j from at : ℕ) (l : List ℕ) (r : LaidEnd) (l₁ : List ℕ) : Type 0 where
-  pub size : r .end ≡ length (laidChunk ssrc (part i j ts) (part i j ps) (part i j vs) (drop from bs))
-  pub used : r .taken ≡ from + (sum (part i j ps) + sum (part i j vs))
-  pub bytes : l₁ ≡ store at (laidChunk ssrc (part i j ts) (part i j ps) (part i j vs) (drop from bs)) l
+  pub size : r .end ≡ length (laidChunk ssrc (between i j ts) (between i j ps) (between i j vs) (drop from bs))
+  pub used : r .taken ≡ from + (sum (between i j ps) + sum (between i j vs))
+  pub bytes : l₁ ≡ store at (laidChunk ssrc (between i j ts) (between i j ps) (between i j vs) (drop from bs)) l
   pub ends : at + r .end ≤ length l
   pub taken : r .taken ≤ length bs
 
@@ -84,7 +84,7 @@ laidChunks ss cs ts ps vs bs = chunksBytes (chunksGiven (lentChunks ss cs (lentI
 pub record ChunksFit (o : ℕ) (ss cs ts ps vs bs : List ℕ) (space : ℕ) : Type 0 where
   pub counts : length cs ≡ length ss
   pub items : sum cs ≡ length ts
-  pub listed : Listed ts ps vs
+  pub listed : SameLengths ts ps vs
   pub bytes : sum ps + sum vs ≤ length bs
   pub tests : itemsTests (lentItems ts ps vs bs) ≡ ok tt
   pub room : o + length (laidChunks ss cs ts ps vs bs) ≤ space

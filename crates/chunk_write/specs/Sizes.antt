@@ -1,5 +1,5 @@
 -- The sizes of items and chunks from their lengths alone.
-use Prim.Native.Nat.{ℕ, _+_, _-_, _*_, _%_, _<_, _≤_, _^_}
+use Prim.Native.Nat.{ℕ, _+_, _-_, _*_, _<_, _≤_, _^_}
 use mathlib.Core.Path.{_≡_}
 use mathlib.Core.Bool.{_||_, not}
 use mathlib.Core.List.{List, [], _∷_}
@@ -7,6 +7,7 @@ use lib.ListN.{length, take, drop, getD}
 use lib.Dec.{leb, ltb, eqb}
 use Rattle.rfc3550.specs.Answer.{Refusal, refusal, Answer, ok, need, _>>_, _>>=_, mapOk, pick}
 use Rattle.rfc3550.specs.Write.{LentItem}
+use Rattle.rfc3550.specs.Packet.{fill}
 use Rattle.utils.specs.Error.{orZero}
 use Rattle.utils.specs.Writer.{sizeRefusal}
 use Rattle.chunk_write.specs.declared.chunks.ItemsEnd.{ItemsEnd}
@@ -34,13 +35,13 @@ pub record ItemFits (t p v space : ℕ) : Type 0 where
   pub passed : sizeOf t p v ≡ ok (itemLength t p v)
   pub room : itemLength t p v ≤ space
 
-pub record Listed (ts ps vs : List ℕ) : Type 0 where
+pub record SameLengths (ts ps vs : List ℕ) : Type 0 where
   pub prefixes : length ps ≡ length ts
   pub values : length vs ≡ length ts
 
 -- the elements from index i up to index j
-abbrev pub part : ℕ → ℕ → List ℕ → List ℕ
-part i j xs = take (j - i) (drop i xs)
+abbrev pub between : ℕ → ℕ → List ℕ → List ℕ
+between i j xs = take (j - i) (drop i xs)
 
 -- why the first refused item is refused; 22 where none is
 unfoldable pub itemsRefusal : List ℕ → List ℕ → List ℕ → Refusal
@@ -55,14 +56,14 @@ sizesOf n (t ∷ ts) ps vs = do
   sizesOf (n + m) ts (drop 1 ps) (drop 1 vs)
 
 -- the word boundary after an index
-abbrev pub closed : ℕ → ℕ
-closed at = at + (4 - at % 4)
+abbrev pub boundaryAbove : ℕ → ℕ
+boundaryAbove at = at + fill at
 
 -- the end of chunks of so many items, the first at `at`
 unfoldable pub chunksFrom : ℕ → List ℕ → List ℕ → List ℕ → List ℕ → Answer ℕ
 chunksFrom at [] ts ps vs = ok at
 chunksFrom at (c ∷ cs) ts ps vs = do
-  end ← mapOk closed (sizesOf (at + 4) (take c ts) (take c ps) (take c vs))
+  end ← mapOk boundaryAbove (sizesOf (at + 4) (take c ts) (take c ps) (take c vs))
   chunksFrom end cs (drop c ts) (drop c ps) (drop c vs)
 
 -- ---- in numbers, the bytes counted along
@@ -83,7 +84,7 @@ chunksEnd at left [] ts ps vs = pick (eqb 0 (length ts)) (pick (eqb 0 left) at 0
 chunksEnd at left (c ∷ cs) ts ps vs =
     pick (ltb (length ts) c) 0
     (pick (eqb (itemsEnd (at + 4) left (take c ts) (take c ps) (take c vs) .end) 0) 0
-    (chunksEnd (closed (itemsEnd (at + 4) left (take c ts) (take c ps) (take c vs) .end)) (itemsEnd (at + 4) left (take c ts) (take c ps) (take c vs) .left) cs (drop c ts) (drop c ps) (drop c vs)))
+    (chunksEnd (boundaryAbove (itemsEnd (at + 4) left (take c ts) (take c ps) (take c vs) .end)) (itemsEnd (at + 4) left (take c ts) (take c ps) (take c vs) .left) cs (drop c ts) (drop c ps) (drop c vs)))
 
 -- up to a limit, and else 0
 abbrev pub atMost : ℕ → ℕ → ℕ
@@ -94,13 +95,13 @@ atMost limit n = pick (leb n limit) n 0
 pub record ItemsMeasured (at left : ℕ) (ts ps vs : List ℕ) (i j : ℕ) : Type 0 where
   pub order : i ≤ j
   pub within : j ≤ length ts
-  pub listed : Listed ts ps vs
+  pub listed : SameLengths ts ps vs
   pub room : at + left + 3 * (j - i) < 2 ^ 64
 
 pub record ItemsEnded (at left : ℕ) (ts ps vs : List ℕ) (i j : ℕ) (r : ItemsEnd) : Type 0 where
-  pub is : r ≡ itemsEnd at left (part i j ts) (part i j ps) (part i j vs)
+  pub is : r ≡ itemsEnd at left (between i j ts) (between i j ps) (between i j vs)
   pub most : r .end + r .left ≤ at + left + 3 * (j - i)
 
 pub record ChunksMeasured (at : ℕ) (cs ts ps vs : List ℕ) (left : ℕ) : Type 0 where
-  pub listed : Listed ts ps vs
+  pub listed : SameLengths ts ps vs
   pub room : at + left + 3 * length ts + 8 * length cs < 2 ^ 64

@@ -12,7 +12,7 @@ ghost use lib.ListN.{length, drop, getD};
 ghost use Rattle.rfc3550.specs.Bytes.{sum, store};
 ghost use Rattle.rfc3550.specs.Write.{itemsAgree};
 ghost use Rattle.utils.specs.Error.{writeRefusal};
-ghost use Rattle.chunk_write.specs.Sizes.{Listed, part, closed, atMost, chunksEnd, ItemsMeasured, ItemsEnded, ChunksMeasured, itemsRefusal};
+ghost use Rattle.chunk_write.specs.Sizes.{SameLengths, between, boundaryAbove, atMost, chunksEnd, ItemsMeasured, ItemsEnded, ChunksMeasured, itemsRefusal};
 ghost use Rattle.chunk_write.specs.Lists.{Within, PartFits, PartLaid, ItemsFit, ItemsLaid, ChunkFits, ChunkLaid, ChunksFit, laidChunks};
 
 // Whether the numbers sum to the total.
@@ -72,7 +72,7 @@ pub fn items_agree(types: &[u8], prefixes: &[u64], values: &[u64], bytes: &[u8])
 
 // Why the first refused item is refused; PacketTooLarge where none is.
 pub fn why_items_unchecked(types: &[u8], prefixes: &[u64], values: &[u64]) -> RtcpWriteError
-    requires { ⌜ Listed (now types) (now prefixes) (now values) ⌝ }
+    requires { ⌜ SameLengths (now types) (now prefixes) (now values) ⌝ }
     ensures { λ r. ⌜ writeRefusal r ≡ itemsRefusal (now (types .entry)) (now (prefixes .entry)) (now (values .entry)) ⌝ }
 {
     let n = types.len();
@@ -228,8 +228,8 @@ fn write_items(
     last: usize,
     from: usize,
 ) -> LaidEnd
-    requires { ⌜ Within (now types) (now prefixes) (now values) (now bytes) first last from × (to ≤ length (now buf)) × ItemsFit (part first last (now types)) (part first last (now prefixes)) (part first last (now values)) (drop from (now bytes)) (length (now buf) - to) ⌝ }
-    ensures { λ r. ⌜ ItemsLaid to from (part first last (now (types .entry))) (part first last (now (prefixes .entry))) (part first last (now (values .entry))) (drop from (now (bytes .entry))) (now (buf .entry)) r (now (buf .exit)) ⌝ }
+    requires { ⌜ Within (now types) (now prefixes) (now values) (now bytes) first last from × (to ≤ length (now buf)) × ItemsFit (between first last (now types)) (between first last (now prefixes)) (between first last (now values)) (drop from (now bytes)) (length (now buf) - to) ⌝ }
+    ensures { λ r. ⌜ ItemsLaid to from (between first last (now (types .entry))) (between first last (now (prefixes .entry))) (between first last (now (values .entry))) (drop from (now (bytes .entry))) (now (buf .entry)) r (now (buf .exit)) ⌝ }
 {
     let mut i = first;
     let mut end = to;
@@ -256,8 +256,8 @@ fn write_chunk(
     last: usize,
     from: usize,
 ) -> LaidEnd
-    requires { ⌜ Within (now types) (now prefixes) (now values) (now bytes) first last from × ChunkFits (part first last (now types)) (part first last (now prefixes)) (part first last (now values)) (drop from (now bytes)) (length (now buf)) ⌝ }
-    ensures { λ r. ⌜ ChunkLaid ssrc from (part first last (now (types .entry))) (part first last (now (prefixes .entry))) (part first last (now (values .entry))) (drop from (now (bytes .entry))) (now (buf .entry)) r (now (buf .exit)) ⌝ }
+    requires { ⌜ Within (now types) (now prefixes) (now values) (now bytes) first last from × ChunkFits (between first last (now types)) (between first last (now prefixes)) (between first last (now values)) (drop from (now bytes)) (length (now buf)) ⌝ }
+    ensures { λ r. ⌜ ChunkLaid ssrc from (between first last (now (types .entry))) (between first last (now (prefixes .entry))) (between first last (now (values .entry))) (drop from (now (bytes .entry))) (now (buf .entry)) r (now (buf .exit)) ⌝ }
 {
     writer::write_u32_unchecked(buf, 0, ssrc);
     let items = write_items(buf, 4, types, prefixes, values, bytes, first, last, from);

@@ -12,7 +12,7 @@ use Rattle.utils.specs.declared.writer.Written.the-variants.{Size}
 use Rattle.utils.proofs.Parts.{lent-again}
 use Rattle.utils.proofs.WriterPackets.{writes, padding-most, sized, size-ok, size-over, size-refused, header-last, header-long, packet-laid}
 use Rattle.utils.proofs.Sizes.{size-why, write-why, size-came, write-room, write-laid, why-last}
-use Rattle.chunk_write.specs.Sizes.{Listed, itemsRefusal, atMost, chunksEnd, ChunksMeasured}
+use Rattle.chunk_write.specs.Sizes.{SameLengths, itemsRefusal, atMost, chunksEnd, ChunksMeasured}
 use Rattle.chunk_write.specs.Lists.{laidChunks, ChunksFit}
 use Rattle.chunk_write.proofs.Sizes.{Agreed, agreed, chunks-are, refusal-of, EndKnown, end-known, end-none}
 use Rattle.sdes_write.specs.Packets.{lists, withPadding, EndsFit, SdesFits}
@@ -48,7 +48,7 @@ all-agreed ss cs ts ps vs bs t e q =
     let b = and-inv (eqb (length ss) (length cs)) (eqb (sum cs) (length ts)) (a .0) in
     record { counts = sym (eqb-true _ _ (b .0)); sums = eqb-true _ _ (b .1); items = agreed ts ps vs bs (itemsAgree ts ps vs bs) refl (a .1) }
 
-pub lists-listed : (ss cs ts ps vs bs : List ℕ) (t : Bool) → t ≡ listsAgree (lists ss cs ts ps vs bs) → t ≡ true → Listed ts ps vs
+pub lists-listed : (ss cs ts ps vs bs : List ℕ) (t : Bool) → t ≡ listsAgree (lists ss cs ts ps vs bs) → t ≡ true → SameLengths ts ps vs
 lists-listed ss cs ts ps vs bs t e q = let a = all-agreed ss cs ts ps vs bs t e q in record { prefixes = a .items .prefixes; values = a .items .values }
 
 -- ---- the size, and why there is none
@@ -123,7 +123,7 @@ module _ (ss cs ts ps vs bs : List ℕ) (k : ℕ) where
           go (refused x) i = ap sizeRefusal (size-refused given i)
 
       module _ (ep : length ts ≡ length ps) (ev : length ts ≡ length vs) (n : ℕ) (g : n ≡ chunksEnd 4 (length bs) cs ts ps vs) where
-        d : Listed ts ps vs
+        d : SameLengths ts ps vs
         d = record { prefixes = sym ep; values = sym ev }
 
         size-none : n ≡ 0 → 0 ≡ orZero (calculateSize given)
