@@ -116,14 +116,15 @@ struct RtcpBlock {
     uint64_t delay_since_last_sender_report_timestamp;
 };
 
-/* A receiver report: n_reports blocks of 24 bytes from 8 on, then the profile's extension, then the padding. */
+/* A receiver report: n_reports blocks of 24 bytes from 8 on, then the profile's extension, then the padding. In every packet's result, body is the end
+   of the body, where padding_len bytes of padding start. */
 struct RtcpRr {
     uint64_t number, first, second;
     uint64_t ssrc;
     uint64_t n_reports;
     uint64_t extension;
     uint64_t extension_len;
-    uint64_t padding;
+    uint64_t body;
     uint64_t padding_len;
 };
 
@@ -138,7 +139,7 @@ struct RtcpSr {
     uint64_t n_reports;
     uint64_t extension;
     uint64_t extension_len;
-    uint64_t padding;
+    uint64_t body;
     uint64_t padding_len;
 };
 
@@ -200,7 +201,7 @@ struct RtcpApp {
     uint64_t name_len;
     uint64_t data;
     uint64_t data_len;
-    uint64_t padding;
+    uint64_t body;
     uint64_t padding_len;
 };
 
@@ -221,7 +222,7 @@ struct RtcpBye {
     uint64_t reason_len;
     uint64_t tail;
     uint64_t tail_len;
-    uint64_t padding;
+    uint64_t body;
     uint64_t padding_len;
 };
 
@@ -247,7 +248,6 @@ struct RtcpSdes {
     uint64_t n_chunks;
     uint64_t has_cname;
     uint64_t body;
-    uint64_t padding;
     uint64_t padding_len;
 };
 

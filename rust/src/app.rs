@@ -34,7 +34,7 @@ impl<'a> RtcpPacketParser<'a> for App<'a> {
         Ok(App {
             packet: data,
             ssrc: app.ssrc as u32,
-            body: app.padding as u32,
+            body: app.body as u32,
             name: [name[0], name[1], name[2], name[3]],
         })
     }

@@ -39,7 +39,7 @@ impl<'a> RtcpPacketParser<'a> for Bye<'a> {
         Ok(Bye {
             data,
             reason: bye.reason as u32,
-            body: bye.padding as u32,
+            body: bye.body as u32,
             reason_len: (bye.has_reason != 0).then_some(bye.reason_len as u8),
             n_sources: bye.n_sources as u8,
         })

@@ -8,23 +8,23 @@ results! {
         delay_since_last_sender_report_timestamp: u64
     }
     RtcpRr {
-        ssrc: u64, n_reports: u64, extension: u64, extension_len: u64, padding: u64,
+        ssrc: u64, n_reports: u64, extension: u64, extension_len: u64, body: u64,
         padding_len: u64
     }
     RtcpSr {
         ssrc: u64, ntp_timestamp: u64, rtp_timestamp: u64, packet_count: u64, octet_count: u64,
-        n_reports: u64, extension: u64, extension_len: u64, padding: u64, padding_len: u64
+        n_reports: u64, extension: u64, extension_len: u64, body: u64, padding_len: u64
     }
     RtcpApp {
-        subtype: u64, ssrc: u64, name: u64, name_len: u64, data: u64, data_len: u64, padding: u64,
+        subtype: u64, ssrc: u64, name: u64, name_len: u64, data: u64, data_len: u64, body: u64,
         padding_len: u64
     }
     RtcpBye {
         n_sources: u64, has_reason: u64, reason: u64, reason_len: u64, tail: u64, tail_len: u64,
-        padding: u64, padding_len: u64
+        body: u64, padding_len: u64
     }
     RtcpSource { ssrc: u64 }
-    RtcpSdes { n_chunks: u64, has_cname: u64, body: u64, padding: u64, padding_len: u64 }
+    RtcpSdes { n_chunks: u64, has_cname: u64, body: u64, padding_len: u64 }
     RtcpItem {
         type_: u64, length: u64, prefix: u64, prefix_len: u64, value: u64, value_len: u64
     }

@@ -22,7 +22,7 @@ macro_rules! read_report {
                 let report = Report {
                     data,
                     ssrc: read.ssrc as u32,
-                    body: read.padding as u32,
+                    body: read.body as u32,
                     n_reports: read.n_reports as u8,
                 };
                 Ok(Self::of(report, &read))

@@ -58,7 +58,7 @@ impl<'a> Sdes<'a> {
     /// The padding, its count at the end; empty where the packet is not padded.
     pub fn padding_bytes(&self) -> &'a [u8] {
         let sdes = ffi::rtcp_sdes_parse(self.data);
-        part(self.data, sdes.padding, sdes.padding_len)
+        part(self.data, sdes.body, sdes.padding_len)
     }
 
     /// The number of padding bytes, if the packet is padded.

@@ -38,26 +38,26 @@ fn packet(op: usize, s: &[u8], i: u64) {
             let r = read_report::rtcp_rr_parse(s);
             three(r.number, r.first, r.second);
             four(r.ssrc, r.n_reports, r.extension, r.extension_len);
-            two(r.padding, r.padding_len);
+            two(r.body, r.padding_len);
         }
         4 => {
             let r = read_report::rtcp_sr_parse(s);
             three(r.number, r.first, r.second);
             three(r.ssrc, r.ntp_timestamp, r.rtp_timestamp);
             three(r.packet_count, r.octet_count, r.n_reports);
-            four(r.extension, r.extension_len, r.padding, r.padding_len);
+            four(r.extension, r.extension_len, r.body, r.padding_len);
         }
         5 => {
             let r = read_app::rtcp_app_parse(s);
             three(r.number, r.first, r.second);
             four(r.subtype, r.ssrc, r.name, r.name_len);
-            four(r.data, r.data_len, r.padding, r.padding_len);
+            four(r.data, r.data_len, r.body, r.padding_len);
         }
         6 => {
             let r = read_bye::rtcp_bye_parse(s);
             three(r.number, r.first, r.second);
             four(r.n_sources, r.has_reason, r.reason, r.reason_len);
-            four(r.tail, r.tail_len, r.padding, r.padding_len);
+            four(r.tail, r.tail_len, r.body, r.padding_len);
         }
         _ => {
             let r = read_bye::rtcp_bye_source(s, i);
@@ -72,7 +72,7 @@ fn description(op: usize, s: &[u8], i: u64, end: u64) {
         8 => {
             let r = read_sdes::rtcp_sdes_parse(s);
             four(r.number, r.first, r.second, r.n_chunks);
-            four(r.has_cname, r.body, r.padding, r.padding_len);
+            three(r.has_cname, r.body, r.padding_len);
         }
         9 => {
             let r = read_sdes::rtcp_item_parse(s);

@@ -19,7 +19,7 @@ app-order o a x = viewed parsedOf parsed.App (λ a. refl) appView (λ (a : App).
 pub record Places (s : List ℕ) (p : Packet) (r : RtcpApp) : Type 0 where
   pub name : take (r .«name_len») (drop (r .name) s) ≡ nameOf (p .content)
   pub payload : take (r .«data_len») (drop (r .«data») s) ≡ dataOf (p .content)
-  pub padding : take (r .«padding_len») (drop (r .padding) s) ≡ p .padding
+  pub padding : take (r .«padding_len») (drop (r .body) s) ≡ p .padding
 
 pub places : (s : List ℕ) (p : Packet) → readAs APP s ≡ ok p → Places s p (appResult (mapOk appView (readAs APP s)))
 unfolding mapOk

@@ -23,7 +23,7 @@ module _ (o : ParsedBye) (b : Bye) (x : Answer Packet) (p : o ≡ parsed.Bye b) 
 pub record Places (s : List ℕ) (p : Packet) (r : RtcpBye) : Type 0 where
   pub because : take (r .«reason_len») (drop (r .reason) s) ≡ reasonBytes (leaving (p .content))
   pub tail : take (r .«tail_len») (drop (r .tail) s) ≡ tailBytes (leaving (p .content))
-  pub padding : take (r .«padding_len») (drop (r .padding) s) ≡ p .padding
+  pub padding : take (r .«padding_len») (drop (r .body) s) ≡ p .padding
 
 pub places : (s : List ℕ) (p : Packet) → readAs BYE s ≡ ok p → Places s p (byeResult (mapOk byeView (readAs BYE s)))
 unfolding mapOk

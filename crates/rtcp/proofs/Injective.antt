@@ -66,24 +66,24 @@ blockResult-injective =
 
 pub rrResult-injective : Injective rrResult
 rrResult-injective =
-    by-fields rrResult (λ r. record { ssrc = r .ssrc; «n_reports» = r .«n_reports»; extension = r .extension; body = r .padding; «padding_len» = r .«padding_len» })
+    by-fields rrResult (λ r. record { ssrc = r .ssrc; «n_reports» = r .«n_reports»; extension = r .extension; body = r .body; «padding_len» = r .«padding_len» })
     (λ r. (r .number, r .first, r .second)) (λ a. refl) (λ x. refl)
 
 pub srResult-injective : Injective srResult
 srResult-injective =
     by-fields srResult
-    (λ r. record { ssrc = r .ssrc; «ntp_timestamp» = r .«ntp_timestamp»; «rtp_timestamp» = r .«rtp_timestamp»; «packet_count» = r .«packet_count»; «octet_count» = r .«octet_count»; «n_reports» = r .«n_reports»; extension = r .extension; body = r .padding; «padding_len» = r .«padding_len» })
+    (λ r. record { ssrc = r .ssrc; «ntp_timestamp» = r .«ntp_timestamp»; «rtp_timestamp» = r .«rtp_timestamp»; «packet_count» = r .«packet_count»; «octet_count» = r .«octet_count»; «n_reports» = r .«n_reports»; extension = r .extension; body = r .body; «padding_len» = r .«padding_len» })
     (λ r. (r .number, r .first, r .second)) (λ a. refl) (λ x. refl)
 
 pub appResult-injective : Injective appResult
 appResult-injective =
-    by-fields appResult (λ r. record { ssrc = r .ssrc; subtype = r .subtype; body = r .padding; «padding_len» = r .«padding_len» })
+    by-fields appResult (λ r. record { ssrc = r .ssrc; subtype = r .subtype; body = r .body; «padding_len» = r .«padding_len» })
     (λ r. (r .number, r .first, r .second)) (λ a. refl) (λ x. refl)
 
 pub byeResult-injective : Injective byeResult
 byeResult-injective =
     by-fields byeResult
-    (λ r. record { «n_sources» = r .«n_sources»; «has_reason» = eqb (r .«has_reason») 1; reason = r .reason; «reason_len» = r .«reason_len»; body = r .padding; «padding_len» = r .«padding_len» })
+    (λ r. record { «n_sources» = r .«n_sources»; «has_reason» = eqb (r .«has_reason») 1; reason = r .reason; «reason_len» = r .«reason_len»; body = r .body; «padding_len» = r .«padding_len» })
     (λ r. (r .number, r .first, r .second)) (λ a. refl) (λ x. rw (bit-back (x .«has_reason»)))
 
 pub sourceResult-injective : Injective sourceResult

@@ -17,6 +17,6 @@ appResult a =
       «name_len» = field (λ x. 4) a;
       «data» = field (λ x. 12) a;
       «data_len» = field (λ x. x .body - 12) a;
-      padding = field (λ x. x .body) a;
+      body = field (λ x. x .body) a;
       «padding_len» = field (λ x. x .«padding_len») a;
     }

@@ -18,7 +18,7 @@ byeResult a =
       «reason_len» = field (λ x. x .«reason_len») a;
       tail = field (λ x. x .reason + x .«reason_len») a;
       «tail_len» = field (λ x. x .body - (x .reason + x .«reason_len»)) a;
-      padding = field (λ x. x .body) a;
+      body = field (λ x. x .body) a;
       «padding_len» = field (λ x. x .«padding_len») a;
     }
 

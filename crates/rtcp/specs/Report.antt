@@ -37,7 +37,7 @@ rrResult a =
       «n_reports» = field (λ r. r .«n_reports») a;
       extension = field (λ r. r .extension) a;
       «extension_len» = field (λ r. r .body - r .extension) a;
-      padding = field (λ r. r .body) a;
+      body = field (λ r. r .body) a;
       «padding_len» = field (λ r. r .«padding_len») a;
     }
 
@@ -55,7 +55,7 @@ srResult a =
       «n_reports» = field (λ r. r .«n_reports») a;
       extension = field (λ r. r .extension) a;
       «extension_len» = field (λ r. r .body - r .extension) a;
-      padding = field (λ r. r .body) a;
+      body = field (λ r. r .body) a;
       «padding_len» = field (λ r. r .«padding_len») a;
     }
 

@@ -28,7 +28,6 @@ sdesResult a =
       «n_chunks» = field (λ x. x .«n_chunks») a;
       «has_cname» = field (λ x. bit (x .«has_cname»)) a;
       body = field (λ x. x .body) a;
-      padding = field (λ x. x .body) a;
       «padding_len» = field (λ x. x .«padding_len») a;
     }
 

@@ -18,7 +18,7 @@ pub struct RtcpApp {
     pub name_len: u64,
     pub data: u64,
     pub data_len: u64,
-    pub padding: u64,
+    pub body: u64,
     pub padding_len: u64,
 }
 
@@ -37,7 +37,7 @@ pub extern "C" fn rtcp_app_parse(s: &[u8]) -> RtcpApp
             name_len: App::NAME_LEN as u64,
             data: App::MIN_PACKET_LEN as u64,
             data_len: (app.body - App::MIN_PACKET_LEN) as u64,
-            padding: app.body as u64,
+            body: app.body as u64,
             padding_len: app.padding_len as u64,
         },
         ParsedApp::Refused(e) => {
@@ -52,7 +52,7 @@ pub extern "C" fn rtcp_app_parse(s: &[u8]) -> RtcpApp
                 name_len: 0,
                 data: 0,
                 data_len: 0,
-                padding: 0,
+                body: 0,
                 padding_len: 0,
             }
         }

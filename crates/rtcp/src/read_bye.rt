@@ -20,7 +20,7 @@ pub struct RtcpBye {
     pub reason_len: u64,
     pub tail: u64,
     pub tail_len: u64,
-    pub padding: u64,
+    pub body: u64,
     pub padding_len: u64,
 }
 
@@ -47,7 +47,7 @@ pub extern "C" fn rtcp_bye_parse(s: &[u8]) -> RtcpBye
             reason_len: bye.reason_len as u64,
             tail: (bye.reason + bye.reason_len) as u64,
             tail_len: (bye.body - (bye.reason + bye.reason_len)) as u64,
-            padding: bye.body as u64,
+            body: bye.body as u64,
             padding_len: bye.padding_len as u64,
         },
         ParsedBye::Refused(e) => {
@@ -62,7 +62,7 @@ pub extern "C" fn rtcp_bye_parse(s: &[u8]) -> RtcpBye
                 reason_len: 0,
                 tail: 0,
                 tail_len: 0,
-                padding: 0,
+                body: 0,
                 padding_len: 0,
             }
         }

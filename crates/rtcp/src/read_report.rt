@@ -40,7 +40,7 @@ pub struct RtcpRr {
     pub n_reports: u64,
     pub extension: u64,
     pub extension_len: u64,
-    pub padding: u64,
+    pub body: u64,
     pub padding_len: u64,
 }
 
@@ -57,7 +57,7 @@ pub struct RtcpSr {
     pub n_reports: u64,
     pub extension: u64,
     pub extension_len: u64,
-    pub padding: u64,
+    pub body: u64,
     pub padding_len: u64,
 }
 
@@ -110,7 +110,7 @@ impl RtcpRr {
             n_reports: 0,
             extension: 0,
             extension_len: 0,
-            padding: 0,
+            body: 0,
             padding_len: 0,
         }
     }
@@ -127,7 +127,7 @@ impl RtcpRr {
             n_reports: rr.n_reports as u64,
             extension: rr.extension as u64,
             extension_len: (rr.body - rr.extension) as u64,
-            padding: rr.body as u64,
+            body: rr.body as u64,
             padding_len: rr.padding_len as u64,
         }
     }
@@ -166,7 +166,7 @@ impl RtcpSr {
             n_reports: sr.n_reports as u64,
             extension: sr.extension as u64,
             extension_len: (sr.body - sr.extension) as u64,
-            padding: sr.body as u64,
+            body: sr.body as u64,
             padding_len: sr.padding_len as u64,
         }
     }
@@ -203,7 +203,7 @@ impl RtcpSr {
             n_reports: 0,
             extension: 0,
             extension_len: 0,
-            padding: 0,
+            body: 0,
             padding_len: 0,
         }
     }

@@ -33,7 +33,6 @@ pub struct RtcpSdes {
     pub n_chunks: u64,
     pub has_cname: u64,
     pub body: u64,
-    pub padding: u64,
     pub padding_len: u64,
 }
 
@@ -154,7 +153,6 @@ pub extern "C" fn rtcp_sdes_parse(s: &[u8]) -> RtcpSdes
             n_chunks: sdes.n_chunks as u64,
             has_cname: bit(sdes.has_cname),
             body: sdes.body as u64,
-            padding: sdes.body as u64,
             padding_len: sdes.padding_len as u64,
         },
         ParsedSdes::Refused(e) => {
@@ -166,7 +164,6 @@ pub extern "C" fn rtcp_sdes_parse(s: &[u8]) -> RtcpSdes
                 n_chunks: 0,
                 has_cname: 0,
                 body: 0,
-                padding: 0,
                 padding_len: 0,
             }
         }

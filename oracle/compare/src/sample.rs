@@ -299,8 +299,7 @@ fn answer(operation: &Operation, input: &[u8], view: &View) -> String {
             seen.padding(
                 Fields::of(input)
                     .number(n("chunks"))
-                    .number(has_cname.into())
-                    .number(seen.body()),
+                    .number(has_cname.into()),
             )
         }
         Operation::ReadItem(_) => Fields::of(input).item(0, &seen.chunks()[0].items[0]),

@@ -6,9 +6,9 @@ use library::*;
 use model::{Kind, SdesWalk, PRIV};
 use std::cmp::min;
 
-/// The parts of a packet's end: everything up to `padding` is its body.
+/// The parts of a packet's end: the padding starts where the body ends.
 struct End {
-    padding: u64,
+    body: u64,
     padding_len: u64,
 }
 
@@ -19,7 +19,7 @@ impl End {
         view.count("length", s.len());
         place(
             view,
-            self.padding.wrapping_add(self.padding_len),
+            self.body.wrapping_add(self.padding_len),
             s.len() as u64,
         );
         match self.padding_len {
@@ -29,7 +29,7 @@ impl End {
     }
 
     fn bytes(&self, view: &mut View, s: &[u8]) {
-        part(view, "padding_bytes", s, self.padding, self.padding_len);
+        part(view, "padding_bytes", s, self.body, self.padding_len);
     }
 }
 
@@ -49,7 +49,7 @@ pub(super) fn read_as(kind: Kind, s: &[u8]) -> Option<View> {
 fn read_rr(s: &[u8]) -> Option<View> {
     let rr = rtcp_rr_parse(s)?;
     let end = End {
-        padding: rr.padding,
+        body: rr.body,
         padding_len: rr.padding_len,
     };
     Some(shown(rr, |view| {
@@ -57,7 +57,7 @@ fn read_rr(s: &[u8]) -> Option<View> {
         view.number("ssrc", rr.ssrc);
         show_blocks(view, rr.n_reports, |i| rtcp_rr_report_block(s, i));
         place(view, rr.extension, 8 + 24 * rr.n_reports);
-        place(view, rr.extension + rr.extension_len, rr.padding);
+        place(view, rr.extension + rr.extension_len, rr.body);
         part(view, "extension", s, rr.extension, rr.extension_len);
         end.bytes(view, s);
     }))
@@ -66,7 +66,7 @@ fn read_rr(s: &[u8]) -> Option<View> {
 fn read_sr(s: &[u8]) -> Option<View> {
     let sr = rtcp_sr_parse(s)?;
     let end = End {
-        padding: sr.padding,
+        body: sr.body,
         padding_len: sr.padding_len,
     };
     Some(shown(sr, |view| {
@@ -78,7 +78,7 @@ fn read_sr(s: &[u8]) -> Option<View> {
         view.number("octet_count", sr.octet_count);
         show_blocks(view, sr.n_reports, |i| rtcp_sr_report_block(s, i));
         place(view, sr.extension, 28 + 24 * sr.n_reports);
-        place(view, sr.extension + sr.extension_len, sr.padding);
+        place(view, sr.extension + sr.extension_len, sr.body);
         part(view, "extension", s, sr.extension, sr.extension_len);
         end.bytes(view, s);
     }))
@@ -141,7 +141,7 @@ pub(super) fn prefix_alone(s: &[u8]) -> Option<View> {
 fn read_bye(s: &[u8]) -> Option<View> {
     let bye = rtcp_bye_parse(s)?;
     let end = End {
-        padding: bye.padding,
+        body: bye.body,
         padding_len: bye.padding_len,
     };
     Some(shown(bye, |view| {
@@ -153,7 +153,7 @@ fn read_bye(s: &[u8]) -> Option<View> {
         // The byte before a reason is its length.
         place(view, bye.reason, 4 + 4 * bye.n_sources + bye.has_reason);
         place(view, bye.tail, bye.reason + bye.reason_len);
-        place(view, bye.padding, bye.tail + bye.tail_len);
+        place(view, bye.body, bye.tail + bye.tail_len);
         show_reason(view, s, bye.has_reason, bye.reason, bye.reason_len);
         part(view, "tail", s, bye.tail, bye.tail_len);
         end.bytes(view, s);
@@ -179,7 +179,7 @@ fn show_reason(view: &mut View, s: &[u8], has_reason: u64, reason: u64, reason_l
 fn read_app(s: &[u8]) -> Option<View> {
     let app = rtcp_app_parse(s)?;
     let end = End {
-        padding: app.padding,
+        body: app.body,
         padding_len: app.padding_len,
     };
     Some(shown(app, |view| {
@@ -187,7 +187,7 @@ fn read_app(s: &[u8]) -> Option<View> {
         view.number("ssrc", app.ssrc);
         place(view, app.name, 8);
         place(view, app.data, app.name + app.name_len);
-        place(view, app.padding, app.data + app.data_len);
+        place(view, app.body, app.data + app.data_len);
         part(view, "name", s, app.name, app.name_len);
         part(view, "data", s, app.data, app.data_len);
         end.bytes(view, s);
@@ -203,7 +203,7 @@ fn read_sdes(s: &[u8]) -> Option<View> {
         end: open.end,
     };
     let end = End {
-        padding: sdes.padding,
+        body: sdes.body,
         padding_len: sdes.padding_len,
     };
     let mut view = shown(sdes, |_| {});
@@ -214,7 +214,6 @@ fn read_sdes(s: &[u8]) -> Option<View> {
         return Some(view);
     }
     end.header(&mut view, s, Kind::Sdes, sdes.n_chunks);
-    place(&mut view, sdes.body, sdes.padding);
     view.number("chunks", sdes.n_chunks);
     let mut cname = false;
     for _ in 0..min(sdes.n_chunks, MOST) {

@@ -15,7 +15,7 @@ pub(super) fn answer(row: &Row) -> Vec<u64> {
         "sr_parse" => result(10, read_as(Kind::Sr, s).map(packet)),
         "app_parse" => result(8, read_as(Kind::App, s).map(packet)),
         "bye_parse" => result(8, read_as(Kind::Bye, s).map(packet)),
-        "sdes_parse" => result(5, read_as(Kind::Sdes, s).map(packet)),
+        "sdes_parse" => result(4, read_as(Kind::Sdes, s).map(packet)),
         "bye_source" => result(1, read_source_at(s, n[0]).map(|ssrc| vec![ssrc.into()])),
         "item_parse" => result(6, read_item(s).map(|(item, _)| item_fields(&item, 0))),
         "item_priv_prefix" => result(2, read_prefix(s).map(|p| vec![3, len(&p)])),
@@ -141,7 +141,7 @@ fn packet(packet: Packet) -> Vec<u64> {
         Content::Sdes { chunks } => {
             let body = 4 + chunks.iter().map(chunk_length).sum::<u64>();
             let cname = chunks.iter().any(Chunk::has_cname);
-            (vec![count, cname.into(), body], body)
+            (vec![count, cname.into()], body)
         }
         Content::Bye {
             sources,
