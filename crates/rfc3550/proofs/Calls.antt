@@ -18,13 +18,13 @@ use Rattle.rfc3550.proofs.Books.{or-and, need-first, need-last, then-fi
 
 module _ (s : System) where
   -- a call answers as the book does, and keeps the agreement
-  abbrev pub Keeps : (s .W → List ℕ → s .B → Type 0) → s .R → s .W → List ℕ → s .B → List ℕ → Type 0
-  Keeps Agree r w d b l =
+  abbrev pub Tied : (s .W → List ℕ → s .B → Type 0) → s .R → s .W → List ℕ → s .B → List ℕ → Type 0
+  Tied Agree r w d b l =
       (s .call r w l .0 ≡ s .turn r (length l) b .0)
       × Agree (s .call r w l .1) (s .kept r (s .call r w l .0) (s .call r w l .1) (s .call r w l .2) d) (s .turn r (length l) b .1)
 
   module _ (Agree : s .W → List ℕ → s .B → Type 0)
-      (tied : (r : s .R) (w : s .W) (d : List ℕ) (b : s .B) (l : List ℕ) → Agree w d b → s .Lent r d l → Keeps Agree r w d b l)
+      (tied : (r : s .R) (w : s .W) (d : List ℕ) (b : s .B) (l : List ℕ) → Agree w d b → s .Lent r d l → Tied Agree r w d b l)
       (same : (w : s .W) (d : List ℕ) (b : s .B) → Agree w d b → s .shown w d ≡ s .expected b) where
     one : (e : Event s) (w : s .W) (d : List ℕ) (b : s .B) → Agree w d b → (e .answer, e .next, e .left) ≡ s .call (e .request) w (e .lent) → s .Lent (e .request) d (e .lent)
         → (e .answer ≡ s .turn (e .request) (length (e .lent)) b .0) × Agree (e .next) (s .kept (e .request) (e .answer) (e .next) (e .left) d) (s .turn (e .request) (length (e .lent)) b .1)
@@ -170,7 +170,7 @@ agree-add w d b g l a k p =
     }
 
 tied-add : (g : Given) (w : Writer) (d : List ℕ) (b : Book) (l : List ℕ) → Agree w d b → Lends (add g) d l
-    → (r : Answer (Unit {0})) → addTests w g (length l) ≡ r → firstFault (faults (add g) (length l) b) ≡ r → Keeps compounds Agree (add g) w d b l
+    → (r : Answer (Unit {0})) → addTests w g (length l) ≡ r → firstFault (faults (add g) (length l) b) ≡ r → Tied compounds Agree (add g) w d b l
 unfolding call turn
 tied-add g w d b l a k (ok u) e q = rw (e, q) (refl, agree-add w d b g l a k (passed w g (length l) e))
 tied-add g w d b l a k (refused x) e q = rw (e, q) (refl, a)
@@ -180,12 +180,12 @@ unfolding closeTests
 close-named w e = need-ok _ _ _ _ (need-inv _ _ _ _ _ e .1)
 
 tied-close : (w : Writer) (d : List ℕ) (b : Book) (l : List ℕ) → Agree w d b
-    → (r : Answer (Unit {0})) → closeTests w ≡ r → firstFault (faults close (length l) b) ≡ r → Keeps compounds Agree close w d b l
+    → (r : Answer (Unit {0})) → closeTests w ≡ r → firstFault (faults close (length l) b) ≡ r → Tied compounds Agree close w d b l
 unfolding call turn
 tied-close w d b l a (ok u) e q = rw (e, q) (refl, record { len = a .len; bytes = a .bytes; padded = a .padded; cname = a .cname; closed = refl; valid = a .valid; last = a .last; report = a .report; named = sym (a .cname) ∙ close-named w e })
 tied-close w d b l a (refused x) e q = rw (e, q) (refl, a)
 
-tied : (r : Request) (w : Writer) (d : List ℕ) (b : Book) (l : List ℕ) → Agree w d b → Lends r d l → Keeps compounds Agree r w d b l
+tied : (r : Request) (w : Writer) (d : List ℕ) (b : Book) (l : List ℕ) → Agree w d b → Lends r d l → Tied compounds Agree r w d b l
 tied (add g) w d b l a k = tied-add g w d b l a k (addTests w g (length l)) refl (sym (add-first w d b g (length l) a))
 tied close w d b l a k = tied-close w d b l a (closeTests w) refl (sym (close-first w d b (length l) a))
 
