@@ -166,9 +166,10 @@ static inline size_t chunk_end(const uint8_t *s, size_t end, uint64_t *cname) {
     size_t at = 4;
     if (end < 8) return 0;
     while (s[at] != 0) { /* at < end - 1 here */
-        if (s[at] == 8) return 0;
+        size_t l = s[at + 1];
+        if (s[at] == 8 && (l == 0 || at + 2 == end || s[at + 2] >= l)) return 0;
         if (s[at] == 1 && *cname == 0) *cname = at;
-        at += 2 + (size_t)s[at + 1];
+        at += 2 + l;
         if (at > end - 1) return 0;
         if (at == end - 1) {
             if (s[at] != 0) return 0;
@@ -186,16 +187,20 @@ struct RtcpItemWalk rtcp_item_walk_open(const uint8_t *s, size_t len) {
 }
 
 struct RtcpItemStep rtcp_item_walk_step(const uint8_t *s, size_t len, uint64_t at) {
-    if (len - 1 > at && len > at && s[at] != 0 && s[at] != 8 && at + 2 + s[at + 1] <= len)
-        return (struct RtcpItemStep){0, 0, 0, s[at], s[at + 1], at + 2, 0, at + 2, s[at + 1], at + 2 + s[at + 1]};
-    return (struct RtcpItemStep){.number = 99, .at = at};
+    if (!LIKELY(len > at && len - 1 > at && s[at] != 0 && at + 2 + s[at + 1] <= len)) return (struct RtcpItemStep){.number = 99, .at = at};
+    uint64_t l = s[at + 1], next = at + 2 + l;
+    if (LIKELY(s[at] != 8)) return (struct RtcpItemStep){0, 0, 0, s[at], l, at + 2, 0, at + 2, l, next};
+    if (l == 0 || s[at + 2] >= l) return (struct RtcpItemStep){.number = 99, .at = at};
+    uint64_t p = s[at + 2];
+    return (struct RtcpItemStep){0, 0, 0, 8, l, at + 3, p, at + 3 + p, l - 1 - p, next};
 }
 
 struct RtcpChunkWalk rtcp_chunk_walk_open(const uint8_t *s, size_t len) {
     uint32_t w = len < 4 ? 0 : load32(s);
+    size_t body = headed(s, w, 202, len, 4);
     int cname = 0;
-    if (!LIKELY(headed(w, 202, len) && scan(s, len, w >> 24 & 31, &cname))) return (struct RtcpChunkWalk){.number = 99};
-    return (struct RtcpChunkWalk){0, 0, 0, 4, len};
+    if (!LIKELY(body != 0 && scan(s, body, w >> 24 & 31, &cname))) return (struct RtcpChunkWalk){.number = 99};
+    return (struct RtcpChunkWalk){0, 0, 0, 4, body};
 }
 
 struct RtcpChunkStep rtcp_chunk_walk_step(const uint8_t *s, size_t len, uint64_t at, uint64_t end) {
@@ -208,7 +213,7 @@ struct RtcpChunkStep rtcp_chunk_walk_step(const uint8_t *s, size_t len, uint64_t
 struct RtcpBlock rtcp_rr_report_block(const uint8_t *s, size_t len, uint64_t i) {
     uint32_t w = len < 8 ? 0 : load32(s);
     size_t n = w >> 24 & 31;
-    if (!LIKELY(headed(w, 201, len) && 8 + 24 * n <= len && i < n)) return (struct RtcpBlock){.number = 99};
+    if (!LIKELY(8 + 24 * n <= headed(s, w, 201, len, 8) && i < n)) return (struct RtcpBlock){.number = 99};
     s += 8 + 24 * i;
     return (struct RtcpBlock){0, 0, 0, load32(s), s[4], load32(s + 4) & 0xffffff, load32(s + 8), load32(s + 12), load32(s + 16), load32(s + 20)};
 }
@@ -217,7 +222,7 @@ static inline int framed(const uint8_t *s, size_t left, int first, uint32_t *w, 
     if (left < 4) return 0;
     *w = load32(s);
     *len = ((*w & 0xffff) + 1) * 4;
-    return (*w & 0xe0000000u) == 0x80000000u && *len <= left && (!first || (*w >> 16 & 0xfe) == 200);
+    return *w >> 30 == 2 && *len <= left && ((*w & PADDED) == 0 || *len == left) && (!first || (*w >> 16 & 0xfe) == 200);
 }
 
 struct RtcpWalk rtcp_walk_open(const uint8_t *s, size_t len) {
@@ -234,8 +239,10 @@ struct RtcpStep rtcp_walk_step(const uint8_t *s, size_t len, uint64_t at) {
     int cname = 0;
     if (at >= len || !framed(s + at, len - at, at == 0, &w, &l) || !packet_is_right(s + at, w, l, &cname))
         return (struct RtcpStep){.number = 99, .at = at};
-    struct RtcpStep p = {.kind = w >> 16 & 255, .packet_type = w >> 16 & 255, .count = w >> 24 & 31, .offset = at, .len = l, .body = l, .at = at + l};
+    struct RtcpStep p = {.kind = w >> 16 & 255, .packet_type = w >> 16 & 255, .count = w >> 24 & 31, .offset = at, .len = l, .at = at + l};
     s += at;
+    p.body = body_of(s, w, l, 4);
+    p.padding_len = l - p.body;
     if (p.kind == 202) {
         p.has_cname = (uint64_t)cname;
         return p;
