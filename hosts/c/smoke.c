@@ -57,11 +57,11 @@ static void block_lists(void) {
 }
 
 static void descriptions(void) {
-    CHECK(RtcpSdes, rtcp_sdes_parse(cname, sizeof cname), 0, 0, 0, 1, 1, 16, 16, 0);
-    CHECK(RtcpSdes, rtcp_sdes_parse(two, sizeof two), 0, 0, 0, 2, 0, 20, 20, 0);
-    CHECK(RtcpSdes, rtcp_sdes_parse(padded, sizeof padded), 4, 0, 0, 0, 0, 0, 0, 0);
-    CHECK(RtcpSdes, rtcp_sdes_parse(prefix, sizeof prefix), 5, 5, 0, 0, 0, 0, 0, 0);
-    CHECK(RtcpSdes, rtcp_sdes_parse(cut, sizeof cut), 2, 8, 4, 0, 0, 0, 0, 0);
+    CHECK(RtcpSdes, rtcp_sdes_parse(cname, sizeof cname), 0, 0, 0, 1, 1, 16, 0);
+    CHECK(RtcpSdes, rtcp_sdes_parse(two, sizeof two), 0, 0, 0, 2, 0, 20, 0);
+    CHECK(RtcpSdes, rtcp_sdes_parse(padded, sizeof padded), 4, 0, 0, 0, 0, 0, 0);
+    CHECK(RtcpSdes, rtcp_sdes_parse(prefix, sizeof prefix), 5, 5, 0, 0, 0, 0, 0);
+    CHECK(RtcpSdes, rtcp_sdes_parse(cut, sizeof cut), 2, 8, 4, 0, 0, 0, 0);
     CHECK(RtcpChunkWalk, rtcp_chunk_walk_open(two, sizeof two), 0, 0, 0, 4, 20);
     CHECK(RtcpChunkStep, rtcp_chunk_walk_step(two, sizeof two, 4, 20), 0, 0, 0, 1, 8, 0, 12, 20);
     CHECK(RtcpChunkStep, rtcp_chunk_walk_step(two, sizeof two, 12, 20), 0, 0, 0, 16, 8, 0, 20, 20);
