@@ -246,7 +246,7 @@ fn fields(operation: &Operation) -> usize {
         Operation::ReadAs(Kind::Sr, _) => 10,
         Operation::ReadAs(Kind::App | Kind::Bye, _) => 8,
         Operation::ReadAs(Kind::Rr, _) | Operation::ReadItem(_) => 6,
-        Operation::ReadAs(Kind::Sdes, _) => 5,
+        Operation::ReadAs(Kind::Sdes, _) => 4,
         Operation::ReadPrefix(_) => 2,
         Operation::ReadChunk(_) => 3,
         Operation::ReadSourceAt(..) => 1,
