@@ -181,11 +181,6 @@ static inline size_t chunk_end(const uint8_t *s, size_t end, uint64_t *cname) {
     return at;
 }
 
-struct RtcpItemWalk rtcp_item_walk_open(const uint8_t *s, size_t len) {
-    uint64_t cname = 0;
-    return (struct RtcpItemWalk){chunk_end(s, len, &cname) == 0 ? 99 : 0, 0, 0, 4};
-}
-
 struct RtcpItemStep rtcp_item_walk_step(const uint8_t *s, size_t len, uint64_t at) {
     if (!LIKELY(len > at && len - 1 > at && s[at] != 0 && at + 2 + s[at + 1] <= len)) return (struct RtcpItemStep){.number = 99, .at = at};
     uint64_t l = s[at + 1], next = at + 2 + l;
@@ -210,11 +205,8 @@ struct RtcpChunkStep rtcp_chunk_walk_step(const uint8_t *s, size_t len, uint64_t
     return (struct RtcpChunkStep){0, 0, 0, load32(s + at), size, cname, at + size, end};
 }
 
-struct RtcpBlock rtcp_rr_report_block(const uint8_t *s, size_t len, uint64_t i) {
-    uint32_t w = len < 8 ? 0 : load32(s);
-    size_t n = w >> 24 & 31;
-    if (!LIKELY(8 + 24 * n <= headed(s, w, 201, len, 8) && i < n)) return (struct RtcpBlock){.number = 99};
-    s += 8 + 24 * i;
+struct RtcpBlock rtcp_block_parse(const uint8_t *s, size_t len) {
+    if (len < 24) return (struct RtcpBlock){.number = 99};
     return (struct RtcpBlock){0, 0, 0, load32(s), s[4], load32(s + 4) & 0xffffff, load32(s + 8), load32(s + 12), load32(s + 16), load32(s + 20)};
 }
 

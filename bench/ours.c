@@ -70,56 +70,54 @@ static uint64_t parse_sdes31(void) { return sdes_sum(sdes31.bytes, sdes31.len); 
 
 static uint64_t parse_priv31(void) { return sdes_sum(priv31.bytes, priv31.len); }
 
-/* By the walks, one call for each packet, block, chunk and item. */
+/* By the walks, one call for each packet, block, chunk and item. A step has checked what it hands over, so no walk is opened on that: a chunk's items
+   start at 4, a packet's chunks lie between 4 and body, and an RR's blocks start at 8. */
 static uint64_t items_walked(const uint8_t *chunk, size_t len) {
     uint64_t sum = 0;
-    struct RtcpItemWalk w = rtcp_item_walk_open(chunk, len);
-    if (w.number != 0) return 0;
-    for (uint64_t at = w.at;;) {
+    for (uint64_t at = 4;;) {
         struct RtcpItemStep i = rtcp_item_walk_step(chunk, len, at);
         if (i.number != 0) return sum;
         sum += i.type_ + i.value_len + chunk[i.value];
         at = i.at;
     }
 }
-
-static uint64_t chunks_walked(const uint8_t *packet, size_t len) {
+static uint64_t chunks_walked(const uint8_t *packet, size_t len, uint64_t at, uint64_t end) {
     uint64_t sum = 0;
-    struct RtcpChunkWalk w = rtcp_chunk_walk_open(packet, len);
-    if (w.number != 0) return 0;
-    for (uint64_t at = w.at;;) {
-        struct RtcpChunkStep c = rtcp_chunk_walk_step(packet, len, at, w.end);
-        if (c.number != 0) return sum;
+    while (at < end) {
+        struct RtcpChunkStep c = rtcp_chunk_walk_step(packet, len, at, end);
+        if (c.number != 0) return 0;
         sum += c.ssrc + items_walked(packet + at, c.length);
         at = c.at;
     }
+    return sum;
 }
-
 static uint64_t rr_walked(const uint8_t *packet, const struct RtcpStep *p) {
     uint64_t sum = p->ssrc;
     for (uint64_t i = 0; i < p->count; i++) {
-        struct RtcpBlock b = rtcp_rr_report_block(packet, p->len, i);
+        struct RtcpBlock b = rtcp_block_parse(packet + 8 + 24 * i, 24);
         sum += b.ssrc + b.fraction_lost + b.cumulative_lost + b.extended_sequence_number + b.interarrival_jitter +
                b.last_sender_report_timestamp + b.delay_since_last_sender_report_timestamp;
     }
     return sum;
 }
-
 static uint64_t walk_rrsdes(void) {
     const struct Input *in = &rrsdes;
     uint64_t sum = 0;
     struct RtcpWalk w = rtcp_walk_open(in->bytes, in->len);
     if (w.number != 0) return 0;
-    for (uint64_t at = w.at;;) {
+    for (uint64_t at = w.at; at < in->len;) {
         struct RtcpStep p = rtcp_walk_step(in->bytes, in->len, at);
-        if (p.number != 0) return sum;
+        if (p.number != 0) return 0;
         if (p.kind == 201) sum += rr_walked(in->bytes + p.offset, &p);
-        if (p.kind == 202) sum += chunks_walked(in->bytes + p.offset, p.len);
+        if (p.kind == 202) sum += chunks_walked(in->bytes + p.offset, p.len, 4, p.body);
         at = p.at;
     }
+    return sum;
 }
-
-static uint64_t walk_sdes31(void) { return chunks_walked(sdes31.bytes, sdes31.len); }
+static uint64_t walk_sdes31(void) {
+    struct RtcpChunkWalk w = rtcp_chunk_walk_open(sdes31.bytes, sdes31.len);
+    return w.number != 0 ? 0 : chunks_walked(sdes31.bytes, sdes31.len, w.at, w.end);
+}
 
 static struct RtcpWritten sdes_written(uint8_t *buf, size_t room, const struct Input *in) {
     return rtcp_sdes_write(buf, room, in->ssrcs, in->n_chunks, in->counts, in->n_chunks, in->types, in->n_items, in->prefixes,

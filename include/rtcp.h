@@ -268,7 +268,7 @@ struct RtcpPart {
     uint64_t len;
 };
 
-/* length is the bytes that the chunk takes, with its closing zeros; cname the place of its first CNAME item, or 0. */
+/* length is the bytes that the chunk takes, with its closing zeros; cname the place of its first CNAME item, or 0. Its items start at 4. */
 struct RtcpChunk {
     uint64_t number, first, second;
     uint64_t ssrc;
@@ -392,11 +392,12 @@ struct RtcpWalk {
      count        the low 5 bits: blocks, chunks, sources, or an APP's subtype
      body         the end of the body, where padding_len bytes of padding start
      SR, RR       ssrc, the sender's numbers of an SR; the extension lies between extension and body
-     SDES         has_cname
+     SDES         has_cname; the chunks lie between 4 and body
      BYE          has_reason, reason, reason_len; the tail lies between the reason's end and body
      APP          ssrc; the name is 4 bytes at 8, the data lie between 12 and body
      other types  the body's bytes lie between 4 and body
-   at is the place of the next packet. */
+   at is the place of the next packet. What a step hands over is checked, so a walk over its parts need not be opened: the chunks of an SDES are walked
+   over from 4 to body, the items of a chunk from 4 on, and block i of an RR or SR is the 24 bytes at 24 * i from 8 or 28 on (rtcp_block_parse). */
 struct RtcpStep {
     uint64_t number, first, second;
     uint64_t kind;

@@ -2,7 +2,7 @@
 use Rattle.rfc3550.proofs.Prelude.{ℕ, zero, suc, _+_, _-_, _*_, _%_, _<_, _≤_, _^_, _≡_, refl, sym, ap, _∙_, Bool, true, false, List, [], _∷_, _++_, append-nil, add-zero, add-assoc, zero-add, add-sub-cancel-left, add-one, arith, eq-eqb, ne-eqb, eqb-true, eqb-false, length, take, drop, getD, replicate, length-append, length-take, length-drop, length-replicate, drop-of-length-le, drop-cons, drop-drop, getD-drop, getD-take, take-all, take-take, length-take-le, leb, eqb}
 use Rattle.rfc3550.specs.Answer.{Refusal, Answer, ok, refused, refusal, need, _>>_, _>>=_, pick}
 use Rattle.rfc3550.specs.Bytes.{be, sum, store}
-use Rattle.rfc3550.specs.Packet.{item, priv, itemBytes, itemsBytes, chunkBytes, chunksBytes}
+use Rattle.rfc3550.specs.Packet.{fill, item, priv, itemBytes, itemsBytes, chunkBytes, chunksBytes}
 use Rattle.rfc3550.specs.Write.{LentItem, lentItems, lentChunks, itemGiven, itemsGiven, chunkGiven, chunksGiven, itemTests, itemsTests, itemsAgree, itemSize, chunkSize, writeChunk}
 use Rattle.rfc3550.proofs.Answers.{need-inv, then-inv, ok-injective}
 use Rattle.rfc3550.proofs.Bytes.{length-be, length-store}
@@ -256,21 +256,19 @@ module _ (ts ps vs bs l : List ℕ) (f : ChunkFits ts ps vs bs (length l)) where
     pub chunk-boundary : length l < 2 ^ 64 → boundaryAbove (r .end) < 2 ^ 64
     chunk-boundary h = rw (y .size) (omega (arith, f .room))
 
-    pub chunk-fill : (e n : ℕ) → e ≡ boundaryAbove (r .end) → n ≡ length l → (0 < e - r .end) × (e - r .end ≤ 4) × (r .end + (e - r .end) ≤ n)
-    chunk-fill e n q z = let s : boundaryAbove (r .end) ≤ length l = rw (y .size) (f .room) in (omega arith, omega arith, omega arith)
+    pub chunk-fill : (n : ℕ) → n ≡ length l → boundaryAbove (r .end) ≤ n
+    chunk-fill n z = rw z (rw (y .size) (f .room))
 
-    pub chunk-laid : (ssrc : ℕ) (e : ℕ) (l₃ : List ℕ) → l₁ ≡ store 0 (be 4 ssrc) l → e ≡ boundaryAbove (r .end) → l₃ ≡ store (r .end) (replicate (e - r .end) 0) l₂
+    pub chunk-laid : (ssrc : ℕ) (e : ℕ) (l₃ : List ℕ) → l₁ ≡ store 0 (be 4 ssrc) l → l₃ ≡ store (r .end) (replicate (fill (r .end)) 0) l₂ → e ≡ boundaryAbove (r .end)
         → ChunkLaid ssrc from ts ps vs bs l (record { end = e; taken = r .taken }) l₃
     unfolding chunkBytes
-    chunk-laid ssrc e l₃ e₁ q e₂ =
+    chunk-laid ssrc e l₃ e₁ e₂ q =
         let g = f .room in
         let b = length-be 4 ssrc in
         let n : length l₁ ≡ length l = ap length e₁ ∙ length-store 0 (be 4 ssrc) l (omega arith) in
         let s = y .size in
-        let x : e - r .end ≡ 4 - r .end % 4 = omega arith in
-        let e₃ : l₃ ≡ store (r .end) (replicate (4 - r .end % 4) 0) l₂ = rw x at e₂ in
         let z : length (replicate {A = ℕ} (4 - r .end % 4) 0) ≡ 4 - r .end % 4 = length-replicate _ _ in
-        let p₁ = parts-laid 4 (r .end) (laidItems ts ps vs bs) (replicate (4 - r .end % 4) 0) l₁ l₂ l₃ (y .bytes) e₃ (omega arith) (omega arith) in
+        let p₁ = parts-laid 4 (r .end) (laidItems ts ps vs bs) (replicate (4 - r .end % 4) 0) l₁ l₂ l₃ (y .bytes) e₂ (omega arith) (omega arith) in
         let k : length (laidItems ts ps vs bs ++ replicate (4 - r .end % 4) 0) ≡ r .end - 4 + (4 - r .end % 4) = length-append (laidItems ts ps vs bs) (replicate (4 - r .end % 4) 0) ∙ omega arith in
         let p₂ = parts-laid 0 4 (be 4 ssrc) (laidItems ts ps vs bs ++ replicate (4 - r .end % 4) 0) l l₁ l₃ e₁ p₁ (omega arith) (omega arith) in
         record { size = omega (arith, length-chunk-of ssrc (lentItems ts ps vs bs)); used = y .used; bytes = p₂ ∙ rw s }
@@ -463,8 +461,8 @@ module _ (ssrc : ℕ) (ts ps vs bs : List ℕ) where
     lone-values h = ap orZero (chunk-disagree (simp (eq-eqb _ _ ep, ne-eqb _ _ h)))
 
     module _ (ev : length ts ≡ length vs) where
-      pub lone-measured : length bs + 3 * length ts + 8 < 2 ^ 64 → ChunksMeasured 0 (length ts ∷ []) ts ps vs (length bs)
-      lone-measured h = record { listed = record { prefixes = sym ep; values = sym ev }; room = omega arith }
+      pub lone-measured : length bs + 3 * length ts + 8 < 2 ^ 64 → length ts * 8 < 2 ^ 64 → ChunksMeasured 0 (length ts ∷ []) ts ps vs (length bs)
+      lone-measured h g = record { listed = record { prefixes = sym ep; values = sym ev }; room = omega arith; scaled = g }
 
       ends-lone : sum ps + sum vs ≡ length bs → chunksFrom 0 (length ts ∷ []) ts ps vs ≡ (itemsTests (lentItems ts ps vs bs) >> ok (length (laidChunk ssrc ts ps vs bs)))
       unfolding sum

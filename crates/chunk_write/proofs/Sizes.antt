@@ -1,5 +1,5 @@
 -- The cases of the lists' sums, of the sizes of items and chunks in numbers, and of why there is none; and that the numbers are the definition's.
-use Rattle.rfc3550.proofs.Prelude.{ℕ, zero, suc, _+_, _-_, _*_, _%_, _<_, _≤_, _^_, _≡_, refl, sym, ap, _∙_, Bool, true, false, _&&_, List, [], _∷_, _++_, sub-zero, add-zero, add-sub-cancel-left, add-one, arith, le-leb, lt-leb, leb-true, leb-false, eq-eqb, ne-eqb, eqb-true, eqb-false, lt-ltb, le-ltb, ltb-true, ltb-false, not-true, not-false, length, take, drop, getD, length-append, length-take, length-drop, length-replicate, drop-of-length-le, take-append-drop, drop-cons, drop-drop, getD-drop, length-take-le, leb, ltb, eqb}
+use Rattle.rfc3550.proofs.Prelude.{ℕ, zero, suc, _+_, _-_, _*_, _%_, _<_, _≤_, _^_, _≡_, refl, sym, ap, _∙_, Bool, true, false, _&&_, List, [], _∷_, _++_, sub-zero, add-zero, add-sub-cancel-left, add-one, arith, le-leb, lt-leb, leb-true, leb-false, eq-eqb, ne-eqb, eqb-true, eqb-false, lt-ltb, le-ltb, ltb-true, ltb-false, not-true, not-false, length, take, drop, getD, length-append, length-take, length-drop, length-replicate, drop-of-length-le, take-append-drop, drop-cons, drop-drop, getD-drop, length-take-le, take-all, leb, ltb, eqb}
 use Rattle.rfc3550.specs.Answer.{Refusal, Answer, ok, refused, refusal, _>>_, _>>=_, mapOk, pick}
 use Rattle.rfc3550.specs.Bytes.{sum}
 use Rattle.rfc3550.specs.Packet.{itemBytes, itemsBytes, chunkBytes, chunksBytes}
@@ -251,66 +251,70 @@ refusal-of ts ps vs bs n ep ev h = refusal-is 0 ts ps vs ∙ ap sizeRefusal (siz
 
 -- ---- items in numbers
 
-part-next : (i j : ℕ) (xs : List ℕ) → i < j → j ≤ length xs → between i j xs ≡ getD xs i 0 ∷ between (i + 1) j xs
-part-next i j xs h f = let z : j - i ≡ suc (j - suc i) = omega arith in rw (z, drop-cons xs i 0 (omega arith)) (simp add-one)
+pub record Ending (at₀ left₀ : ℕ) (ts ps vs : List ℕ) (i end left : ℕ) : Type 0 where
+  pub most : i ≤ length ts
+  pub rest : itemsEnd end left (drop i ts) (drop i ps) (drop i vs) ≡ itemsEnd at₀ left₀ ts ps vs
+  pub room : end + left + 3 * (length ts - i) ≤ at₀ + left₀ + 3 * length ts
 
-pub record Ending (at₀ left₀ : ℕ) (ts ps vs : List ℕ) (i₀ j i end left : ℕ) : Type 0 where
-  pub past : i₀ ≤ i
-  pub most : i ≤ j
-  pub rest : itemsEnd end left (between i j ts) (between i j ps) (between i j vs) ≡ itemsEnd at₀ left₀ (between i₀ j ts) (between i₀ j ps) (between i₀ j vs)
-  pub room : end + left + 3 * (j - i) ≤ at₀ + left₀ + 3 * (j - i₀)
+module _ (at₀ left₀ : ℕ) (ts ps vs : List ℕ) (f : ItemsMeasured at₀ left₀ ts ps vs) where
+  pub ending-start : Ending at₀ left₀ ts ps vs 0 at₀ left₀
+  ending-start = record { most = omega arith; rest = refl; room = omega arith }
 
-module _ (at₀ left₀ : ℕ) (ts ps vs : List ℕ) (i₀ j : ℕ) (f : ItemsMeasured at₀ left₀ ts ps vs i₀ j) where
-  pub ending-start : Ending at₀ left₀ ts ps vs i₀ j i₀ at₀ left₀
-  ending-start = record { past = omega arith; most = f .order; rest = refl; room = omega arith }
-
-  module _ (i end left : ℕ) (w : Ending at₀ left₀ ts ps vs i₀ j i end left) where
-    module _ (h : i < j) (n : ℕ) (e : n ≡ orZero (sizeOf (getD ts i 0) (getD ps i 0) (getD vs i 0))) where
+  module _ (i end left : ℕ) (w : Ending at₀ left₀ ts ps vs i end left) where
+    module _ (h : i < length ts) (n : ℕ) (e : n ≡ orZero (sizeOf (getD ts i 0) (getD ps i 0) (getD vs i 0))) where
       ends-next : pick (eqb n 0) nowhere (pick (ltb left (getD ps i 0)) nowhere (pick (ltb (left - getD ps i 0) (getD vs i 0)) nowhere
-          (itemsEnd (end + n) (left - getD ps i 0 - getD vs i 0) (between (i + 1) j ts) (between (i + 1) j ps) (between (i + 1) j vs))))
-          ≡ itemsEnd at₀ left₀ (between i₀ j ts) (between i₀ j ps) (between i₀ j vs)
+          (itemsEnd (end + n) (left - getD ps i 0 - getD vs i 0) (drop (i + 1) ts) (drop (i + 1) ps) (drop (i + 1) vs))))
+          ≡ itemsEnd at₀ left₀ ts ps vs
       unfolding itemsEnd
       ends-next =
-          let p : between i j ps ≡ getD ps i 0 ∷ between (i + 1) j ps = part-next i j ps h (omega (arith, f .within, f .listed .prefixes)) in
-          let v : between i j vs ≡ getD vs i 0 ∷ between (i + 1) j vs = part-next i j vs h (omega (arith, f .within, f .listed .values)) in
-          rw e (rw (part-next i j ts h (f .within), p, v) at (w .rest))
+          let p = drop-cons ps i 0 (omega (arith, f .listed .prefixes)) in
+          let v = drop-cons vs i 0 (omega (arith, f .listed .values)) in
+          rw (e, add-one) (rw (drop-cons ts i 0 h, p, v) at (w .rest))
 
-      pub ending-refused : n ≡ 0 → ItemsEnded at₀ left₀ ts ps vs i₀ j (record { end = 0; left = 0 })
+      pub ending-refused : n ≡ 0 → ItemsEnded at₀ left₀ ts ps vs (record { end = 0; left = 0 })
       ending-refused z = let b : eqb n 0 ≡ true = eq-eqb n 0 z in record { is = rw b at ends-next; most = omega arith }
 
       module _ (z : n ≡ 0 → ⊥) where
         some : eqb n 0 ≡ false
         some = ne-eqb n 0 z
 
-        pub ending-over : left < getD ps i 0 → ItemsEnded at₀ left₀ ts ps vs i₀ j (record { end = 0; left = 0 })
+        pub ending-over : left < getD ps i 0 → ItemsEnded at₀ left₀ ts ps vs (record { end = 0; left = 0 })
         ending-over g = let b = lt-ltb _ _ g in record { is = rw (some, b) at ends-next; most = omega arith }
 
         module _ (g : getD ps i 0 ≤ left) where
-          pub ending-over-value : left - getD ps i 0 < getD vs i 0 → ItemsEnded at₀ left₀ ts ps vs i₀ j (record { end = 0; left = 0 })
+          pub ending-over-value : left - getD ps i 0 < getD vs i 0 → ItemsEnded at₀ left₀ ts ps vs (record { end = 0; left = 0 })
           ending-over-value o = let b = le-ltb _ _ g in let d = lt-ltb _ _ o in record { is = rw (some, b, d) at ends-next; most = omega arith }
 
           module _ (o : getD vs i 0 ≤ left - getD ps i 0) where
-            pub ending-again : Ending at₀ left₀ ts ps vs i₀ j (i + 1) (end + n) (left - getD ps i 0 - getD vs i 0)
+            pub ending-again : Ending at₀ left₀ ts ps vs (i + 1) (end + n) (left - getD ps i 0 - getD vs i 0)
             ending-again =
                 let b = le-ltb _ _ g in
                 let d = le-ltb _ _ o in
                 let k = size-most (getD ts i 0) (getD ps i 0) (getD vs i 0) in
-                record { past = omega (arith, w .past); most = omega arith; rest = rw (some, b, d) at ends-next; room = omega (arith, w .room) }
+                record { most = omega arith; rest = rw (some, b, d) at ends-next; room = omega (arith, w .room) }
 
             pub ending-fits : end + n < 2 ^ 64
             ending-fits = let k = ending-again .room in omega (arith, f .room)
 
-    pub ending-done : j ≤ i → ItemsEnded at₀ left₀ ts ps vs i₀ j (record { end = end; left = left })
+    pub ending-done : length ts ≤ i → ItemsEnded at₀ left₀ ts ps vs (record { end = end; left = left })
     unfolding itemsEnd
-    ending-done h = let z : j - i ≡ 0 = omega arith in record { is = rw z at (w .rest); most = omega (arith, w .room) }
+    ending-done h = let z : drop i ts ≡ [] = drop-of-length-le ts {i = i} h in record { is = rw z at (w .rest); most = omega (arith, w .room) }
 
 -- ---- chunks in numbers
 
-pub record Counting (start left₀ : ℕ) (cs ts ps vs : List ℕ) (k i at left more : ℕ) : Type 0 where
+-- of the lists ts₀, ps₀ and vs₀, ts, ps and vs are left
+pub record Counting (start left₀ : ℕ) (cs ts₀ ps₀ vs₀ : List ℕ) (k at left : ℕ) (ts ps vs : List ℕ) : Type 0 where
   pub within : k ≤ length cs
-  pub items : i + more ≡ length ts
-  pub rest : chunksEnd at left (drop k cs) (drop i ts) (drop i ps) (drop i vs) ≡ chunksEnd start left₀ cs ts ps vs
-  pub room : at + left + 3 * (length ts - i) + 8 * (length cs - k) ≤ start + left₀ + 3 * length ts + 8 * length cs
+  pub listed : SameLengths ts ps vs
+  pub scaled : length ts * 8 < 2 ^ 64
+  pub rest : chunksEnd at left (drop k cs) ts ps vs ≡ chunksEnd start left₀ cs ts₀ ps₀ vs₀
+  pub room : at + left + 3 * length ts + 8 * (length cs - k) ≤ start + left₀ + 3 * length ts₀ + 8 * length cs
+
+pub less-next : (k n : ℕ) → k < n → n - (k + 1) < n - k
+less-next k n h = omega arith
+
+rest-part : (c : ℕ) (xs : List ℕ) → take (length xs - c) (drop c xs) ≡ drop c xs
+rest-part c xs = take-all (length xs - c) (drop c xs) (rw length-drop (omega arith))
 
 closed-most : (e : ℕ) → boundaryAbove e ≤ e + 4
 closed-most e = omega arith
@@ -318,79 +322,93 @@ closed-most e = omega arith
 room-next : (e l at left c x y b m : ℕ) → e + l ≤ at + 4 + left + 3 * c → m ≤ e + 4 → at + left + 3 * (c + x) + 8 * (1 + y) ≤ b → m + l + 3 * x + 8 * y ≤ b
 room-next e l at left c x y b m f g h = omega arith
 
-module _ (start left₀ : ℕ) (cs ts ps vs : List ℕ) (f : ChunksMeasured start cs ts ps vs left₀) where
-  pub counting-start : Counting start left₀ cs ts ps vs 0 0 start left₀ (length ts)
-  counting-start = record { within = omega arith; items = omega arith; rest = refl; room = omega arith }
+module _ (start left₀ : ℕ) (cs ts₀ ps₀ vs₀ : List ℕ) (f : ChunksMeasured start cs ts₀ ps₀ vs₀ left₀) where
+  pub counting-start : Counting start left₀ cs ts₀ ps₀ vs₀ 0 start left₀ ts₀ ps₀ vs₀
+  counting-start = record { within = omega arith; listed = f .listed; scaled = f .scaled; rest = refl; room = omega arith }
 
-  module _ (k i at left more : ℕ) (w : Counting start left₀ cs ts ps vs k i at left more) where
-    module _ (h : k < length cs) where
-      counts-next : pick (ltb (length ts - i) (getD cs k 0)) 0 (pick (eqb (itemsEnd (at + 4) left (take (getD cs k 0) (drop i ts)) (take (getD cs k 0) (drop i ps)) (take (getD cs k 0) (drop i vs)) .end) 0) 0
-          (chunksEnd (boundaryAbove (itemsEnd (at + 4) left (take (getD cs k 0) (drop i ts)) (take (getD cs k 0) (drop i ps)) (take (getD cs k 0) (drop i vs)) .end)) (itemsEnd (at + 4) left (take (getD cs k 0) (drop i ts)) (take (getD cs k 0) (drop i ps)) (take (getD cs k 0) (drop i vs)) .left) (drop (k + 1) cs) (drop (i + getD cs k 0) ts) (drop (i + getD cs k 0) ps) (drop (i + getD cs k 0) vs)))
-          ≡ chunksEnd start left₀ cs ts ps vs
+  module _ (k at left : ℕ) (ts ps vs : List ℕ) (w : Counting start left₀ cs ts₀ ps₀ vs₀ k at left ts ps vs) where
+    module _ (h : k < length cs) (c : ℕ) (q : c ≡ getD cs k 0) where
+      counts-next : pick (ltb (length ts) c) 0 (pick (eqb (itemsEnd (at + 4) left (take c ts) (take c ps) (take c vs) .end) 0) 0
+          (chunksEnd (boundaryAbove (itemsEnd (at + 4) left (take c ts) (take c ps) (take c vs) .end)) (itemsEnd (at + 4) left (take c ts) (take c ps) (take c vs) .left) (drop (k + 1) cs) (drop c ts) (drop c ps) (drop c vs)))
+          ≡ chunksEnd start left₀ cs ts₀ ps₀ vs₀
       unfolding chunksEnd
-      counts-next = simp add-one (simp (drop-cons cs k 0 h, length-drop, drop-drop) at (w .rest))
+      counts-next = rw q (simp add-one (simp (drop-cons cs k 0 h) at (w .rest)))
 
-      pub counting-over : more < getD cs k 0 → 0 ≡ chunksEnd start left₀ cs ts ps vs
-      counting-over g = let b : ltb (length ts - i) (getD cs k 0) ≡ true = lt-ltb (length ts - i) (getD cs k 0) (omega (arith, w .items)) in rw b at counts-next
+      pub counting-over : length ts < c → 0 ≡ chunksEnd start left₀ cs ts₀ ps₀ vs₀
+      counting-over g = let b = lt-ltb _ _ g in rw b at counts-next
 
-      module _ (g : getD cs k 0 ≤ more) where
-        pub counting-add : length ts < 2 ^ 64 → i + getD cs k 0 < 2 ^ 64
-        counting-add q = omega (arith, w .items)
+      module _ (g : c ≤ length ts) where
+        pub counting-prefixes : c ≤ length ps
+        counting-prefixes = omega (arith, w .listed .prefixes)
+
+        pub counting-values : c ≤ length vs
+        counting-values = omega (arith, w .listed .values)
+
+        pub counting-scaled : c * 8 < 2 ^ 64
+        counting-scaled = omega (arith, w .scaled)
 
         pub counting-place : at + 4 < 2 ^ 64
         counting-place = omega (arith, w .room, f .room)
 
-        pub counting-fits : ItemsMeasured (at + 4) left ts ps vs i (i + getD cs k 0)
-        counting-fits = record { order = omega arith; within = omega (arith, w .items); listed = f .listed; room = omega (arith, w .room, f .room) }
+        pub counting-fits : ItemsMeasured (at + 4) left (take c ts) (take c ps) (take c vs)
+        counting-fits =
+            let n : length (take c ts) ≡ c = length-take-le c ts g in
+            let p : length (take c ps) ≡ c = length-take-le c ps counting-prefixes in
+            let v : length (take c vs) ≡ c = length-take-le c vs counting-values in
+            record { listed = record { prefixes = rw (p, n); values = rw (v, n) }; room = rw n (omega (arith, w .room, f .room)) }
 
-        module _ (r : ItemsEnd) (y : ItemsEnded (at + 4) left ts ps vs i (i + getD cs k 0) r) where
-          same : r ≡ itemsEnd (at + 4) left (take (getD cs k 0) (drop i ts)) (take (getD cs k 0) (drop i ps)) (take (getD cs k 0) (drop i vs))
-          same = rw (add-sub-cancel-left i (getD cs k 0)) at (y .is)
+        module _ (r : ItemsEnd) (y₀ : ItemsEnded (at + 4) left (take (c - 0) ts) (take (c - 0) ps) (take (c - 0) vs) r) where
+          y : ItemsEnded (at + 4) left (take c ts) (take c ps) (take c vs) r
+          y = rw (sub-zero c) at y₀
 
-          next : pick (eqb (r .end) 0) 0 (chunksEnd (boundaryAbove (r .end)) (r .left) (drop (k + 1) cs) (drop (i + getD cs k 0) ts) (drop (i + getD cs k 0) ps) (drop (i + getD cs k 0) vs)) ≡ chunksEnd start left₀ cs ts ps vs
-          next = let b : ltb (length ts - i) (getD cs k 0) ≡ false = le-ltb (length ts - i) (getD cs k 0) (omega (arith, w .items)) in rw (b, ← same) at counts-next
+          next : pick (eqb (r .end) 0) 0 (chunksEnd (boundaryAbove (r .end)) (r .left) (drop (k + 1) cs) (drop c ts) (drop c ps) (drop c vs)) ≡ chunksEnd start left₀ cs ts₀ ps₀ vs₀
+          next = let b = le-ltb _ _ g in rw (b, ← y .is) at counts-next
 
-          pub counting-refused : r .end ≡ 0 → 0 ≡ chunksEnd start left₀ cs ts ps vs
+          most : r .end + r .left ≤ at + 4 + left + 3 * c
+          most = rw (length-take-le c ts g) at (y .most)
+
+          pub counting-refused : r .end ≡ 0 → 0 ≡ chunksEnd start left₀ cs ts₀ ps₀ vs₀
           counting-refused z = rw (eq-eqb _ _ z) at next
 
           pub counting-end : boundaryAbove (r .end) < 2 ^ 64
-          counting-end = omega (arith, y .most, w .room, f .room)
+          counting-end = omega (arith, most, w .room, f .room)
 
-          pub counting-again : (r .end ≡ 0 → ⊥) → (m : ℕ) → m ≡ boundaryAbove (r .end) → Counting start left₀ cs ts ps vs (k + 1) (i + getD cs k 0) m (r .left) (more - getD cs k 0)
-          counting-again z m q =
-              let a : length ts - i ≡ getD cs k 0 + (length ts - (i + getD cs k 0)) = omega (arith, w .items) in
+          pub counting-again : (r .end ≡ 0 → ⊥) → (m : ℕ) → m ≡ boundaryAbove (r .end) → Counting start left₀ cs ts₀ ps₀ vs₀ (k + 1) m (r .left) (take (length ts - c) (drop c ts)) (take (length ps - c) (drop c ps)) (take (length vs - c) (drop c vs))
+          counting-again z m e =
+              rw (rest-part c ts, rest-part c ps, rest-part c vs) (
+              let a : length ts ≡ c + (length ts - c) = omega arith in
               let b : length cs - k ≡ 1 + (length cs - (k + 1)) = omega arith in
-              let d : r .end + r .left ≤ at + 4 + left + 3 * getD cs k 0 = rw (add-sub-cancel-left i (getD cs k 0)) at (y .most) in
               record {
                 within = omega arith;
-                items = omega (arith, w .items);
-                rest = rw q (rw (ne-eqb _ _ z) at next);
-                room = room-next (r .end) (r .left) at left (getD cs k 0) (length ts - (i + getD cs k 0)) (length cs - (k + 1)) _ m d (rw q (closed-most (r .end))) (rw (a, b) at (w .room));
-              }
+                listed = record { prefixes = simp (length-drop, w .listed .prefixes); values = simp (length-drop, w .listed .values) };
+                scaled = rw length-drop (omega (arith, w .scaled));
+                rest = rw e (rw (ne-eqb _ _ z) at next);
+                room = rw length-drop (room-next (r .end) (r .left) at left c (length ts - c) (length cs - (k + 1)) _ m most (rw e (closed-most (r .end))) (rw (a, b) at (w .room)));
+              })
 
     module _ (h : length cs ≤ k) where
-      counts-last : pick (eqb 0 (length ts - i)) (pick (eqb 0 left) at 0) 0 ≡ chunksEnd start left₀ cs ts ps vs
+      counts-last : pick (eqb 0 (length ts)) (pick (eqb 0 left) at 0) 0 ≡ chunksEnd start left₀ cs ts₀ ps₀ vs₀
       unfolding chunksEnd
-      counts-last = let z : drop k cs ≡ [] = drop-of-length-le cs {i = k} h in rw length-drop at (rw z at (w .rest))
+      counts-last = let z : drop k cs ≡ [] = drop-of-length-le cs {i = k} h in rw z at (w .rest)
 
-      pub counting-items : (more ≡ 0 → ⊥) → 0 ≡ chunksEnd start left₀ cs ts ps vs
-      counting-items g = let b : eqb 0 (length ts - i) ≡ false = ne-eqb 0 (length ts - i) (λ e. g (omega (arith, w .items))) in rw b at counts-last
+      pub counting-items : (length ts ≡ 0 → ⊥) → 0 ≡ chunksEnd start left₀ cs ts₀ ps₀ vs₀
+      counting-items g = let b : eqb 0 (length ts) ≡ false = ne-eqb 0 (length ts) (λ e. g (sym e)) in rw b at counts-last
 
-      module _ (g : more ≡ 0) where
-        all : eqb 0 (length ts - i) ≡ true
-        all = eq-eqb 0 (length ts - i) (omega (arith, w .items))
+      module _ (g : length ts ≡ 0) where
+        all : eqb 0 (length ts) ≡ true
+        all = eq-eqb 0 (length ts) (sym g)
 
-        pub counting-bytes : (left ≡ 0 → ⊥) → 0 ≡ chunksEnd start left₀ cs ts ps vs
+        pub counting-bytes : (left ≡ 0 → ⊥) → 0 ≡ chunksEnd start left₀ cs ts₀ ps₀ vs₀
         counting-bytes z = let b : eqb 0 left ≡ false = ne-eqb 0 left (λ e. z (sym e)) in rw (all, b) at counts-last
 
         module _ (z : left ≡ 0) (limit : ℕ) where
-          whole : at ≡ chunksEnd start left₀ cs ts ps vs
+          whole : at ≡ chunksEnd start left₀ cs ts₀ ps₀ vs₀
           whole = let b : eqb 0 left ≡ true = eq-eqb 0 left (sym z) in rw (all, b) at counts-last
 
-          pub counting-past : limit < at → 0 ≡ atMost limit (chunksEnd start left₀ cs ts ps vs)
+          pub counting-past : limit < at → 0 ≡ atMost limit (chunksEnd start left₀ cs ts₀ ps₀ vs₀)
           counting-past o = rw (← whole, lt-leb _ _ o)
 
-          pub counting-done : at ≤ limit → at ≡ atMost limit (chunksEnd start left₀ cs ts ps vs)
+          pub counting-done : at ≤ limit → at ≡ atMost limit (chunksEnd start left₀ cs ts₀ ps₀ vs₀)
           counting-done o = rw (← whole, le-leb _ _ o)
 
 none : {A : Type 0} (b : Bool) (x : A) → pick b x x ≡ x
@@ -532,4 +550,4 @@ module _ (start left : ℕ) (cs ts ps vs : List ℕ) (d : SameLengths ts ps vs) 
   pub end-none : sum cs ≡ length ts → sum ps + sum vs ≡ left → n ≡ orZero (chunksFrom start cs ts ps vs)
   end-none c b = h ∙ ends-are start left cs ts ps vs (d .prefixes) (d .values) ∙ rw (eq-eqb _ _ c, eq-eqb _ _ b)
 
-pub ruleset ends = (writer, not-true, not-false, agreed-listed, summing-start, summing-over, summing-again, summing-done, both-start, both-over, both-over-value, both-again, both-done, prefixes-other, values-other, sums-agree, asking-start, asking-told, asking-again, asking-done, ending-start, ending-refused, ending-over, ending-over-value, ending-again, ending-fits, ending-done, counting-start, counting-over, counting-add, counting-place, counting-fits, counting-refused, counting-end, counting-again, counting-items, counting-bytes, counting-past, counting-done, none-at-most)
+pub ruleset ends = (writer, not-true, not-false, agreed-listed, summing-start, summing-over, summing-again, summing-done, both-start, both-over, both-over-value, both-again, both-done, prefixes-other, values-other, sums-agree, asking-start, asking-told, asking-again, asking-done, ending-start, ending-refused, ending-over, ending-over-value, ending-again, ending-fits, ending-done, counting-start, less-next, counting-over, counting-prefixes, counting-values, counting-scaled, counting-place, counting-fits, counting-refused, counting-end, counting-again, counting-items, counting-bytes, counting-past, counting-done, none-at-most)

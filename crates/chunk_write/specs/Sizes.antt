@@ -92,16 +92,15 @@ atMost limit n = pick (leb n limit) n 0
 
 -- ---- what the code is given and gives
 
-pub record ItemsMeasured (at left : ℕ) (ts ps vs : List ℕ) (i j : ℕ) : Type 0 where
-  pub order : i ≤ j
-  pub within : j ≤ length ts
+pub record ItemsMeasured (at left : ℕ) (ts ps vs : List ℕ) : Type 0 where
   pub listed : SameLengths ts ps vs
-  pub room : at + left + 3 * (j - i) < 2 ^ 64
+  pub room : at + left + 3 * length ts < 2 ^ 64
 
-pub record ItemsEnded (at left : ℕ) (ts ps vs : List ℕ) (i j : ℕ) (r : ItemsEnd) : Type 0 where
-  pub is : r ≡ itemsEnd at left (between i j ts) (between i j ps) (between i j vs)
-  pub most : r .end + r .left ≤ at + left + 3 * (j - i)
+pub record ItemsEnded (at left : ℕ) (ts ps vs : List ℕ) (r : ItemsEnd) : Type 0 where
+  pub is : r ≡ itemsEnd at left ts ps vs
+  pub most : r .end + r .left ≤ at + left + 3 * length ts
 
 pub record ChunksMeasured (at : ℕ) (cs ts ps vs : List ℕ) (left : ℕ) : Type 0 where
   pub listed : SameLengths ts ps vs
   pub room : at + left + 3 * length ts + 8 * length cs < 2 ^ 64
+  pub scaled : length ts * 8 < 2 ^ 64

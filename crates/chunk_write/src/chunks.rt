@@ -87,29 +87,31 @@ pub fn why_items_unchecked(types: &[u8], prefixes: &[u64], values: &[u64]) -> Rt
     RtcpWriteError::PacketTooLarge
 }
 
+// A number of a list, as an index.
+fn element_unchecked(xs: &[u64], i: usize) -> usize
+    requires { ⌜ i < length (now xs) ⌝ }
+    ensures { λ r. ⌜ r ≡ getD (now (xs .entry)) i 0 ⌝ }
+{
+    let x = xs[i];
+    x as usize
+}
+
 // The index after some items, and how many bytes are left after theirs; both 0 where an item is refused or takes more bytes than are left.
 pub struct ItemsEnd {
     pub end: usize,
     pub left: u64,
 }
 
-// The index after the items from the first up to the last-th, if they start at index at.
-fn items_end(
-    at: usize,
-    bytes_left: u64,
-    types: &[u8],
-    prefixes: &[u64],
-    values: &[u64],
-    first: usize,
-    last: usize,
-) -> ItemsEnd
-    requires { ⌜ ItemsMeasured at «bytes_left» (now types) (now prefixes) (now values) first last ⌝ }
-    ensures { λ r. ⌜ ItemsEnded at «bytes_left» (now (types .entry)) (now (prefixes .entry)) (now (values .entry)) first last r ⌝ }
+// The index after the items, if they start at index at.
+fn items_end(at: usize, bytes_left: u64, types: &[u8], prefixes: &[u64], values: &[u64]) -> ItemsEnd
+    requires { ⌜ ItemsMeasured at «bytes_left» (now types) (now prefixes) (now values) ⌝ }
+    ensures { λ r. ⌜ ItemsEnded at «bytes_left» (now (types .entry)) (now (prefixes .entry)) (now (values .entry)) r ⌝ }
 {
-    let mut i = first;
+    let n = types.len();
+    let mut i: usize = 0;
     let mut end = at;
     let mut left = bytes_left;
-    while i < last {
+    while i < n {
         let p = prefixes[i];
         let v = values[i];
         let size = item::size_of_lengths(types[i], p, v);
@@ -145,27 +147,34 @@ pub fn chunks_end_unchecked(
 {
     let n = counts.len();
     let mut k: usize = 0;
-    let mut i: usize = 0;
     let mut at = start;
     let mut left = bytes_len as u64;
-    let mut rest = types.len() as u64;
+    let mut types_left = types;
+    let mut prefixes_left = prefixes;
+    let mut values_left = values;
     while k < n {
-        let c = counts[k];
-        if rest < c {
+        let c = element_unchecked(counts, k);
+        if types_left.len() < c {
             return 0;
         }
-        rest -= c;
-        let j = i + c as usize;
-        let items = items_end(at + 4, left, types, prefixes, values, i, j);
+        let items = items_end(
+            at + 4,
+            left,
+            &types_left[0..c],
+            &prefixes_left[0..c],
+            &values_left[0..c],
+        );
         if items.end == 0 {
             return 0;
         }
         at = word_boundary_unchecked(items.end);
         left = items.left;
-        i = j;
+        types_left = &types_left[c..];
+        prefixes_left = &prefixes_left[c..];
+        values_left = &values_left[c..];
         k += 1;
     }
-    if rest != 0 {
+    if types_left.len() != 0 {
         return 0;
     }
     if left != 0 {
@@ -175,15 +184,6 @@ pub fn chunks_end_unchecked(
         return 0;
     }
     at
-}
-
-// A number of a list, as an index.
-fn element_unchecked(xs: &[u64], i: usize) -> usize
-    requires { ⌜ i < length (now xs) ⌝ }
-    ensures { λ r. ⌜ r ≡ getD (now (xs .entry)) i 0 ⌝ }
-{
-    let x = xs[i];
-    x as usize
 }
 
 // Lays the item whose bytes start at index from, at index at, and returns its size.
@@ -261,11 +261,9 @@ fn write_chunk(
 {
     writer::write_u32_unchecked(buf, 0, ssrc);
     let items = write_items(buf, 4, types, prefixes, values, bytes, first, last, from);
-    let at = items.end;
-    let end = word_boundary_unchecked(at);
-    writer::write_fill_unchecked(buf, at, end - at);
+    writer::write_fill_unchecked(buf, items.end);
     LaidEnd {
-        end,
+        end: word_boundary_unchecked(items.end),
         taken: items.taken,
     }
 }

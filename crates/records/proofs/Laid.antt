@@ -10,15 +10,6 @@ use Rattle.records.specs.Records.{noBlock, blockOf, recordsOf}
 
 -- ---- two stores
 
--- a store right before one that was made
-pub store-before : (at k : ℕ) (a b l : List ℕ) → at + length a ≡ k → k + length b ≤ length l → store at a (store k b l) ≡ store k b (store at a l)
-unfolding store
-store-before at k a b l e h =
-    let m = length-take-le k l (omega arith) in
-    let t : take at (store k b l) ≡ take at l = take-append-le at (take k l) (b ++ drop (k + length b) l) (omega arith) ∙ take-take at k l (omega arith) in
-    let d : drop (at + length a) (store k b l) ≡ b ++ drop (k + length b) l = rw e (drop-at (take k l) (b ++ drop (k + length b) l) k m) in
-    rw (t, d) (sym (store-store at k a b l e h ∙ simp (append-assoc, length-append, ← add-assoc, e)))
-
 -- a store behind what stands before it
 pub store-behind : (at k : ℕ) (c bs r : List ℕ) → length c ≡ at → store (at + k) bs (c ++ r) ≡ c ++ store k bs r
 unfolding store

@@ -12,7 +12,7 @@ use Rattle.utils.specs.Writer.{writtenOf, header, sizeRefusal}
 use Rattle.utils.specs.declared.error.RtcpWriteError.{RtcpWriteError}
 use Rattle.utils.specs.declared.writer.Written.{Written}
 use Rattle.utils.specs.declared.writer.Written.the-variants.{Size, Refused}
-use Rattle.utils.proofs.WriterStores.{store-nil}
+use Rattle.utils.proofs.WriterStores.{store-nil, store-before}
 use Rattle.utils.proofs.WriterPackets.{writes, refused-written, short-written, done-written, padding-most, header-long}
 use Rattle.utils.proofs.Values.{number-came}
 use Rattle.report.specs.declared.«report_block».ReportBlock.{ReportBlock}
@@ -20,7 +20,6 @@ use Rattle.report_write.specs.declared.sender.SenderInfo.{SenderInfo}
 use Rattle.report_write.specs.Report.{senderOf, testedLoss, countedSize, listsSize, headLaid}
 use Rattle.report_write.proofs.Reports.{reason-same, lists-report, sized-fits, report-laid}
 use Rattle.report_write.proofs.Blocks.{length-blocks}
-use Rattle.records.proofs.Laid.{store-before}
 use Rattle.records.specs.declared.Reporter.{Reporter}
 use Rattle.records.specs.declared.Reporter.the-variants as reporter
 use Rattle.records.specs.Records.{noBlock, blockOf, recordsOf, reporterOf, leastOf, laterOf, testedOf, FrameFits, frameLaid, framed, laidCount}

@@ -173,8 +173,8 @@ module _ (ss cs ts ps vs bs : List ℕ) (k : ℕ) where
           go false q true f = rw q (end-sum ep ev _ refl ec (eqb-false _ _ q) (leb-true _ _ f))
           go false q false f = end-large ep ev _ refl ec (eqb-false _ _ q) (leb-false _ _ f)
 
-  pub size-measured : length ss ≡ length cs → length ts ≡ length ps → length ts ≡ length vs → length ss ≤ 31 → length bs + 3 * length ts + 252 < 2 ^ 64 → ChunksMeasured 4 cs ts ps vs (length bs)
-  size-measured ec ep ev h f = record { listed = record { prefixes = sym ep; values = sym ev }; room = omega arith }
+  pub size-measured : length ss ≡ length cs → length ts ≡ length ps → length ts ≡ length vs → length ss ≤ 31 → length bs + 3 * length ts + 252 < 2 ^ 64 → length ts * 8 < 2 ^ 64 → ChunksMeasured 4 cs ts ps vs (length bs)
+  size-measured ec ep ev h f g = record { listed = record { prefixes = sym ep; values = sym ev }; room = omega arith; scaled = g }
 
   pub padding-small : (u : Bool) → u ≡ paddingOk k → u ≡ true → k ≤ 262144
   padding-small u e q = omega (arith, padding-most u k e q)

@@ -50,13 +50,13 @@ fn end_of(
 ) -> usize
     ensures { λ r. ⌜ withPadding padding r ≡ orZero (calculateSize (giveSdes (lists (now (ssrcs .entry)) (now (counts .entry)) (now (types .entry)) (now (prefixes .entry)) (now (values .entry)) (now (bytes .entry))) padding)) ⌝ }
 {
-    if ssrcs.len() != counts.len() {
-        return 0;
-    }
     if types.len() != prefixes.len() {
         return 0;
     }
     if types.len() != values.len() {
+        return 0;
+    }
+    if ssrcs.len() != counts.len() {
         return 0;
     }
     if 31 < ssrcs.len() {

@@ -1,11 +1,11 @@
 -- The cases of what `writer` lays down, each from what the code has tested or called.
 use Rattle.rfc3550.proofs.Prelude.{needs, ℕ, zero, suc, _+_, _-_, _*_, _/_, _%_, _^_, _<_, _≤_, _≡_, refl, sym, ap, _∙_, Bool, true, false, List, [], _∷_, _++_, div-one, add-one, arith, eq-eqb, ne-eqb, ltb-true, ltb-false, le-leb, lt-leb, length, take, drop, set, getD, replicate, length-drop, length-set, length-replicate, replicate-append-replicate, drop-cons, drop-drop, take-add, take-length, length-take-le, leb, ltb}
 use Rattle.rfc3550.specs.Bytes.{be, val, store}
-use Rattle.rfc3550.specs.Packet.{paddingBit}
+use Rattle.rfc3550.specs.Packet.{paddingBit, fill}
 use Rattle.rfc3550.specs.Write.{paddingOk, paddingBytes}
 use Rattle.rfc3550.proofs.Bytes.{length-be, length-store, be-take, bytes-drop, bytes-each}
 use Rattle.utils.specs.Writer.{firstByte, header, reversed, reversedEight}
-use Rattle.utils.proofs.WriterStores.{store-nil, store-store, store-over, store-snoc, store-puts, store-number, be-digits, puts}
+use Rattle.utils.proofs.WriterStores.{store-nil, store-store, store-before, store-over, store-snoc, store-puts, store-number, be-digits, puts}
 
 -- ---- padding
 
@@ -192,19 +192,32 @@ module _ (at : ℕ) (l : List ℕ) where
   bytes-none [] h = sym (store-nil at l)
   bytes-none (b ∷ src) h = absurd (omega arith)
 
-  pub fill-laid : (k n : ℕ) → n ≡ suc k → at + n ≤ length l → puts at 1 (replicate k 0) (set l at 0) ≡ store at (replicate n 0) l
-  fill-laid k n e h = rw e (store-puts at 0 (replicate k 0) l (rw length-replicate (omega arith)))
+  -- what is laid up to the word boundary, as numbers of two and four bytes or one by one
+  pub fill-four : at % 4 ≡ 0 → (l₁ : List ℕ) → l₁ ≡ store at (be 4 0) l → l₁ ≡ store at (replicate (fill at) 0) l
+  unfolding be
+  fill-four z l₁ e = rw z e
+
+  pub fill-two : at % 2 ≡ 0 → (at % 4 ≡ 0 → ⊥) → (l₁ : List ℕ) → l₁ ≡ store at (be 2 0) l → l₁ ≡ store at (replicate (fill at) 0) l
+  unfolding be
+  fill-two z n l₁ e = let q : at % 4 ≡ 2 = omega arith in rw q e
+
+  pub fill-three : at % 4 ≡ 1 → at + fill at ≤ length l → (l₁ : List ℕ) → l₁ ≡ store (at + 1) (be 2 0) (set l at 0) → l₁ ≡ store at (replicate (fill at) 0) l
+  unfolding be
+  fill-three z h l₁ e = rw z (e ∙ rw (store-puts at 0 [] l (omega arith)) (store-store at (at + 1) (0 ∷ []) (0 ∷ 0 ∷ []) l (omega arith) (omega arith)))
+
+  pub fill-one : (at % 2 ≡ 0 → ⊥) → (at % 4 ≡ 1 → ⊥) → at + fill at ≤ length l → set l at 0 ≡ store at (replicate (fill at) 0) l
+  fill-one z n h = let q : at % 4 ≡ 3 = omega arith in rw q (store-puts at 0 [] l (omega arith))
 
   pub zeros-done : (k n : ℕ) (l₁ : List ℕ) → k ≤ n → n ≤ k → Laid at (replicate k 0) l l₁ → l₁ ≡ store at (replicate n 0) l
   zeros-done k n l₁ h f w = let e : k ≡ n = omega arith in rw e at (w .is)
 
--- w bytes and the w bytes after them
-pub group-next : (w at k : ℕ) (src l l₁ l₂ : List ℕ) → l₁ ≡ store (at + k) (take w (drop k src)) l → l₂ ≡ store (at + (k + w)) (take w (drop (k + w) src)) l₁ → k + (w + w) ≤ length src → at + length src ≤ length l
+-- w bytes, once the w bytes after them are stored
+pub group-next : (w at k : ℕ) (src l l₁ l₂ : List ℕ) → l₁ ≡ store (at + (k + w)) (take w (drop (k + w) src)) l → l₂ ≡ store (at + k) (take w (drop k src)) l₁ → k + (w + w) ≤ length src → at + length src ≤ length l
     → l₂ ≡ store (at + k) (take (w + w) (drop k src)) l
 group-next w at k src l l₁ l₂ e f h s =
     let n : length (take w (drop k src)) ≡ w = length-take-le w (drop k src) (rw length-drop (omega arith)) in
     let m : length (take w (drop (k + w) src)) ≡ w = length-take-le w (drop (k + w) src) (rw length-drop (omega arith)) in
-    f ∙ rw (e, take-add w w (drop k src), drop-drop w k src) (store-store (at + k) (at + (k + w)) (take w (drop k src)) (take w (drop (k + w) src)) l (omega arith) (omega arith))
+    f ∙ rw (e, take-add w w (drop k src), drop-drop w k src) (store-before (at + k) (at + (k + w)) (take w (drop k src)) (take w (drop (k + w) src)) l (omega arith) (omega arith) ∙ store-store (at + k) (at + (k + w)) (take w (drop k src)) (take w (drop (k + w) src)) l (omega arith) (omega arith))
 
 pub copying-start : (at : ℕ) (src l : List ℕ) → Copying at src l l 0
 copying-start at src l = record { within = omega arith; long = refl; laid = laid-none at l }
@@ -215,3 +228,5 @@ copying-again w at src l l₁ k l₂ c h s e =
     record { within = omega arith; long = v .long; laid = v }
 
 pub ruleset writer = (needs, padding-odd, padding-even, first-plain, first-padded, padding-none, padding-laid, header-laid, u16-laid, reversed-laid, same-laid, swapped, four-read, swapped-read, eight-read, eight-laid, u64-laid, laid-none, zeros-more, zeros-done, group-more, group-last, byte-alone, bytes-none)
+
+pub ruleset fills = (writer, fill-four, fill-two, fill-three, fill-one)

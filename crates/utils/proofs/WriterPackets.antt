@@ -95,8 +95,7 @@ header-long k low t size l l₁ h e = ap length e ∙ length-store 0 (header k l
 -- the header laid last is the header laid first
 pub header-last : (k low t size : ℕ) (b l l₁ l₂ : List ℕ) → 4 + length b ≤ length l → l₁ ≡ store 4 b l → l₂ ≡ store 0 (header k low t size) l₁ → l₂ ≡ store 4 b (store 0 (header k low t size) l)
 header-last k low t size b l l₁ l₂ h e₁ e₂ =
-    let n = length-header k low t size in
-    e₂ ∙ rw e₁ (store-before 4 (header k low t size) b l n h ∙ sym (store-store 0 4 (header k low t size) b l (omega arith) h))
+    e₂ ∙ rw e₁ (store-before 0 4 (header k low t size) b l (omega (arith, length-header k low t size)) h)
 
 pub packet-laid : (c : Content) (k size m : ℕ) (l l₁ l₂ l₃ : List ℕ) → size ≡ 4 + length (contentBytes c) + k → size ≤ length l → m ≡ 4 + length (contentBytes c)
     → l₁ ≡ store 0 (header k (lowBits c) (type c) size) l → l₂ ≡ store 4 (contentBytes c) l₁ → l₃ ≡ store m (paddingBytes k) l₂

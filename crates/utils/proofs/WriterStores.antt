@@ -1,5 +1,5 @@
 -- Laws of `store`: a chain of stores is one store, and what straight-line code and loops leave is a store.
-use Rattle.rfc3550.proofs.Prelude.{ℕ, zero, suc, _+_, _-_, _*_, _/_, _%_, _^_, _<_, _≤_, _≡_, refl, sym, ap, _∙_, List, [], _∷_, _++_, append-assoc, append-nil, add-assoc, add-zero, add-suc, pow-suc, zero-add, one-le-pow, mod-lt, mod-eq-of-lt, mul-comm, div-one, add-one, arith, length, take, drop, set, getD, length-append, length-drop, take-append-drop, drop-of-length-le, sets, sets-eq, length-take-le, take-at, drop-at, drop-drop, drop-append-add, set-at, drop-cons, take-all, digits-div, digits-mod, mod-mul}
+use Rattle.rfc3550.proofs.Prelude.{ℕ, zero, suc, _+_, _-_, _*_, _/_, _%_, _^_, _<_, _≤_, _≡_, refl, sym, ap, _∙_, List, [], _∷_, _++_, append-assoc, append-nil, add-assoc, add-zero, add-suc, pow-suc, zero-add, one-le-pow, mod-lt, mod-eq-of-lt, mul-comm, div-one, add-one, arith, length, take, drop, set, getD, length-append, length-drop, take-append-drop, drop-of-length-le, sets, sets-eq, length-take-le, take-at, drop-at, drop-drop, drop-append-add, set-at, drop-cons, take-all, take-append-le, take-take, digits-div, digits-mod, mod-mul}
 use Rattle.rfc3550.specs.Bytes.{be, store}
 use Rattle.rfc3550.proofs.Bytes.{length-store}
 
@@ -20,14 +20,14 @@ store-store at k a b l e h =
     rw (← append-assoc, ← f, drop-append-add, drop-drop, g) in
     rw (t, d) (simp (append-assoc, length-append, ← add-assoc, e))
 
--- a second store that ends where the first started
-pub store-before : (k : ℕ) (a b l : List ℕ) → length a ≡ k → k + length b ≤ length l → store 0 a (store k b l) ≡ store 0 (a ++ b) l
+-- a store right before one that was made
+pub store-before : (at k : ℕ) (a b l : List ℕ) → at + length a ≡ k → k + length b ≤ length l → store at a (store k b l) ≡ store k b (store at a l)
 unfolding store
-store-before k a b l e h =
-    let t : length (take k l) ≡ k = length-take-le k l (omega arith) in
-    let d : drop (0 + length a) (take k l ++ (b ++ drop (k + length b) l)) ≡ b ++ drop (k + length b) l = rw (zero-add, e) (drop-at (take k l) (b ++ drop (k + length b) l) k t) in
-    let n : 0 + length (a ++ b) ≡ k + length b = omega (arith, length-append a b) in
-    rw (d, n) (sym (append-assoc a b (drop (k + length b) l)))
+store-before at k a b l e h =
+    let m = length-take-le k l (omega arith) in
+    let t : take at (store k b l) ≡ take at l = take-append-le at (take k l) (b ++ drop (k + length b) l) (omega arith) ∙ take-take at k l (omega arith) in
+    let d : drop (at + length a) (store k b l) ≡ b ++ drop (k + length b) l = rw e (drop-at (take k l) (b ++ drop (k + length b) l) k m) in
+    rw (t, d) (sym (store-store at k a b l e h ∙ simp (append-assoc, length-append, ← add-assoc, e)))
 
 -- a second store at the same place, at least as long as the first
 pub store-over : (at : ℕ) (a b l : List ℕ) → length a ≤ length b → at + length b ≤ length l → store at b (store at a l) ≡ store at b l

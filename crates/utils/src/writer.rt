@@ -6,6 +6,7 @@ ghost use mathlib.Core.Path.{_≡_};
 ghost use Prim.Native.Nat.{_+_, _%_, _≤_, _<_};
 ghost use lib.ListN.{length, take, drop, replicate};
 ghost use Rattle.rfc3550.specs.Bytes.{be, store};
+ghost use Rattle.rfc3550.specs.Packet.{fill};
 ghost use Rattle.rfc3550.specs.Write.{paddingOk, paddingBytes};
 ghost use Rattle.utils.specs.Writer.{firstByte, header, reversed, reversedEight};
 
@@ -67,24 +68,23 @@ pub fn write_zeros_unchecked(buf: &mut [u8], at: usize, n: usize)
     }
 }
 
-// One to four zeros. Without a loop: a loop over so few is compiled to a call.
-pub fn write_fill_unchecked(buf: &mut [u8], at: usize, n: usize)
-    requires { ⌜ (0 < n) × (n ≤ 4) × (at + n ≤ length (now buf)) ⌝ }
-    ensures { λ _. ⌜ now (buf .exit) ≡ store at (replicate n 0) (now (buf .entry)) ⌝ }
+// The zeros from an index up to the word boundary after it, one to four. Without a loop: a loop over so few is compiled to a call.
+pub fn write_fill_unchecked(buf: &mut [u8], at: usize)
+    requires { ⌜ at + fill at ≤ length (now buf) ⌝ }
+    ensures { λ _. ⌜ now (buf .exit) ≡ store at (replicate (fill at) 0) (now (buf .entry)) ⌝ }
 {
+    if at % 2 == 0 {
+        if at % 4 == 0 {
+            write_u32_unchecked(buf, at, 0);
+            return;
+        }
+        write_u16_unchecked(buf, at, 0);
+        return;
+    }
     buf[at] = 0;
-    if n == 1 {
-        return;
+    if at % 4 == 1 {
+        write_u16_unchecked(buf, at + 1, 0);
     }
-    buf[at + 1] = 0;
-    if n == 2 {
-        return;
-    }
-    buf[at + 2] = 0;
-    if n == 3 {
-        return;
-    }
-    buf[at + 3] = 0;
 }
 
 // The number of the eight bytes from index at on, the last of them first.
@@ -135,16 +135,16 @@ fn copy_sixteen(buf: &mut [u8], at: usize, src: &[u8], k: usize)
     requires { ⌜ (k + 16 ≤ length (now src)) × (at + length (now src) ≤ length (now buf)) ⌝ }
     ensures { λ _. ⌜ now (buf .exit) ≡ store (at + k) (take 16 (drop k (now (src .entry)))) (now (buf .entry)) ⌝ }
 {
-    copy_eight(buf, at, src, k);
     copy_eight(buf, at, src, k + 8);
+    copy_eight(buf, at, src, k);
 }
 
 fn copy_thirty_two(buf: &mut [u8], at: usize, src: &[u8], k: usize)
     requires { ⌜ (k + 32 ≤ length (now src)) × (at + length (now src) ≤ length (now buf)) ⌝ }
     ensures { λ _. ⌜ now (buf .exit) ≡ store (at + k) (take 32 (drop k (now (src .entry)))) (now (buf .entry)) ⌝ }
 {
-    copy_sixteen(buf, at, src, k);
     copy_sixteen(buf, at, src, k + 16);
+    copy_sixteen(buf, at, src, k);
 }
 
 // Less than eight bytes: the first and the last four, or two, which may share some.
