@@ -12,8 +12,6 @@ ghost use Rattle.utils.specs.Error.{orZero, writeRefusal};
 ghost use Rattle.utils.specs.Writer.{writtenOf, sizeRefusal};
 ghost use Rattle.app.specs.Write.{AppFits, nameOk};
 
-const MAX_SUBTYPE: u8 = 31;
-
 fn is_ascii(name: &[u8]) -> bool
     ensures { λ r. ⌜ r ≡ ascii (now (name .entry)) ⌝ }
 {
@@ -42,7 +40,7 @@ fn check_name(name: &[u8]) -> bool
 pub fn size_of(subtype: u64, ssrc: u32, name: &[u8], data: &[u8], padding: u64) -> usize
     ensures { λ r. ⌜ r ≡ orZero (calculateSize (giveApp subtype ssrc (now (name .entry)) (now («data» .entry)) padding)) ⌝ }
 {
-    if 31 < subtype {
+    if (writer::MAX_COUNT as u64) < subtype {
         return 0;
     }
     if !check_name(name) {
@@ -56,7 +54,7 @@ pub fn size_of(subtype: u64, ssrc: u32, name: &[u8], data: &[u8], padding: u64) 
         return 0;
     }
     let size = App::MIN_PACKET_LEN + len + padding as usize;
-    if 262144 < size {
+    if writer::MAX_PACKET_LEN < size {
         return 0;
     }
     size
@@ -66,10 +64,10 @@ pub fn size_of(subtype: u64, ssrc: u32, name: &[u8], data: &[u8], padding: u64) 
 pub fn why_size(subtype: u64, ssrc: u32, name: &[u8], data: &[u8], padding: u64) -> RtcpWriteError
     ensures { λ r. ⌜ writeRefusal r ≡ sizeRefusal (calculateSize (giveApp subtype ssrc (now (name .entry)) (now («data» .entry)) padding)) ⌝ }
 {
-    if 31 < subtype {
+    if (writer::MAX_COUNT as u64) < subtype {
         return RtcpWriteError::AppSubtypeOutOfRange {
             subtype,
-            max: MAX_SUBTYPE,
+            max: writer::MAX_COUNT as u8,
         };
     }
     if !check_name(name) {

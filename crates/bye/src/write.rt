@@ -13,9 +13,7 @@ ghost use Rattle.utils.specs.Error.{orZero, writeRefusal};
 ghost use Rattle.utils.specs.Writer.{writtenOf, sizeRefusal};
 ghost use Rattle.bye.specs.Write.{sourcesBytes, ByeFits};
 
-const MAX_SOURCES: u8 = 31;
-
-const MAX_REASON_LEN: u8 = 255;
+const MAX_REASON_LEN: usize = 255;
 
 fn write_sources(buf: &mut [u8], at: usize, sources: &[u32])
     requires { ⌜ at + length (now sources) * 4 ≤ length (now buf) ⌝ }
@@ -59,13 +57,13 @@ pub fn size_of(sources: &[u32], reason: &[u8], padding: u64) -> usize
     ensures { λ r. ⌜ r ≡ orZero (calculateSize (giveBye (now (sources .entry)) (now (reason .entry)) padding)) ⌝ }
 {
     let count = sources.len();
-    if 31 < count {
+    if writer::MAX_COUNT < count {
         return 0;
     }
     if !writer::check_padding(padding) {
         return 0;
     }
-    if 255 < reason.len() {
+    if MAX_REASON_LEN < reason.len() {
         return 0;
     }
     Bye::MIN_PACKET_LEN + count * 4 + reason_size(reason) + padding as usize
@@ -76,20 +74,20 @@ pub fn why_size(sources: &[u32], reason: &[u8], padding: u64) -> RtcpWriteError
     ensures { λ r. ⌜ writeRefusal r ≡ sizeRefusal (calculateSize (giveBye (now (sources .entry)) (now (reason .entry)) padding)) ⌝ }
 {
     let count = sources.len();
-    if 31 < count {
+    if writer::MAX_COUNT < count {
         return RtcpWriteError::TooManySources {
             count,
-            max: MAX_SOURCES,
+            max: writer::MAX_COUNT as u8,
         };
     }
     if !writer::check_padding(padding) {
         return RtcpWriteError::InvalidPadding { padding };
     }
     let len = reason.len();
-    if 255 < len {
+    if MAX_REASON_LEN < len {
         return RtcpWriteError::ReasonLenTooLarge {
             len,
-            max: MAX_REASON_LEN,
+            max: MAX_REASON_LEN as u8,
         };
     }
     RtcpWriteError::PacketTooLarge

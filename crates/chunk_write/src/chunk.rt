@@ -1,6 +1,7 @@
 // A lone SDES chunk, written (sdes.rs, `SdesChunkBuilder`).
 use crate::chunks;
 use utils::error::RtcpWriteError;
+use utils::writer::MAX_PACKET_LEN;
 use utils::writer::Written;
 ghost use mathlib.Core.Path.{_≡_};
 ghost use lib.ListN.{length};
@@ -11,7 +12,7 @@ ghost use Rattle.utils.specs.Writer.{writtenOf, sizeRefusal};
 ghost use Rattle.chunk_write.specs.Lists.{laidChunk, ChunkFits};
 
 // What a packet of the greatest length has behind its header.
-const MAX_CHUNK_LEN: usize = 262140;
+const MAX_CHUNK_LEN: usize = MAX_PACKET_LEN - 4;
 
 // The size of a lone chunk; 0 where it is refused.
 pub fn size_of(ssrc: u32, types: &[u8], prefixes: &[u64], values: &[u64], bytes: &[u8]) -> usize

@@ -15,6 +15,11 @@ ghost use Rattle.utils.specs.Error.{writeRefusal, orZero};
 ghost use Rattle.utils.specs.Writer.{writtenOf, sizeRefusal};
 ghost use Rattle.chunk_write.specs.Sizes.{lent, sizeOf, itemLength, privHead, ItemFits};
 
+// What the length of an item states; of a PRIV item one byte less is prefix and value.
+const MAX_VALUE_LEN: u64 = 255;
+
+const MAX_PRIV_LEN: u64 = 254;
+
 // Neither 0 nor PRIV: behind its length such an item has its value alone.
 fn has_value_alone(item_type: u8) -> bool
     ensures { λ r. ⌜ r ≡ (not (eqb «item_type» 0) && not (eqb «item_type» 8)) ⌝ }
@@ -30,7 +35,7 @@ pub fn size_of_lengths(item_type: u8, prefix_len: u64, value_len: u64) -> usize
     ensures { λ r. ⌜ r ≡ orZero (sizeOf «item_type» «prefix_len» «value_len») ⌝ }
 {
     if has_value_alone(item_type) {
-        if 255 < value_len {
+        if MAX_VALUE_LEN < value_len {
             return 0;
         }
         return (2 + value_len) as usize;
@@ -38,10 +43,10 @@ pub fn size_of_lengths(item_type: u8, prefix_len: u64, value_len: u64) -> usize
     if item_type == 0 {
         return 0;
     }
-    if 254 < prefix_len {
+    if MAX_PRIV_LEN < prefix_len {
         return 0;
     }
-    if 254 - prefix_len < value_len {
+    if MAX_PRIV_LEN - prefix_len < value_len {
         return 0;
     }
     (3 + prefix_len + value_len) as usize
@@ -55,13 +60,13 @@ pub fn why_lengths(item_type: u8, prefix_len: u64, value_len: u64) -> RtcpWriteE
         return RtcpWriteError::ItemTypeZero;
     }
     if item_type == SdesItem::PRIV {
-        if 254 < prefix_len {
+        if MAX_PRIV_LEN < prefix_len {
             return RtcpWriteError::SdesPrivPrefixTooLarge {
                 len: prefix_len as usize,
-                max: 254,
+                max: MAX_PRIV_LEN as u8,
             };
         }
-        let max = 254 - prefix_len;
+        let max = MAX_PRIV_LEN - prefix_len;
         if max < value_len {
             return RtcpWriteError::SdesValueTooLarge {
                 len: value_len as usize,
@@ -70,10 +75,10 @@ pub fn why_lengths(item_type: u8, prefix_len: u64, value_len: u64) -> RtcpWriteE
         }
         return RtcpWriteError::PacketTooLarge;
     }
-    if 255 < value_len {
+    if MAX_VALUE_LEN < value_len {
         return RtcpWriteError::SdesValueTooLarge {
             len: value_len as usize,
-            max: 255,
+            max: MAX_VALUE_LEN as u8,
         };
     }
     RtcpWriteError::PacketTooLarge

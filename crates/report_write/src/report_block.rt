@@ -15,8 +15,6 @@ ghost use Rattle.utils.specs.Error.{orZero, writeRefusal};
 ghost use Rattle.utils.specs.Writer.{sizeRefusal};
 ghost use Rattle.report_write.specs.Report.{blockLists, blockGiven, laterLoss, testedLoss, countedSize, listsSize};
 
-const MAX_BLOCKS: u8 = 31;
-
 // Of a loss and the next one, the first if it does not fit.
 pub fn later_loss(loss: u32, next: u32) -> u32
     ensures { λ r. ⌜ r ≡ laterLoss loss next ⌝ }
@@ -59,7 +57,7 @@ fn merged_losses(losses: &[u32]) -> u32
 pub fn size_of_count(count: usize, loss: u32, padding: u64, least: u8) -> usize
     ensures { λ r. ⌜ r ≡ orZero (countedSize least count loss padding) ⌝ }
 {
-    if 31 < count {
+    if writer::MAX_COUNT < count {
         return 0;
     }
     if !writer::check_padding(padding) {
@@ -75,10 +73,10 @@ pub fn size_of_count(count: usize, loss: u32, padding: u64, least: u8) -> usize
 pub fn why_count(count: usize, loss: u32, padding: u64) -> RtcpWriteError
     ensures { λ r. ⌜ writeRefusal r ≡ sizeRefusal (countedSize 0 count loss padding) ⌝ }
 {
-    if 31 < count {
+    if writer::MAX_COUNT < count {
         return RtcpWriteError::TooManyReportBlocks {
             count,
-            max: MAX_BLOCKS,
+            max: writer::MAX_COUNT as u8,
         };
     }
     if !writer::check_padding(padding) {
@@ -112,7 +110,7 @@ pub fn size_of(fractions: &[u8], losses: &[u32], words: &[u32], padding: u64, le
     ensures { λ r. ⌜ r ≡ orZero (listsSize least (blockLists (now (fractions .entry)) (now (losses .entry)) (now (words .entry))) padding) ⌝ }
 {
     let n = fractions.len();
-    if 31 < n {
+    if writer::MAX_COUNT < n {
         return 0;
     }
     if losses.len() != n {

@@ -28,8 +28,8 @@ fn block(r: RtcpBlock) {
     one(r.delay_since_last_sender_report_timestamp);
 }
 
-// 0 block_parse, 1 rr_report_block, 2 sr_report_block, 3 rr_parse, 4 sr_parse, 5 app_parse, 6 bye_parse, 7 bye_source.
-fn packet(op: usize, s: &[u8], i: u64) {
+// 0 block_parse, 1 rr_report_block, 2 sr_report_block, 3 rr_parse, 4 sr_parse.
+fn report(op: usize, s: &[u8], i: u64) {
     match op {
         0 => block(read_report::rtcp_block_parse(s)),
         1 => block(read_report::rtcp_rr_report_block(s, i)),
@@ -40,13 +40,19 @@ fn packet(op: usize, s: &[u8], i: u64) {
             four(r.ssrc, r.n_reports, r.extension, r.extension_len);
             two(r.body, r.padding_len);
         }
-        4 => {
+        _ => {
             let r = read_report::rtcp_sr_parse(s);
             three(r.number, r.first, r.second);
             three(r.ssrc, r.ntp_timestamp, r.rtp_timestamp);
             three(r.packet_count, r.octet_count, r.n_reports);
             four(r.extension, r.extension_len, r.body, r.padding_len);
         }
+    }
+}
+
+// 5 app_parse, 6 bye_parse, 7 bye_source.
+fn app_or_bye(op: usize, s: &[u8], i: u64) {
+    match op {
         5 => {
             let r = read_app::rtcp_app_parse(s);
             three(r.number, r.first, r.second);
@@ -66,8 +72,8 @@ fn packet(op: usize, s: &[u8], i: u64) {
     }
 }
 
-// 8 sdes_parse, 9 item_parse, 10 item_priv_prefix, 11 chunk_parse, 12 chunk_walk_open, 13 chunk_walk_step, 14 item_walk_open, 15 item_walk_step.
-fn description(op: usize, s: &[u8], i: u64, end: u64) {
+// 8 sdes_parse, 9 item_parse, 10 item_priv_prefix, 11 chunk_parse.
+fn description(op: usize, s: &[u8]) {
     match op {
         8 => {
             let r = read_sdes::rtcp_sdes_parse(s);
@@ -85,11 +91,17 @@ fn description(op: usize, s: &[u8], i: u64, end: u64) {
             three(r.number, r.first, r.second);
             two(r.offset, r.len);
         }
-        11 => {
+        _ => {
             let r = read_sdes::rtcp_chunk_parse(s);
             three(r.number, r.first, r.second);
             three(r.ssrc, r.length, r.cname);
         }
+    }
+}
+
+// 12 chunk_walk_open, 13 chunk_walk_step, 14 item_walk_open, 15 item_walk_step.
+fn description_walk(op: usize, s: &[u8], i: u64, end: u64) {
+    match op {
         12 => {
             let r = read_sdes::rtcp_chunk_walk_open(s);
             three(r.number, r.first, r.second);
@@ -193,8 +205,10 @@ fn part(op: usize, s: &[u8]) {
 
 pub fn row(op: usize, s: &[u8], i: u64, end: u64) {
     match op {
-        0..=7 => packet(op, s, i),
-        8..=15 => description(op, s, i, end),
+        0..=4 => report(op, s, i),
+        5..=7 => app_or_bye(op, s, i),
+        8..=11 => description(op, s),
+        12..=15 => description_walk(op, s, i, end),
         16..=18 => datagram(op, s, i),
         19..=22 => report_part(op, s),
         23..=25 => app_part(op, s),

@@ -50,56 +50,71 @@ fn rr(op: usize, state: &mut [u64; 4], buf: &mut [u8], n: &Numbers, w: &Words, s
     }
 }
 
+fn sender_info(n: &Numbers, w: &Words) -> SenderInfo {
+    SenderInfo {
+        ssrc: word(w, 2),
+        ntp_timestamp: at(n, 3),
+        rtp_timestamp: word(w, 4),
+        packet_count: word(w, 5),
+        octet_count: word(w, 6),
+    }
+}
+
+fn sr_write(buf: &mut [u8], i: SenderInfo, s: &[u8], losses: &[u32], words: &[u32], padding: u64) {
+    written(write_report::rtcp_sr_size(s, losses, words, padding));
+    written(write_report::rtcp_sr_write(
+        buf,
+        i.ssrc,
+        i.ntp_timestamp,
+        i.rtp_timestamp,
+        i.packet_count,
+        i.octet_count,
+        s,
+        losses,
+        words,
+        padding,
+    ));
+}
+
+fn sr_add(
+    state: &mut [u64; 4],
+    buf: &mut [u8],
+    i: SenderInfo,
+    s: &[u8],
+    losses: &[u32],
+    words: &[u32],
+    padding: u64,
+) {
+    let call = write_compound::rtcp_writer_add_sr(
+        state,
+        buf,
+        i.ssrc,
+        i.ntp_timestamp,
+        i.rtp_timestamp,
+        i.packet_count,
+        i.octet_count,
+        s,
+        losses,
+        words,
+        padding,
+    );
+    called(call, state);
+}
+
 // `ROOM PADDING SSRC NTP RTP PACKETS OCTETS LOSSES WORDS`, then these.
 fn sr(op: usize, state: &mut [u64; 4], buf: &mut [u8], n: &Numbers, w: &Words, s: &[u8]) {
     let padding = at(n, 1);
-    let ssrc = word(w, 2);
-    let ntp = at(n, 3);
-    let rtp = word(w, 4);
-    let packets = word(w, 5);
-    let octets = word(w, 6);
+    let info = sender_info(n, w);
     let end = at(n, 7);
     let losses = lists::words(w, 9, end);
     let words = lists::words(w, end, at(n, 8));
-    if op == 40 {
-        written(write_report::rtcp_sr_size(s, losses, words, padding));
-        written(write_report::rtcp_sr_write(
-            buf,
-            ssrc,
-            ntp,
-            rtp,
-            packets,
-            octets,
-            s,
-            losses,
-            words,
-            padding,
-        ));
-    } else if op == 48 {
-        let call = write_compound::rtcp_writer_add_sr(
-            state,
-            buf,
-            ssrc,
-            ntp,
-            rtp,
-            packets,
-            octets,
-            s,
-            losses,
-            words,
-            padding,
-        );
-        called(call, state);
-    } else {
-        let info = SenderInfo {
-            ssrc,
-            ntp_timestamp: ntp,
-            rtp_timestamp: rtp,
-            packet_count: packets,
-            octet_count: octets,
-        };
-        let reporter = Reporter::Sender(info);
-        forms::report(op == 45, state, buf, reporter, padding, s, losses, words);
+    match op {
+        40 => sr_write(buf, info, s, losses, words, padding),
+        48 => sr_add(state, buf, info, s, losses, words, padding),
+        _ => {
+            let reporter = Reporter::Sender(info);
+            forms::report(op == 45, state, buf, reporter, padding, s, losses, words);
+        }
     }
 }
 

@@ -3,6 +3,7 @@ use sdes_chunk::chunk;
 use sdes_chunk::chunk::SdesChunk;
 use utils::error::RtcpParseError;
 use utils::parser;
+use utils::writer::MAX_PACKET_LEN;
 ghost use mathlib.Core.Path.{_≡_};
 ghost use Prim.Native.Nat.{_≤_};
 ghost use lib.ListN.{length, take, drop};
@@ -28,8 +29,6 @@ pub enum ParsedSdes {
 
 impl Sdes {
     pub const MIN_PACKET_LEN: usize = 4;
-
-    pub const MAX_PACKET_LEN: usize = 262144;
 
     pub const PACKET_TYPE: u8 = 202;
 
@@ -131,10 +130,10 @@ pub enum SteppedChunk {
 fn step_limit(s: &[u8]) -> usize
     ensures { λ r. ⌜ (r ≡ length (take 262144 (now (s .entry)))) × (r ≤ length (now (s .entry))) ⌝ }
 {
-    if s.len() < Sdes::MAX_PACKET_LEN {
+    if s.len() < MAX_PACKET_LEN {
         s.len()
     } else {
-        Sdes::MAX_PACKET_LEN
+        MAX_PACKET_LEN
     }
 }
 

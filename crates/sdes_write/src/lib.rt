@@ -14,10 +14,6 @@ ghost use Rattle.utils.specs.Error.{writeRefusal, orZero};
 ghost use Rattle.utils.specs.Writer.{writtenOf, sizeRefusal, header};
 ghost use Rattle.sdes_write.specs.Packets.{lists, withPadding, EndsFit, SdesFits};
 
-const MAX_COUNT: u8 = 31;
-
-const MAX_PACKET_LEN: usize = 262144;
-
 // The lists of a packet agree.
 fn lists_agree(
     ssrcs: &[u32],
@@ -59,7 +55,7 @@ fn end_of(
     if ssrcs.len() != counts.len() {
         return 0;
     }
-    if 31 < ssrcs.len() {
+    if writer::MAX_COUNT < ssrcs.len() {
         return 0;
     }
     if !writer::check_padding(padding) {
@@ -67,7 +63,7 @@ fn end_of(
     }
     chunks::chunks_end_unchecked(
         Sdes::MIN_PACKET_LEN,
-        MAX_PACKET_LEN - padding as usize,
+        writer::MAX_PACKET_LEN - padding as usize,
         counts,
         types,
         prefixes,
@@ -111,10 +107,10 @@ pub fn why_size(
         return RtcpWriteError::ListsDisagree;
     }
     let count = ssrcs.len();
-    if 31 < count {
+    if writer::MAX_COUNT < count {
         return RtcpWriteError::TooManySdesChunks {
             count,
-            max: MAX_COUNT,
+            max: writer::MAX_COUNT as u8,
         };
     }
     if !writer::check_padding(padding) {

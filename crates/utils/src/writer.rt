@@ -10,6 +10,12 @@ ghost use Rattle.rfc3550.specs.Packet.{fill};
 ghost use Rattle.rfc3550.specs.Write.{paddingOk, paddingBytes};
 ghost use Rattle.utils.specs.Writer.{firstByte, header, reversed, reversedEight};
 
+// What the 5 low bits of a header hold: the most blocks, chunks or sources, and the greatest subtype.
+pub const MAX_COUNT: usize = 31;
+
+// The bytes of the greatest length that a header states.
+pub const MAX_PACKET_LEN: usize = 262144;
+
 // The size of what was written, or why nothing was.
 pub enum Written {
     Size(usize),

@@ -9,5 +9,5 @@ returns-3 c =
 
 pub why-size-spec : {M : Type 1} → Rattle.sdes_write.proofs.why_size.Statement.statement M
 why-size-spec {M} =
-    let answers = tie.spec {M = M} (λ c κs. search sdess) (λ c. search sdess) (λ c. search sdess) (λ c κs. search sdess) returns-3
+    let answers = tie.spec {M = M} (λ c κs. search sdess) (λ c. search sdess) (λ c. search sdess) (λ c. search sdess) (λ c κs. search sdess) returns-3
     (λ c κs. search sdess) (λ c. search sdess) in tie.close answers
