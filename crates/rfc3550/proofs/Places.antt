@@ -2,7 +2,7 @@
 use Rattle.rfc3550.proofs.Prelude.{ℕ, _+_, _-_, _*_, _/_, _≡_, refl, sym, ap, _∙_, subst, List, [], _∷_, _++_, append-assoc, append-nil, arith, length, take, drop, replicate, length-append, take-at, drop-at, eqb}
 use Rattle.rfc3550.specs.Answer.{ok}
 use Rattle.rfc3550.specs.Bytes.{Bytes, be, put, Fits, sum}
-use Rattle.rfc3550.specs.Packet.{Block, Reporter, receiver, sender, item, priv, itemRest, itemBytes, Chunk, chunkBytes, no-reason, reason, report, bye, app, unknown, Packet, reporterWidths, reporterFields, blocksBytes, contentBytes, paddingBit, lowBits, type, layout, ContentValid}
+use Rattle.rfc3550.specs.Packet.{Block, Reporter, receiver, sender, item, priv, itemRest, itemBytes, Chunk, chunkBytes, no-reason, reason, report, bye, app, unknown, Packet, reporterWidths, reporterFields, blocksBytes, contentBytes, paddingBit, lowBits, type, layout, ChunkValid, ContentValid, Valid}
 use Rattle.rfc3550.specs.Read.{least, kindFor, stated, readChunk}
 use Rattle.rfc3550.specs.Compound.{readPacket}
 use Rattle.rfc3550.specs.Walk.{step, SdesWalk, sdesStep}
@@ -124,9 +124,9 @@ module _ (pre : List ℕ) (at : ℕ) (n : length pre ≡ at) (v rest : List ℕ)
       at-place (pre ++ (8 ∷ length (itemRest (priv p v)) ∷ length p ∷ p)) v rest (at + 3 + length p) (length v)
       (append-assoc pre (8 ∷ length (itemRest (priv p v)) ∷ length p ∷ p) (v ++ rest) ∙ rw (sym (append-assoc p v rest)) e) (rw (length-append pre, n) (omega arith)) refl
 
--- ---- what a step of a walk gave stands between its place and the next
+-- ---- what a step of a walk gave is valid, and stands between its place and the next
 
-pub packet-at : (s : List ℕ) (at : ℕ) → Bytes s → (x : Packet × ℕ) → step s at ≡ ok x → take (x .1 - at) (drop at s) ≡ layout (x .0)
+pub packet-at : (s : List ℕ) (at : ℕ) → Bytes s → (x : Packet × ℕ) → step s at ≡ ok x → Valid (x .0) × (take (x .1 - at) (drop at s) ≡ layout (x .0))
 unfolding step readPacket
 packet-at s at h x e =
     let a = need-inv _ _ _ _ _ e in
@@ -137,16 +137,16 @@ packet-at s at h x e =
     let f = need-inv _ _ _ _ _ (d .1) in
     let g = need-inv _ _ _ _ _ (f .1) in
     let n : at + stated (drop at s) - at ≡ stated (drop at s) = omega arith in
-    subst (λ (x : Packet × ℕ). take (x .1 - at) (drop at s) ≡ layout (x .0)) (ok-injective e₁)
-    (rw n (sym (packet-sound _ (take (stated (drop at s)) (drop at s)) p (bytes-take (stated (drop at s)) (drop at s) (bytes-drop at s h)) (g .1) .2))))
+    let z = packet-sound _ (take (stated (drop at s)) (drop at s)) p (bytes-take (stated (drop at s)) (drop at s) (bytes-drop at s h)) (g .1) in
+    subst (λ (x : Packet × ℕ). Valid (x .0) × (take (x .1 - at) (drop at s) ≡ layout (x .0))) (ok-injective e₁) (z .0, rw n (sym (z .2))))
 
-pub chunk-at : (s : List ℕ) (w : SdesWalk) → Bytes s → (x : Chunk × SdesWalk) → sdesStep s w ≡ ok x → take (length (chunkBytes (x .0))) (drop (w .at) (take 262144 s)) ≡ chunkBytes (x .0)
+pub chunk-at : (s : List ℕ) (w : SdesWalk) → Bytes s → (x : Chunk × SdesWalk) → sdesStep s w ≡ ok x → ChunkValid (x .0) × (take (length (chunkBytes (x .0))) (drop (w .at) (take 262144 s)) ≡ chunkBytes (x .0))
 unfolding sdesStep
 chunk-at s w h x e =
     let a = need-inv _ _ _ _ _ e in
     let b = need-inv _ _ _ _ _ (a .1) in
     bind-elim (readChunk (drop (w .at) (take 262144 s))) _ (b .1) (λ y q e₁.
     let z : y .0 ≡ x .0 = ap (λ (x : Chunk × SdesWalk). x .0) (ok-injective e₁) in
-    let g = chunk-sound (drop (w .at) (take 262144 s)) (bytes-drop (w .at) (take 262144 s) (bytes-take 262144 s h)) q .bytes in
-    subst (λ (c : Chunk). take (length (chunkBytes c)) (drop (w .at) (take 262144 s)) ≡ chunkBytes c) z
-    (ap (take (length (chunkBytes (y .0)))) (sym g) ∙ take-at (chunkBytes (y .0)) (y .1) (length (chunkBytes (y .0))) refl))
+    let g = chunk-sound (drop (w .at) (take 262144 s)) (bytes-drop (w .at) (take 262144 s) (bytes-take 262144 s h)) q in
+    subst (λ (c : Chunk). ChunkValid c × (take (length (chunkBytes c)) (drop (w .at) (take 262144 s)) ≡ chunkBytes c)) z
+    (g .valid, ap (take (length (chunkBytes (y .0)))) (sym (g .bytes)) ∙ take-at (chunkBytes (y .0)) (y .1) (length (chunkBytes (y .0))) refl))

@@ -43,7 +43,7 @@ use Rattle.rtcp.proofs.WriteCalls.{writerIn-writerOut}
 module _ (s : List ℕ) (h : Bytes s) where
   packet-shown : (at : ℕ) (a : Answer (Read × ℕ)) → step s at ≡ a → packetShown s at (stepResult at (mapOk stepView a)) ≡ packetDue (gave a)
   unfolding mapOk
-  packet-shown at (ok x) e = ap (λ (b : List ℕ). ((0, 0, 0), numbersOf (packetView (x .0)), b)) (packet-at s at h x e)
+  packet-shown at (ok x) e = ap (λ (b : List ℕ). ((0, 0, 0), numbersOf (packetView (x .0)), b)) (packet-at s at h x e .1)
   packet-shown at (refused r) e = refl
 
   packet-moved : (at : ℕ) (a : Answer (Read × ℕ)) → stepResult at (mapOk stepView a) .at ≡ walkAfter at a
@@ -86,7 +86,7 @@ module _ (s : List ℕ) (h : Bytes s) (p : Read) (e : readAs SDES s ≡ ok p) wh
   unfolding mapOk
   chunk-shown w (ok x) q =
       ap (λ (b : List ℕ). ((0, 0, 0), (x .0 .ssrc, length (chunkBytes (x .0)), cnamePlace 4 (x .0 .items)), b))
-      (ap (λ (l : List ℕ). take (length (chunkBytes (x .0))) (drop (w .at) l)) (sym (short s p h e)) ∙ chunk-at s w h x q)
+      (ap (λ (l : List ℕ). take (length (chunkBytes (x .0))) (drop (w .at) l)) (sym (short s p h e)) ∙ chunk-at s w h x q .1)
   chunk-shown w (refused r) q = refl
 
   chunk-moved : (w : SdesWalk) (a : Answer (Chunk × SdesWalk)) → record { at = chunkStepResult (w .at) (w .end) (mapOk chunkStepped a) .at; end = chunkStepResult (w .at) (w .end) (mapOk chunkStepped a) .end } ≡ walkAfter w a

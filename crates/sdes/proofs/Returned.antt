@@ -33,7 +33,7 @@ module _ (s : List ℕ) (h : Bytes s) where
       let g = sdes-walk-gives s p h e in
       let k : sdesWalk w ≡ g .0 = ok-injective (sym z ∙ g .1) in
       answers-run (chunkSteps s) (sdesStep s) sdesWalk chunkWalk (λ w. refl) chunkView steppedChunkOf (λ h r m. m) (λ h r. refl) (chunkSeen s) chunkIs
-      (λ v x q. ap (λ (b : List ℕ). (chunkView (x .0), b)) (ap (λ (l : List ℕ). take (length (chunkBytes (x .0))) (drop (v .at) l)) (sym (short s p h e)) ∙ chunk-at s (sdesWalk v) h x q))
+      (λ v x q. ap (λ (b : List ℕ). (chunkView (x .0), b)) (ap (λ (l : List ℕ). take (length (chunkBytes (x .0))) (drop (v .at) l)) (sym (short s p h e)) ∙ chunk-at s (sdesWalk v) h x q .1))
       w (chunksOf (p .content)) (λ i. ap (λ (v : SdesWalk). gave (sdesStep s (walked (sdesStep s) v i))) k ∙ g .2 i) rs t
 
   pub packet-of : {P : Type 0} {v : SdesWalk} → openSdes s ≡ ok v → ((p : Packet) → readAs SDES s ≡ ok p → P) → P

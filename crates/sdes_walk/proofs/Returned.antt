@@ -29,7 +29,7 @@ module _ (d : RefT (List ℕ)) (h : Bytes (now d)) (p : Packet) (e : readAs SDES
   unfolding mapOk
   seen-chunk w (refused r) q = refl
   seen-chunk w (ok x) q =
-      ap (λ (b : List ℕ). ok (chunkView (x .0), b)) (ap (λ (l : List ℕ). take (length (chunkBytes (x .0))) (drop (w .at) l)) (sym (short (now d) p h e)) ∙ chunk-at (now d) (sdesWalk w) h x q)
+      ap (λ (b : List ℕ). ok (chunkView (x .0), b)) (ap (λ (l : List ℕ). take (length (chunkBytes (x .0))) (drop (w .at) l)) (sym (short (now d) p h e)) ∙ chunk-at (now d) (sdesWalk w) h x q .1)
 
   moved-chunk : (w : ChunkWalk) (a : Answer (Chunk × rfc.SdesWalk)) → sdesWalk (rfc.walkAfter w (mapOk chunkStepped a)) ≡ rfc.walkAfter (sdesWalk w) a
   unfolding mapOk
