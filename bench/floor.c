@@ -51,18 +51,21 @@ static inline size_t headed(const uint8_t *s, uint32_t w, uint32_t type, size_t 
 
 /* ---- reading ---- */
 
-static inline void list(const uint8_t *restrict s, uint8_t *restrict fractions, uint32_t *restrict losses, uint32_t *restrict words, size_t n) {
+/* The low 24 bits as a signed number. */
+static inline int32_t loss_of(uint32_t w) { return (int32_t)(w << 8) >> 8; }
+
+static inline void list(const uint8_t *restrict s, uint8_t *restrict fractions, int32_t *restrict losses, uint32_t *restrict words, size_t n) {
     for (size_t i = 0; i < n; i++, s += 24, words += 5) {
         uint64_t h = load64(s), m = turned(load64(s + 8)), t = turned(load64(s + 16));
         words[0] = (uint32_t)(h >> 32);
         fractions[i] = (uint8_t)(h >> 24);
-        losses[i] = (uint32_t)h & 0xffffff;
+        losses[i] = loss_of((uint32_t)h);
         memcpy(words + 1, &m, 8);
         memcpy(words + 3, &t, 8);
     }
 }
 
-struct RtcpSr rtcp_sr_read(const uint8_t *s, size_t len, uint8_t *fractions, size_t n_fractions, uint32_t *losses, size_t n_losses,
+struct RtcpSr rtcp_sr_read(const uint8_t *s, size_t len, uint8_t *fractions, size_t n_fractions, int32_t *losses, size_t n_losses,
                            uint32_t *words, size_t n_words) {
     if (LIKELY(len >= 28)) {
         uint32_t w = load32(s);
@@ -75,7 +78,7 @@ struct RtcpSr rtcp_sr_read(const uint8_t *s, size_t len, uint8_t *fractions, siz
     return (struct RtcpSr){.number = 99};
 }
 
-struct RtcpRr rtcp_rr_read(const uint8_t *s, size_t len, uint8_t *fractions, size_t n_fractions, uint32_t *losses, size_t n_losses,
+struct RtcpRr rtcp_rr_read(const uint8_t *s, size_t len, uint8_t *fractions, size_t n_fractions, int32_t *losses, size_t n_losses,
                            uint32_t *words, size_t n_words) {
     if (LIKELY(len >= 8)) {
         uint32_t w = load32(s);
@@ -207,7 +210,7 @@ struct RtcpChunkStep rtcp_chunk_walk_step(const uint8_t *s, size_t len, uint64_t
 
 struct RtcpBlock rtcp_block_parse(const uint8_t *s, size_t len) {
     if (len < 24) return (struct RtcpBlock){.number = 99};
-    return (struct RtcpBlock){0, 0, 0, load32(s), s[4], load32(s + 4) & 0xffffff, load32(s + 8), load32(s + 12), load32(s + 16), load32(s + 20)};
+    return (struct RtcpBlock){0, 0, 0, load32(s), s[4], loss_of(load32(s + 4)), load32(s + 8), load32(s + 12), load32(s + 16), load32(s + 20)};
 }
 
 static inline int framed(const uint8_t *s, size_t left, int first, uint32_t *w, size_t *len) {
@@ -247,18 +250,20 @@ struct RtcpStep rtcp_walk_step(const uint8_t *s, size_t len, uint64_t at) {
 
 /* ---- writing ---- */
 
-static inline int fit(const uint32_t *losses, size_t n) {
+/* With 2^23 added, a loss that fits has no bit above the lowest 24. */
+static inline int fit(const int32_t *losses, size_t n) {
     uint32_t all = 0;
-    for (size_t i = 0; i < n; i++) all |= losses[i];
+    for (size_t i = 0; i < n; i++) all |= (uint32_t)losses[i] + 0x800000;
     return all <= 0xffffff;
 }
 
-static inline void lay(uint8_t *restrict p, const uint8_t *restrict fractions, const uint32_t *restrict losses, const uint32_t *restrict words, size_t n) {
+static inline void lay(uint8_t *restrict p, const uint8_t *restrict fractions, const int32_t *restrict losses, const uint32_t *restrict words, size_t n) {
     for (size_t i = 0; i < n; i++, p += 24, words += 5) {
         uint64_t m, t;
         memcpy(&m, words + 1, 8);
         memcpy(&t, words + 3, 8);
-        store64(p, (uint64_t)words[0] << 32 | (uint32_t)fractions[i] << 24 | losses[i]);
+        store64(p, (uint64_t)words[0] << 32 | (uint32_t)losses[i]);
+        p[4] = fractions[i]; /* in place of the bits above the loss's 24 */
         store64(p + 8, turned(m));
         store64(p + 16, turned(t));
     }
@@ -272,7 +277,7 @@ static inline void pad(uint8_t *end, uint64_t padding) {
     end[-1] = (uint8_t)padding;
 }
 
-#define BLOCKS const uint8_t *fractions, size_t n, const uint32_t *losses, size_t n_losses, const uint32_t *words, size_t n_words
+#define BLOCKS const uint8_t *fractions, size_t n, const int32_t *losses, size_t n_losses, const uint32_t *words, size_t n_words
 #define BLOCKS_FIT (n == n_losses && 5 * n == n_words && n <= 31 && fit(losses, n))
 
 struct RtcpWritten rtcp_rr_write(uint8_t *buf, size_t room, uint32_t ssrc, BLOCKS, uint64_t padding) {

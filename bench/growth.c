@@ -11,7 +11,8 @@ static size_t length[PACKETS + 1]; /* of so many packets */
 
 static struct RtcpCall add(struct RtcpWriter *w, size_t i) {
     static const uint8_t fraction = 2;
-    static const uint32_t loss = 3, words[5] = {1, 4, 5, 6, 7};
+    static const int32_t loss = 3;
+    static const uint32_t words[5] = {1, 4, 5, 6, 7};
     static const uint32_t ssrc = 0x11223344;
     static const uint8_t text[] = "hall", name[] = "hall";
     uint8_t *buf = datagram;

@@ -92,7 +92,7 @@ static void open_out(GstRTCPBuffer *rtcp) {
 static void put_blocks(GstRTCPPacket *p, const struct Input *in) {
     for (size_t i = 0; i < in->n_blocks; i++) {
         const uint32_t *w = in->words + 5 * i;
-        gst_rtcp_packet_add_rb(p, w[0], in->fractions[i], (gint32)in->losses[i], w[1], w[2], w[3], w[4]);
+        gst_rtcp_packet_add_rb(p, w[0], in->fractions[i], in->losses[i], w[1], w[2], w[3], w[4]);
     }
 }
 

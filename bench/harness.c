@@ -31,7 +31,7 @@ static void take_report(struct Input *in, const uint8_t *p) {
     for (size_t i = 0; i < in->n_blocks; i++, block += 24) {
         uint32_t *words = in->words + 5 * i;
         in->fractions[i] = block[4];
-        in->losses[i] = word(block + 4) & 0xffffff;
+        in->losses[i] = (int32_t)(word(block + 4) << 8) >> 8;
         words[0] = word(block);
         for (size_t k = 0; k < 4; k++) words[1 + k] = word(block + 8 + 4 * k);
     }
@@ -68,7 +68,7 @@ static void take_fields(struct Input *in) {
 static uint64_t sum_of(const struct Input *in) {
     uint64_t sum = in->ntp + in->ssrc + in->rtp + in->packets + in->octets;
     const uint8_t *value = in->text;
-    for (size_t i = 0; i < in->n_blocks; i++) sum += in->fractions[i] + (uint64_t)in->losses[i];
+    for (size_t i = 0; i < in->n_blocks; i++) sum += in->fractions[i] + (uint64_t)(uint32_t)in->losses[i];
     for (size_t i = 0; i < 5 * in->n_blocks; i++) sum += in->words[i];
     for (size_t i = 0; i < in->n_chunks; i++) sum += in->ssrcs[i];
     for (size_t i = 0; i < in->n_items; i++) {

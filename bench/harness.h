@@ -15,7 +15,8 @@ struct Input {
     uint64_t ntp;
     uint32_t rtp, packets, octets;
     uint8_t fractions[MOST];
-    uint32_t losses[MOST], words[MOST * 5]; /* of a block: SSRC, sequence, jitter, last SR, delay */
+    int32_t losses[MOST];
+    uint32_t words[MOST * 5]; /* of a block: SSRC, sequence, jitter, last SR, delay */
     size_t n_blocks;
     uint32_t ssrcs[MOST];
     uint64_t counts[MOST];
@@ -31,7 +32,8 @@ struct Input {
 extern struct Input rrsdes, sr31, sdes31, padded, priv31;
 
 /* A reading returns the sum of all fields; a writing, whose name starts with "write", how many bytes it wrote. `input` is what it reads or must
-   write; where it is null, nothing is held against it. */
+   write; where it is null, nothing is held against it. Of a loss the low 32 bits are added. Some sides read it without a sign; no input has one below
+   zero, so the sums agree. */
 struct Operation {
     const char *name;
     uint64_t (*run)(void);

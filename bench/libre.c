@@ -28,7 +28,7 @@ static void take_blocks(const struct Input *in) {
         const uint32_t *w = in->words + 5 * i;
         blocks[i].ssrc = w[0];
         blocks[i].fraction = in->fractions[i];
-        blocks[i].lost = (int)in->losses[i];
+        blocks[i].lost = in->losses[i];
         blocks[i].last_seq = w[1];
         blocks[i].jitter = w[2];
         blocks[i].lsr = w[3];

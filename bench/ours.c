@@ -10,7 +10,8 @@ const uint8_t *written(void) { return out; }
 
 /* The lists that the reading calls fill, each long enough for every input. */
 static uint8_t fractions[31];
-static uint32_t losses[31], words[31 * 5];
+static int32_t losses[31];
+static uint32_t words[31 * 5];
 static uint32_t rows[ROOM / 2 * 5];
 static uint64_t packets[3 * 8];
 
@@ -22,7 +23,7 @@ static uint64_t blocks_sum(uint64_t n) {
     uint64_t sum = 0;
     for (uint64_t i = 0; i < n; i++) {
         const uint32_t *w = words + 5 * i;
-        sum += (uint64_t)fractions[i] + losses[i] + w[0] + w[1] + w[2] + w[3] + w[4];
+        sum += (uint64_t)fractions[i] + (uint32_t)losses[i] + w[0] + w[1] + w[2] + w[3] + w[4];
     }
     return sum;
 }
@@ -95,7 +96,7 @@ static uint64_t rr_walked(const uint8_t *packet, const struct RtcpStep *p) {
     uint64_t sum = p->ssrc;
     for (uint64_t i = 0; i < p->count; i++) {
         struct RtcpBlock b = rtcp_block_parse(packet + 8 + 24 * i, 24);
-        sum += b.ssrc + b.fraction_lost + b.cumulative_lost + b.extended_sequence_number + b.interarrival_jitter +
+        sum += b.ssrc + b.fraction_lost + (uint32_t)b.cumulative_lost + b.extended_sequence_number + b.interarrival_jitter +
                b.last_sender_report_timestamp + b.delay_since_last_sender_report_timestamp;
     }
     return sum;

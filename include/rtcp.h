@@ -8,7 +8,7 @@
 
    Answers: number is 0 where the call is done. Else it is a refusal of docs/REFUSALS.md with its details in first and second; then every other
    number is 0, but a walk, which is the one that went in, and a writer, a buffer or a list that was lent is as it was. Every number of an
-   answer is a uint64_t.
+   answer is a uint64_t, but for cumulative_lost, an int32_t.
 
    Parts: an offset and a length in the caller's own bytes. Nothing is copied. A part that is not there has length 0.
 
@@ -85,12 +85,14 @@ enum {
     RTCP_MAX_PADDING = 252,    /* bytes of padding, a multiple of 4 */
     RTCP_MAX_COUNT = 31,       /* blocks, chunks or sources of a packet; an APP's subtype */
     RTCP_MAX_REASON = 255,     /* bytes of a reason or of an item's value */
-    RTCP_MAX_LOST = 16777215,  /* cumulative lost */
     RTCP_BLOCK_SIZE = 24,      /* bytes of a report block */
     RTCP_BLOCK_WORDS = 5,      /* words of a block: see rtcp_rr_report_blocks */
     RTCP_ITEM_ROW = 5,         /* numbers of an item: see rtcp_sdes_items */
     RTCP_PACKET_ROW = 3        /* numbers of a packet: see rtcp_compound_packets */
 };
+
+/* The least and the most that a cumulative loss can be: 24 bits with a sign. */
+enum { RTCP_MIN_LOST = -8388608, RTCP_MAX_LOST = 8388607 };
 
 /* The commit that the archive was proved from; a '+' behind it where a source was changed after that commit. */
 extern const char rtcp_proved_from[];
@@ -104,12 +106,14 @@ struct RtcpWritten {
 
 /* ---- reports ---- */
 
-/* A report block. cumulative_lost is the field's 24 bits. */
+/* A report block. cumulative_lost is signed, from RTCP_MIN_LOST to RTCP_MAX_LOST: the packets expected less those received, a duplicate counted as
+   received. It is below zero where more duplicates came than packets were lost (RFC 3550 6.4.1). The four bytes after it belong to no field, so
+   compare two blocks field by field. */
 struct RtcpBlock {
     uint64_t number, first, second;
     uint64_t ssrc;
     uint64_t fraction_lost;
-    uint64_t cumulative_lost;
+    int32_t cumulative_lost;
     uint64_t extended_sequence_number;
     uint64_t interarrival_jitter;
     uint64_t last_sender_report_timestamp;
@@ -165,29 +169,29 @@ struct RtcpBlock rtcp_rr_report_block(const uint8_t *s, size_t len, uint64_t i);
 struct RtcpBlock rtcp_sr_report_block(const uint8_t *s, size_t len, uint64_t i);
 
 /* All blocks of a receiver report at once, into three lists, as rtcp_rr_write takes them: of block i, fractions[i] is the fraction lost, losses[i]
-   the cumulative lost, and five words from words[5 * i] on are its SSRC, extended sequence number, jitter, last SR and delay since last SR.
-   size is the number of blocks. Refusals: those of rtcp_rr_parse, then 10(blocks, 0) where a list is too short for them.
-     uint8_t fractions[31]; uint32_t losses[31], words[31 * 5];
+   the cumulative lost, which is signed, and five words from words[5 * i] on are its SSRC, extended sequence number, jitter, last SR and delay since
+   last SR. size is the number of blocks. Refusals: those of rtcp_rr_parse, then 10(blocks, 0) where a list is too short for them.
+     uint8_t fractions[31]; int32_t losses[31]; uint32_t words[31 * 5];
      struct RtcpWritten w = rtcp_rr_report_blocks(packet, len, fractions, 31, losses, 31, words, 31 * 5);
      for (uint64_t i = 0; i < w.size; i++) use(words[5 * i], fractions[i], losses[i]); */
-struct RtcpWritten rtcp_rr_report_blocks(const uint8_t *s, size_t len, uint8_t *fractions, size_t fractions_len, uint32_t *losses,
+struct RtcpWritten rtcp_rr_report_blocks(const uint8_t *s, size_t len, uint8_t *fractions, size_t fractions_len, int32_t *losses,
                                          size_t losses_len, uint32_t *words, size_t words_len);
 
 /* All blocks of a sender report at once. Refusals as rtcp_rr_report_blocks.
      struct RtcpWritten w = rtcp_sr_report_blocks(packet, len, fractions, 31, losses, 31, words, 31 * 5); */
-struct RtcpWritten rtcp_sr_report_blocks(const uint8_t *s, size_t len, uint8_t *fractions, size_t fractions_len, uint32_t *losses,
+struct RtcpWritten rtcp_sr_report_blocks(const uint8_t *s, size_t len, uint8_t *fractions, size_t fractions_len, int32_t *losses,
                                          size_t losses_len, uint32_t *words, size_t words_len);
 
 /* A receiver report and all its blocks in one call, which reads the packet once: the answer of rtcp_rr_parse, and the lists of
    rtcp_rr_report_blocks, filled for n_reports blocks. Refusals: those of rtcp_rr_parse, then 10.
      struct RtcpRr rr = rtcp_rr_read(packet, len, fractions, 31, losses, 31, words, 31 * 5);
      if (rr.number == 0) use(rr.ssrc, fractions, rr.n_reports); */
-struct RtcpRr rtcp_rr_read(const uint8_t *s, size_t len, uint8_t *fractions, size_t fractions_len, uint32_t *losses, size_t losses_len,
+struct RtcpRr rtcp_rr_read(const uint8_t *s, size_t len, uint8_t *fractions, size_t fractions_len, int32_t *losses, size_t losses_len,
                            uint32_t *words, size_t words_len);
 
 /* A sender report and all its blocks in one call. Refusals as rtcp_rr_read.
      struct RtcpSr sr = rtcp_sr_read(packet, len, fractions, 31, losses, 31, words, 31 * 5); */
-struct RtcpSr rtcp_sr_read(const uint8_t *s, size_t len, uint8_t *fractions, size_t fractions_len, uint32_t *losses, size_t losses_len,
+struct RtcpSr rtcp_sr_read(const uint8_t *s, size_t len, uint8_t *fractions, size_t fractions_len, int32_t *losses, size_t losses_len,
                            uint32_t *words, size_t words_len);
 
 /* ---- APP ---- */
@@ -453,29 +457,30 @@ struct RtcpStep rtcp_walk_step(const uint8_t *s, size_t len, uint64_t at);
    is too short. Bytes of buf past the size stay as they were.
 
    blocks: three lists, as rtcp_rr_report_blocks fills them: for each block a fraction lost, a cumulative lost and five words. 24 exactly where there
-   are not one loss and five words for each fraction.
+   are not one loss and five words for each fraction. 17(the loss's low 32 bits, 8388607) where a loss is below RTCP_MIN_LOST or above RTCP_MAX_LOST;
+   so -8388609 gives 17(4286578687, 8388607).
    padding: bytes of padding; 11(padding, 0) where it is no multiple of 4 or above 252. */
 
-/* A receiver report. Refusals: 24, 18(count, 31), 11, 17(loss, 16777215) block by block, 10.
+/* A receiver report. Refusals: 24, 18(count, 31), 11, 17(the loss's low 32 bits, 8388607) block by block, 10.
      struct RtcpWritten w = rtcp_rr_write(buf, sizeof buf, ssrc, NULL, 0, NULL, 0, NULL, 0, 0);
      if (w.number == 0) send(buf, w.size); */
 struct RtcpWritten rtcp_rr_write(uint8_t *buf, size_t buf_len, uint32_t ssrc, const uint8_t *fractions, size_t fractions_len,
-                                 const uint32_t *losses, size_t losses_len, const uint32_t *words, size_t words_len, uint64_t padding);
+                                 const int32_t *losses, size_t losses_len, const uint32_t *words, size_t words_len, uint64_t padding);
 
 /* The size of a receiver report. Refusals as rtcp_rr_write, without 10.
      struct RtcpWritten w = rtcp_rr_size(NULL, 0, NULL, 0, NULL, 0, 0); */
-struct RtcpWritten rtcp_rr_size(const uint8_t *fractions, size_t fractions_len, const uint32_t *losses, size_t losses_len,
+struct RtcpWritten rtcp_rr_size(const uint8_t *fractions, size_t fractions_len, const int32_t *losses, size_t losses_len,
                                 const uint32_t *words, size_t words_len, uint64_t padding);
 
 /* A sender report. Refusals as rtcp_rr_write.
      rtcp_sr_write(buf, sizeof buf, ssrc, ntp, rtp, packets, octets, NULL, 0, NULL, 0, NULL, 0, 0); */
 struct RtcpWritten rtcp_sr_write(uint8_t *buf, size_t buf_len, uint32_t ssrc, uint64_t ntp_timestamp, uint32_t rtp_timestamp,
                                  uint32_t packet_count, uint32_t octet_count, const uint8_t *fractions, size_t fractions_len,
-                                 const uint32_t *losses, size_t losses_len, const uint32_t *words, size_t words_len, uint64_t padding);
+                                 const int32_t *losses, size_t losses_len, const uint32_t *words, size_t words_len, uint64_t padding);
 
 /* The size of a sender report. Refusals as rtcp_rr_size.
      struct RtcpWritten w = rtcp_sr_size(fractions, 1, losses, 1, words, 5, 0); */
-struct RtcpWritten rtcp_sr_size(const uint8_t *fractions, size_t fractions_len, const uint32_t *losses, size_t losses_len,
+struct RtcpWritten rtcp_sr_size(const uint8_t *fractions, size_t fractions_len, const int32_t *losses, size_t losses_len,
                                 const uint32_t *words, size_t words_len, uint64_t padding);
 
 /* A BYE packet; an empty reason is none. Refusals: 15(count, 31), 11, 16(length, 255), 10.
@@ -557,14 +562,14 @@ void rtcp_writer_new(struct RtcpWriter *writer);
    far, 10 with the length and the packet.
      struct RtcpCall c = rtcp_writer_add_rr(&w, buf, sizeof buf, ssrc, NULL, 0, NULL, 0, NULL, 0, 0); */
 struct RtcpCall rtcp_writer_add_rr(struct RtcpWriter *writer, uint8_t *buf, size_t buf_len, uint32_t ssrc, const uint8_t *fractions,
-                                   size_t fractions_len, const uint32_t *losses, size_t losses_len, const uint32_t *words,
+                                   size_t fractions_len, const int32_t *losses, size_t losses_len, const uint32_t *words,
                                    size_t words_len, uint64_t padding);
 
 /* Adds a sender report. Refusals as rtcp_writer_add_rr.
      c = rtcp_writer_add_sr(&w, buf, sizeof buf, ssrc, ntp, rtp, packets, octets, fractions, 1, losses, 1, words, 5, 0); */
 struct RtcpCall rtcp_writer_add_sr(struct RtcpWriter *writer, uint8_t *buf, size_t buf_len, uint32_t ssrc, uint64_t ntp_timestamp,
                                    uint32_t rtp_timestamp, uint32_t packet_count, uint32_t octet_count, const uint8_t *fractions,
-                                   size_t fractions_len, const uint32_t *losses, size_t losses_len, const uint32_t *words,
+                                   size_t fractions_len, const int32_t *losses, size_t losses_len, const uint32_t *words,
                                    size_t words_len, uint64_t padding);
 
 /* Adds an SDES packet. Refusals: 26, 29, 27 where it would be the first, those of rtcp_sdes_write, 10 as rtcp_writer_add_rr.
@@ -630,7 +635,8 @@ static inline struct RtcpCall rtcp_writer_add_cname(struct RtcpWriter *writer, u
 /* The lists of up to 31 blocks, as the calls that write take them. */
 struct RtcpBlockLists {
     uint8_t fractions[RTCP_MAX_COUNT];
-    uint32_t losses[RTCP_MAX_COUNT], words[RTCP_MAX_COUNT * RTCP_BLOCK_WORDS];
+    int32_t losses[RTCP_MAX_COUNT];
+    uint32_t words[RTCP_MAX_COUNT * RTCP_BLOCK_WORDS];
 };
 
 /* Fills the lists with the first 31 of n blocks at most. */
@@ -638,7 +644,7 @@ static inline void rtcp_block_lists(struct RtcpBlockLists *lists, const struct R
     for (size_t i = 0; i < n && i < RTCP_MAX_COUNT; i++) {
         uint32_t *word = lists->words + RTCP_BLOCK_WORDS * i;
         lists->fractions[i] = (uint8_t)blocks[i].fraction_lost;
-        lists->losses[i] = (uint32_t)blocks[i].cumulative_lost;
+        lists->losses[i] = blocks[i].cumulative_lost;
         word[0] = (uint32_t)blocks[i].ssrc;
         word[1] = (uint32_t)blocks[i].extended_sequence_number;
         word[2] = (uint32_t)blocks[i].interarrival_jitter;
@@ -692,7 +698,7 @@ static inline const char *rtcp_refusal_text(uint64_t number) {
         "APP data that are no full words",
         "more than 31 sources",
         "a reason of over 255 bytes",
-        "a cumulative loss that does not fit its field",
+        "a cumulative loss below -8,388,608 or above 8,388,607",
         "more than 31 report blocks",
         "more than 31 chunks",
         "an item value that is too long",

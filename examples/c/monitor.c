@@ -8,7 +8,8 @@
 enum { MOST = 64, DATAGRAM = 1500 };
 
 struct Loss {
-    uint32_t ssrc, fraction, cumulative;
+    uint32_t ssrc, fraction;
+    int32_t cumulative; /* below zero where duplicates came */
 };
 
 struct Participant {
@@ -22,7 +23,7 @@ static size_t n_losses;
 static struct Participant participants[MOST];
 static size_t n_participants;
 
-static void update_meter(uint32_t ssrc, uint32_t fraction, uint32_t cumulative) {
+static void update_meter(uint32_t ssrc, uint32_t fraction, int32_t cumulative) {
     size_t i = 0;
     while (i < n_losses && meter[i].ssrc != ssrc) i++;
     if (i == MOST) return;
@@ -32,7 +33,8 @@ static void update_meter(uint32_t ssrc, uint32_t fraction, uint32_t cumulative) 
 
 /* The lists that the calls which read a report fill with its blocks. */
 static uint8_t fractions[RTCP_MAX_COUNT];
-static uint32_t losses[RTCP_MAX_COUNT], words[RTCP_MAX_COUNT * RTCP_BLOCK_WORDS];
+static int32_t losses[RTCP_MAX_COUNT];
+static uint32_t words[RTCP_MAX_COUNT * RTCP_BLOCK_WORDS];
 #define LISTS fractions, RTCP_MAX_COUNT, losses, RTCP_MAX_COUNT, words, RTCP_MAX_COUNT *RTCP_BLOCK_WORDS
 
 static void read_blocks(uint64_t n) {
@@ -143,7 +145,7 @@ int main(int argc, char **argv) {
     struct Sender sender = {0, 0, 0};
     if (!read_datagram(datagram, len, &sender)) return 1;
     for (size_t i = 0; i < n_losses; i++) {
-        printf("loss of %08x: %u/256, %u in all\n", (unsigned)meter[i].ssrc, (unsigned)meter[i].fraction, (unsigned)meter[i].cumulative);
+        printf("loss of %08x: %u/256, %d in all\n", (unsigned)meter[i].ssrc, (unsigned)meter[i].fraction, (int)meter[i].cumulative);
     }
     for (size_t i = 0; i < n_participants; i++) {
         printf("participant %08x: ", (unsigned)participants[i].ssrc);

@@ -20,6 +20,23 @@ static inline void compare(const char *file, const char *name, const void *got, 
         compare(__FILE__, #call, &got, &want, sizeof got);     \
     } while (0)
 
+/* A block, field by field: the bytes between its fields are anything. */
+static inline void compare_block(const char *file, const char *name, const struct RtcpBlock *got, const struct RtcpBlock *want) {
+    int same = got->number == want->number && got->first == want->first && got->second == want->second && got->ssrc == want->ssrc &&
+               got->fraction_lost == want->fraction_lost && got->cumulative_lost == want->cumulative_lost &&
+               got->extended_sequence_number == want->extended_sequence_number && got->interarrival_jitter == want->interarrival_jitter &&
+               got->last_sender_report_timestamp == want->last_sender_report_timestamp &&
+               got->delay_since_last_sender_report_timestamp == want->delay_since_last_sender_report_timestamp;
+    compare(file, name, same ? "same" : "else", "same", 4);
+}
+
+#define CHECK_BLOCK(call, ...)                                 \
+    do {                                                       \
+        struct RtcpBlock got = call;                           \
+        struct RtcpBlock want = {__VA_ARGS__};                 \
+        compare_block(__FILE__, #call, &got, &want);           \
+    } while (0)
+
 /* A line where nothing differs; the exit status. */
 static inline int finish(const char *file) {
     if (!failed) printf("%s: as docs/PROTOCOL.md says\n", file);

@@ -16,7 +16,7 @@ static struct RtcpWriter w;
     } while (0)
 
 static const uint8_t fractions[] = {5};
-static const uint32_t losses[] = {0x060708};
+static const int32_t losses[] = {0x060708};
 static const uint32_t words[] = {0x01020304, 0x090A0B0C, 0x0D0E0F10, 0x11121314, 0x15161718};
 
 /* One block, none, and lists that disagree. */
@@ -96,6 +96,46 @@ static void states(void) {
     left(0);
 }
 
+static const uint8_t two_fractions[] = {5, 7};
+static const uint32_t two_words[] = {1, 2, 3, 4, 5, 6, 7, 8, 9, 10};
+#define TWO(given) two_fractions, 2, given, 2, two_words, 10
+
+/* 17 with the low 32 bits of a loss, from both calls that add a report, the first packet and a later one; no byte changes. */
+static void loss_refused(uint64_t low, const int32_t *given) {
+    memset(buf, 0x5A, sizeof buf);
+    rtcp_writer_new(&w);
+    CALLS(17, low, 8388607, 0, 0, 0, 0, rtcp_writer_add_rr(&w, buf, sizeof buf, 1, TWO(given), 0));
+    CALLS(17, low, 8388607, 0, 0, 0, 0, rtcp_writer_add_sr(&w, buf, sizeof buf, 1, 2, 3, 4, 5, TWO(given), 0));
+    CALLS(17, low, 8388607, 0, 0, 0, 0, rtcp_writer_add_rr(&w, NULL, 0, 1, TWO(given), 0));
+    left(0);
+    CALLS(0, 0, 0, 52, 0, 0, 0, rtcp_writer_add_sr(&w, buf, sizeof buf, 1, 0x200000003, 4, 5, 6, BLOCK, 0));
+    CALLS(17, low, 8388607, 52, 0, 0, 0, rtcp_writer_add_rr(&w, buf, sizeof buf, 1, TWO(given), 0));
+    CALLS(11, 3, 0, 52, 0, 0, 0, rtcp_writer_add_rr(&w, buf, sizeof buf, 1, TWO(given), 3));
+    left(52);
+}
+
+/* Losses below zero and both limits, added and read back; those past the limits refused. */
+static void signed_losses(void) {
+    static const int32_t limits[] = {RTCP_MIN_LOST, RTCP_MAX_LOST}, over[] = {8388608, 0}, under[] = {-8388609, 0};
+    static const int32_t second_over[] = {-1, 8388608}, second_under[] = {-1, -8388609}, below[] = {-1};
+    loss_refused(8388608, over);
+    loss_refused(4286578687, under);
+    loss_refused(8388608, second_over);
+    loss_refused(4286578687, second_under);
+    rtcp_writer_new(&w);
+    CALLS(0, 0, 0, 56, 0, 0, 0, rtcp_writer_add_rr(&w, buf, sizeof buf, 1, TWO(limits), 0));
+    CALLS(0, 0, 0, 108, 0, 0, 0, rtcp_writer_add_sr(&w, buf, sizeof buf, 1, 2, 3, 4, 5, fractions, 1, below, 1, words, 5, 0));
+    CHECK_BLOCK(rtcp_rr_report_block(buf, 56, 0), 0, 0, 0, 1, 5, RTCP_MIN_LOST, 2, 3, 4, 5);
+    CHECK_BLOCK(rtcp_rr_report_block(buf, 56, 1), 0, 0, 0, 6, 7, RTCP_MAX_LOST, 7, 8, 9, 10);
+    CHECK_BLOCK(rtcp_sr_report_block(buf + 56, 52, 0), 0, 0, 0, 0x01020304, 5, -1, 0x090A0B0C, 0x0D0E0F10, 0x11121314, 0x15161718);
+    struct RtcpBlock block = rtcp_rr_report_block(buf, 56, 0);
+    rtcp_writer_new(&w);
+    CALLS(0, 0, 0, 32, 0, 0, 0, rtcp_writer_add_rr_blocks(&w, buf, sizeof buf, 1, &block, 1));
+    CHECK_BLOCK(rtcp_rr_report_block(buf, 32, 0), 0, 0, 0, 1, 5, RTCP_MIN_LOST, 2, 3, 4, 5);
+    block.cumulative_lost--;
+    CALLS(17, 4286578687, 8388607, 32, 0, 0, 0, rtcp_writer_add_rr_blocks(&w, buf, sizeof buf, 1, &block, 1));
+}
+
 /* The inline helpers. */
 static void helpers(void) {
     static const struct RtcpBlock blocks[] = {{0, 0, 0, 0x01020304, 5, 0x060708, 0x090A0B0C, 0x0D0E0F10, 0x11121314, 0x15161718}};
@@ -122,6 +162,7 @@ static void helpers(void) {
     compare(__FILE__, "the name of 25", rtcp_refusal_name(RTCP_NOTHING_LEFT), "RTCP_NOTHING_LEFT", 18);
     compare(__FILE__, "the name of 31", rtcp_refusal_name(31), "no such refusal", 16);
     compare(__FILE__, "the text of 25", rtcp_refusal_text(RTCP_NOTHING_LEFT), "nothing is left, or no such index", 33);
+    compare(__FILE__, "the text of 17", rtcp_refusal_text(RTCP_CUMULATIVE_LOST_TOO_LARGE), "a cumulative loss below -8,388,608 or above 8,388,607", 54);
 }
 
 static void reads(void) {
@@ -140,7 +181,7 @@ static void reads(void) {
     CHECK(RtcpWalk, rtcp_walk_open(s, n), 0, 0, 0, 0);
     CHECK(RtcpWalk, rtcp_walk_open(s, 52), 8, 0, 0, 0);
     CHECK(RtcpStep, rtcp_walk_step(s, n, 0), 0, 0, 0, 200, 200, 1, 0, 52, 52, 0, 1, 0x200000003, 4, 5, 6, 52, 0, 0, 0, 0, 52);
-    CHECK(RtcpBlock, rtcp_sr_report_block(s, 52, 0), 0, 0, 0, 0x01020304, 5, 0x060708, 0x090A0B0C, 0x0D0E0F10, 0x11121314, 0x15161718);
+    CHECK_BLOCK(rtcp_sr_report_block(s, 52, 0), 0, 0, 0, 0x01020304, 5, 0x060708, 0x090A0B0C, 0x0D0E0F10, 0x11121314, 0x15161718);
     CHECK(RtcpStep, rtcp_walk_step(s, n, 52), 0, 0, 0, 201, 201, 0, 52, 8, 8, 0, 0x11223344, 0, 0, 0, 0, 8, 0, 0, 0, 0, 60);
     CHECK(RtcpStep, rtcp_walk_step(s, n, 60), 0, 0, 0, 202, 202, 1, 60, 16, 16, 0, 0, 0, 0, 0, 0, 0, 1, 0, 0, 0, 76);
     CHECK(RtcpStep, rtcp_walk_step(s, n, 76), 0, 0, 0, 204, 204, 5, 76, 16, 16, 0, 1, 0, 0, 0, 0, 0, 0, 0, 0, 0, 92);
@@ -153,6 +194,7 @@ static void reads(void) {
 int main(void) {
     writes();
     states();
+    signed_losses();
     helpers();
     reads();
     return finish(__FILE__);

@@ -18,11 +18,11 @@ static void reports(void) {
     CHECK(RtcpRr, rtcp_rr_parse(rr, 4), 2, 8, 4, 0, 0, 0, 0, 0, 0);
     CHECK(RtcpRr, rtcp_rr_parse(NULL, 0), 2, 8, 0, 0, 0, 0, 0, 0, 0);
     CHECK(RtcpRr, rtcp_rr_parse(cname, sizeof cname), 6, 202, 201, 0, 0, 0, 0, 0, 0);
-    CHECK(RtcpBlock, rtcp_rr_report_block(rr, sizeof rr, 0), 25, 0, 0, 0, 0, 0, 0, 0, 0, 0);
+    CHECK_BLOCK(rtcp_rr_report_block(rr, sizeof rr, 0), 25, 0, 0, 0, 0, 0, 0, 0, 0, 0);
     CHECK(RtcpSr, rtcp_sr_parse(sr, sizeof sr), 0, 0, 0, 1, 0x200000003, 4, 5, 6, 0, 28, 0, 28, 0);
-    CHECK(RtcpBlock, rtcp_sr_report_block(sr, sizeof sr, 7), 25, 0, 0, 0, 0, 0, 0, 0, 0, 0);
-    CHECK(RtcpBlock, rtcp_block_parse(block, sizeof block), 0, 0, 0, 0x01020304, 5, 0x060708, 0x090A0B0C, 0x0D0E0F10, 0x11121314, 0x15161718);
-    CHECK(RtcpBlock, rtcp_block_parse(block, 23), 2, 24, 23, 0, 0, 0, 0, 0, 0, 0);
+    CHECK_BLOCK(rtcp_sr_report_block(sr, sizeof sr, 7), 25, 0, 0, 0, 0, 0, 0, 0, 0, 0);
+    CHECK_BLOCK(rtcp_block_parse(block, sizeof block), 0, 0, 0, 0x01020304, 5, 0x060708, 0x090A0B0C, 0x0D0E0F10, 0x11121314, 0x15161718);
+    CHECK_BLOCK(rtcp_block_parse(block, 23), 2, 24, 23, 0, 0, 0, 0, 0, 0, 0);
     CHECK(RtcpWritten, rtcp_rr_report_blocks(rr, sizeof rr, NULL, 0, NULL, 0, NULL, 0), 0, 0, 0, 0);
     CHECK(RtcpWritten, rtcp_rr_report_blocks(cname, sizeof cname, NULL, 0, NULL, 0, NULL, 0), 6, 202, 201, 0);
     CHECK(RtcpWritten, rtcp_sr_report_blocks(sr, sizeof sr, NULL, 0, NULL, 0, NULL, 0), 0, 0, 0, 0);
@@ -33,11 +33,12 @@ static void reports(void) {
 /* The blocks at once, into lists that are one number longer, just long enough, and one of them too short. */
 static void block_lists(void) {
     static const uint8_t wanted_fractions[] = {5, 7};
-    static const uint32_t wanted_losses[] = {0x060708, 7};
+    static const int32_t wanted_losses[] = {0x060708, 7};
     static const uint32_t wanted_words[] = {0x01020304, 0x090A0B0C, 0x0D0E0F10, 0x11121314, 0x15161718, 7};
     uint8_t one[32] = {0x81, 0xC9, 0x00, 0x07, 0, 0, 0, 1};
     uint8_t fractions[2] = {0, 7};
-    uint32_t losses[2] = {0, 7}, words[6] = {0, 0, 0, 0, 0, 7};
+    int32_t losses[2] = {0, 7};
+    uint32_t words[6] = {0, 0, 0, 0, 0, 7};
     memcpy(one + 8, block, sizeof block);
     CHECK(RtcpWritten, rtcp_rr_report_blocks(one, sizeof one, fractions, 0, losses, 2, words, 6), 10, 1, 0, 0);
     CHECK(RtcpWritten, rtcp_rr_report_blocks(one, sizeof one, fractions, 2, losses, 0, words, 6), 10, 1, 0, 0);
@@ -54,6 +55,48 @@ static void block_lists(void) {
     compare(__FILE__, "the fractions", fractions, wanted_fractions, sizeof fractions);
     compare(__FILE__, "the losses", losses, wanted_losses, sizeof losses);
     compare(__FILE__, "the words", words, wanted_words, sizeof words);
+}
+
+/* A call that fills the lists with two blocks, and the losses that it leaves in them. */
+#define FILLS(loss, other, call)                                                     \
+    do {                                                                             \
+        const int32_t wanted[] = {loss, other};                                      \
+        memset(losses, 0x5A, sizeof losses);                                         \
+        if ((call).number != 0) compare(__FILE__, #call, "", "x", 1);                \
+        compare(__FILE__, "the losses of " #call, losses, wanted, sizeof losses);    \
+    } while (0)
+#define LISTS fractions, 2, losses, 2, words, 10
+
+/* 24 bits of a block, and the loss that each call reads them as, in the second of two blocks; the first one's is -2. */
+static void loss_is(uint8_t high, uint8_t middle, uint8_t low, int32_t loss) {
+    uint8_t rr2[56] = {0x82, 0xC9, 0x00, 0x0D, 0, 0, 0, 1}, sr2[76] = {0x82, 0xC8, 0x00, 0x12, 0, 0, 0, 1};
+    const uint8_t two_less[] = {0xFF, 0xFF, 0xFE}, bits[] = {high, middle, low};
+    uint8_t fractions[2];
+    int32_t losses[2];
+    uint32_t words[10];
+    memcpy(rr2 + 8, block, 24);
+    memcpy(rr2 + 13, two_less, 3);
+    memcpy(rr2 + 32, block, 24);
+    memcpy(rr2 + 37, bits, 3);
+    memcpy(sr2 + 28, rr2 + 8, 48);
+    CHECK_BLOCK(rtcp_block_parse(rr2 + 32, 24), 0, 0, 0, 0x01020304, 5, loss, 0x090A0B0C, 0x0D0E0F10, 0x11121314, 0x15161718);
+    CHECK_BLOCK(rtcp_rr_report_block(rr2, sizeof rr2, 0), 0, 0, 0, 0x01020304, 5, -2, 0x090A0B0C, 0x0D0E0F10, 0x11121314, 0x15161718);
+    CHECK_BLOCK(rtcp_rr_report_block(rr2, sizeof rr2, 1), 0, 0, 0, 0x01020304, 5, loss, 0x090A0B0C, 0x0D0E0F10, 0x11121314, 0x15161718);
+    CHECK_BLOCK(rtcp_sr_report_block(sr2, sizeof sr2, 1), 0, 0, 0, 0x01020304, 5, loss, 0x090A0B0C, 0x0D0E0F10, 0x11121314, 0x15161718);
+    FILLS(-2, loss, rtcp_rr_report_blocks(rr2, sizeof rr2, LISTS));
+    FILLS(-2, loss, rtcp_sr_report_blocks(sr2, sizeof sr2, LISTS));
+    FILLS(-2, loss, rtcp_rr_read(rr2, sizeof rr2, LISTS));
+    FILLS(-2, loss, rtcp_sr_read(sr2, sizeof sr2, LISTS));
+}
+
+static void losses_of_24_bits(void) {
+    loss_is(0x00, 0x00, 0x00, 0);
+    loss_is(0x00, 0x00, 0x01, 1);
+    loss_is(0x7F, 0xFF, 0xFF, RTCP_MAX_LOST);
+    loss_is(0x80, 0x00, 0x00, RTCP_MIN_LOST);
+    loss_is(0x80, 0x00, 0x01, -8388607);
+    loss_is(0xFF, 0x00, 0x00, -65536);
+    loss_is(0xFF, 0xFF, 0xFF, -1);
 }
 
 static void descriptions(void) {
@@ -107,6 +150,7 @@ static void others(void) {
 int main(void) {
     reports();
     block_lists();
+    losses_of_24_bits();
     descriptions();
     item_lists();
     others();

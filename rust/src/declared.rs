@@ -3,7 +3,7 @@
 
 results! {
     RtcpBlock {
-        ssrc: u64, fraction_lost: u64, cumulative_lost: u64, extended_sequence_number: u64,
+        ssrc: u64, fraction_lost: u64, cumulative_lost: i32, extended_sequence_number: u64,
         interarrival_jitter: u64, last_sender_report_timestamp: u64,
         delay_since_last_sender_report_timestamp: u64
     }
@@ -65,16 +65,16 @@ functions! {
     "rtcp_rr_report_block" rtcp_rr_report_block(s: &[u8], i: u64) -> RtcpBlock;
     "rtcp_sr_report_block" rtcp_sr_report_block(s: &[u8], i: u64) -> RtcpBlock;
     "rtcp_rr_report_blocks" rtcp_rr_report_blocks(
-        s: &[u8], fractions: &mut [u8], losses: &mut [u32], words: &mut [u32]
+        s: &[u8], fractions: &mut [u8], losses: &mut [i32], words: &mut [u32]
     ) -> RtcpWritten;
     "rtcp_sr_report_blocks" rtcp_sr_report_blocks(
-        s: &[u8], fractions: &mut [u8], losses: &mut [u32], words: &mut [u32]
+        s: &[u8], fractions: &mut [u8], losses: &mut [i32], words: &mut [u32]
     ) -> RtcpWritten;
     "rtcp_rr_read" rtcp_rr_read(
-        s: &[u8], fractions: &mut [u8], losses: &mut [u32], words: &mut [u32]
+        s: &[u8], fractions: &mut [u8], losses: &mut [i32], words: &mut [u32]
     ) -> RtcpRr;
     "rtcp_sr_read" rtcp_sr_read(
-        s: &[u8], fractions: &mut [u8], losses: &mut [u32], words: &mut [u32]
+        s: &[u8], fractions: &mut [u8], losses: &mut [i32], words: &mut [u32]
     ) -> RtcpSr;
     "rtcp_app_parse" rtcp_app_parse(s: &[u8]) -> RtcpApp;
     "rtcp_bye_parse" rtcp_bye_parse(s: &[u8]) -> RtcpBye;
@@ -94,11 +94,11 @@ functions! {
     "rtcp_walk_step" rtcp_walk_step(s: &[u8], at: u64) -> RtcpStep;
 
     "rtcp_rr_write" rtcp_rr_write(
-        buf: &mut [u8], ssrc: u32, fractions: &[u8], losses: &[u32], words: &[u32], padding: u64
+        buf: &mut [u8], ssrc: u32, fractions: &[u8], losses: &[i32], words: &[u32], padding: u64
     ) -> RtcpWritten;
     "rtcp_sr_write" rtcp_sr_write(
         buf: &mut [u8], ssrc: u32, ntp_timestamp: u64, rtp_timestamp: u32, packet_count: u32,
-        octet_count: u32, fractions: &[u8], losses: &[u32], words: &[u32], padding: u64
+        octet_count: u32, fractions: &[u8], losses: &[i32], words: &[u32], padding: u64
     ) -> RtcpWritten;
     "rtcp_bye_write" rtcp_bye_write(
         buf: &mut [u8], sources: &[u32], reason: &[u8], padding: u64
@@ -117,10 +117,10 @@ functions! {
         buf: &mut [u8], type_: u8, prefix: &[u8], value: &[u8]
     ) -> RtcpWritten;
     "rtcp_rr_size" rtcp_rr_size(
-        fractions: &[u8], losses: &[u32], words: &[u32], padding: u64
+        fractions: &[u8], losses: &[i32], words: &[u32], padding: u64
     ) -> RtcpWritten;
     "rtcp_sr_size" rtcp_sr_size(
-        fractions: &[u8], losses: &[u32], words: &[u32], padding: u64
+        fractions: &[u8], losses: &[i32], words: &[u32], padding: u64
     ) -> RtcpWritten;
     "rtcp_bye_size" rtcp_bye_size(
         sources: &[u32], reason: &[u8], padding: u64
@@ -139,11 +139,11 @@ functions! {
 
     "rtcp_writer_new" rtcp_writer_new(writer: &mut RtcpWriter) -> ();
     "rtcp_writer_add_rr" rtcp_writer_add_rr(
-        writer: &mut RtcpWriter, buf: &mut [u8], ssrc: u32, fractions: &[u8], losses: &[u32], words: &[u32], padding: u64
+        writer: &mut RtcpWriter, buf: &mut [u8], ssrc: u32, fractions: &[u8], losses: &[i32], words: &[u32], padding: u64
     ) -> RtcpCall;
     "rtcp_writer_add_sr" rtcp_writer_add_sr(
         writer: &mut RtcpWriter, buf: &mut [u8], ssrc: u32, ntp_timestamp: u64, rtp_timestamp: u32,
-        packet_count: u32, octet_count: u32, fractions: &[u8], losses: &[u32], words: &[u32], padding: u64
+        packet_count: u32, octet_count: u32, fractions: &[u8], losses: &[i32], words: &[u32], padding: u64
     ) -> RtcpCall;
     "rtcp_writer_add_sdes" rtcp_writer_add_sdes(
         writer: &mut RtcpWriter, buf: &mut [u8], ssrcs: &[u32], counts: &[u64], types: &[u8],

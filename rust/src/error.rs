@@ -205,9 +205,9 @@ error! {
             /// The most.
             max: u8,
         },
-        /// 17: the cumulative loss does not fit 24 bits.
+        /// 17: the cumulative loss is below -8,388,608 or above 8,388,607.
         17 CumulativeLostTooLarge {
-            /// The loss.
+            /// The low 32 bits of the loss, so `value as i32` is the loss.
             value: u32,
             /// The most.
             max: u32,
@@ -305,7 +305,10 @@ const SENTENCES: [(&str, &[&str]); 30] = [
         "a BYE reason that one byte cannot measure",
         &["length", "most"],
     ),
-    ("a loss that 24 bits cannot say", &["loss", "most"]),
+    (
+        "a loss that 24 signed bits cannot say",
+        &["low 32 bits of the loss", "most"],
+    ),
     ("more blocks than 5 bits can say", &["count", "most"]),
     ("more chunks than 5 bits can say", &["count", "most"]),
     (

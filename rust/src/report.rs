@@ -132,7 +132,7 @@ build_report!(ReceiverReportBuilder);
 /// let sr = SenderReport::parse(&buf[..len])?;
 /// assert_eq!((sr.ssrc(), sr.ntp_timestamp()), (7, 0x0102030405060708));
 /// assert_eq!((sr.rtp_timestamp(), sr.packet_count(), sr.octet_count()), (9, 10, 11));
-/// assert_eq!(sr.report_blocks().map(|block| block.cumulative_lost()).sum::<u32>(), 14);
+/// assert_eq!(sr.report_blocks().map(|block| block.cumulative_lost()).sum::<i32>(), 14);
 /// # Ok::<(), Box<dyn std::error::Error>>(())
 /// ```
 #[derive(Clone, Copy, Debug, PartialEq, Eq)]
@@ -237,18 +237,22 @@ impl<'a> ReceiverReport<'a> {
 /// ```
 /// use bokyjave::{ReportBlock, RtcpParseError};
 ///
-/// let bytes: Vec<u8> = (1..=24).collect();
+/// let mut bytes: Vec<u8> = (1..=24).collect();
 /// let block = ReportBlock::parse(&bytes)?;
 /// assert_eq!(block.ssrc(), 0x01020304);
 /// assert_eq!((block.fraction_lost(), block.cumulative_lost()), (5, 0x060708));
 /// assert_eq!(ReportBlock::parse(&bytes[1..]), Err(RtcpParseError::Truncated { expected: 24, actual: 23 }));
+///
+/// // More duplicates came than packets were lost.
+/// bytes[5..8].copy_from_slice(&[0xFF, 0xFF, 0xFF]);
+/// assert_eq!(ReportBlock::parse(&bytes)?.cumulative_lost(), -1);
 /// # Ok::<(), RtcpParseError>(())
 /// ```
 #[derive(Clone, Copy, Debug, PartialEq, Eq)]
 pub struct ReportBlock {
     ssrc: u32,
     fraction_lost: u8,
-    cumulative_lost: u32,
+    cumulative_lost: i32,
     extended_sequence_number: u32,
     interarrival_jitter: u32,
     last_sender_report_timestamp: u32,
@@ -264,7 +268,7 @@ impl ReportBlock {
         ReportBlock {
             ssrc: block.ssrc as u32,
             fraction_lost: block.fraction_lost as u8,
-            cumulative_lost: block.cumulative_lost as u32,
+            cumulative_lost: block.cumulative_lost,
             extended_sequence_number: block.extended_sequence_number as u32,
             interarrival_jitter: block.interarrival_jitter as u32,
             last_sender_report_timestamp: block.last_sender_report_timestamp as u32,
@@ -289,8 +293,10 @@ impl ReportBlock {
         self.fraction_lost
     }
 
-    /// The packets lost since the beginning, 24 bits.
-    pub fn cumulative_lost(&self) -> u32 {
+    /// The packets lost since the beginning, from -8,388,608 to 8,388,607: those
+    /// expected less those received. Duplicates count as received, so it can be
+    /// below zero (RFC 3550 6.4.1).
+    pub fn cumulative_lost(&self) -> i32 {
         self.cumulative_lost
     }
 
@@ -355,7 +361,7 @@ impl FusedIterator for ReportBlocks<'_> {}
 #[must_use = "a builder does nothing until it is added to a report"]
 pub struct ReportBlockBuilder {
     fraction_lost: u8,
-    cumulative_lost: u32,
+    cumulative_lost: i32,
     /// The other fields in the order of the block.
     words: [u32; 5],
 }
@@ -367,8 +373,9 @@ impl ReportBlockBuilder {
         self
     }
 
-    /// The packets lost since the beginning, 24 bits.
-    pub fn cumulative_lost(mut self, cumulative_lost: u32) -> Self {
+    /// The packets lost since the beginning, from -8,388,608 to 8,388,607; a
+    /// report with another number is not written (17).
+    pub fn cumulative_lost(mut self, cumulative_lost: i32) -> Self {
         self.cumulative_lost = cumulative_lost;
         self
     }
@@ -406,7 +413,7 @@ impl ReportBlockBuilder {
 #[derive(Clone, Debug, Default)]
 struct BlockLists {
     fractions: Vec<u8>,
-    losses: Vec<u32>,
+    losses: Vec<i32>,
     words: Vec<u32>,
 }
 
@@ -485,9 +492,17 @@ packet_writer! {
 /// use bokyjave::{prelude::*, ReceiverReport, ReportBlock, RtcpWriteError};
 ///
 /// let lost = |lost| ReceiverReport::builder(7).add_report_block(ReportBlock::builder(8).cumulative_lost(lost));
-/// assert_eq!(lost(0xFFFFFF).calculate_size(), Ok(32));
-/// let refused = RtcpWriteError::CumulativeLostTooLarge { value: 0x1000000, max: 0xFFFFFF };
-/// assert_eq!(lost(0x1000000).calculate_size(), Err(refused));
+/// let mut buf = [0; 32];
+/// for written in [-8_388_608, -1, 0, 8_388_607] {
+///     assert_eq!(lost(written).write_into(&mut buf), Ok(32));
+///     let rr = ReceiverReport::parse(&buf)?;
+///     assert_eq!(rr.report_block(0)?.cumulative_lost(), written);
+/// }
+/// for refused in [-8_388_609, 8_388_608] {
+///     let error = RtcpWriteError::CumulativeLostTooLarge { value: refused as u32, max: 8_388_607 };
+///     assert_eq!(lost(refused).write_into(&mut buf), Err(error));
+/// }
+/// # Ok::<(), Box<dyn std::error::Error>>(())
 /// ```
 #[derive(Clone, Debug)]
 #[must_use = "a builder does nothing until it is written"]

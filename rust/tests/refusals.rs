@@ -148,7 +148,12 @@ const CALLS: &[Call] = &calls! {
     { Bye::builder().add_source(7).reason("x".repeat(256)).write_into(&mut [0; 1500]) }
     {
         ReceiverReport::builder(7)
-            .add_report_block(ReportBlock::builder(8).cumulative_lost(16_777_216))
+            .add_report_block(ReportBlock::builder(8).cumulative_lost(8_388_608))
+            .write_into(&mut [0; 64])
+    }
+    {
+        ReceiverReport::builder(7)
+            .add_report_block(ReportBlock::builder(8).cumulative_lost(-8_388_609))
             .write_into(&mut [0; 64])
     }
     {

@@ -77,11 +77,21 @@ impl Item {
     }
 }
 
+/// The seven numbers of a block, in its order; of the loss its 32 bits.
 fn any_block(rng: &mut Rng) -> [u32; 7] {
     let mut block = [0; 7].map(|_: u32| rng.word());
     block[1] %= 256;
-    block[2] %= 1 << 24;
+    block[2] = any_loss(rng) as u32;
     block
+}
+
+fn any_loss(rng: &mut Rng) -> i32 {
+    match rng.below(8) {
+        0 => -8_388_608,
+        1 => 8_388_607,
+        2 => -1,
+        _ => rng.word() as i32 >> 8,
+    }
 }
 
 impl Given {
@@ -222,7 +232,7 @@ impl Given {
 fn block_builder(block: &[u32; 7]) -> ReportBlockBuilder {
     ReportBlock::builder(block[0])
         .fraction_lost(block[1] as u8)
-        .cumulative_lost(block[2])
+        .cumulative_lost(block[2] as i32)
         .extended_sequence_number(block[3])
         .interarrival_jitter(block[4])
         .last_sender_report_timestamp(block[5])
@@ -233,7 +243,7 @@ fn numbers(block: ReportBlock) -> [u32; 7] {
     [
         block.ssrc(),
         block.fraction_lost().into(),
-        block.cumulative_lost(),
+        block.cumulative_lost() as u32,
         block.extended_sequence_number(),
         block.interarrival_jitter(),
         block.last_sender_report_timestamp(),

@@ -3,8 +3,9 @@
 
 use bokyjave::prelude::*;
 use bokyjave::{
-    App, Bye, Compound, CompoundWriter, Packet, PacketBuilder, ReceiverReport, ReportBlock,
-    RtcpParseError, RtcpWriteError, Sdes, SdesChunk, SdesItem, SenderReport, Unknown,
+    App, Bye, Compound, CompoundWriter, Packet, PacketBuilder, ReceiverReport,
+    ReceiverReportBuilder, ReportBlock, ReportBlockBuilder, RtcpParseError, RtcpWriteError, Sdes,
+    SdesChunk, SdesItem, SenderReport, SenderReportBuilder, Unknown,
 };
 
 const RR: &str = "80 C9 00 01 11 22 33 44";
@@ -147,22 +148,19 @@ fn row_9_a_padded_bye() {
 #[test]
 fn row_10_limits() {
     let blocks = |n| {
-        let add = |rr: bokyjave::ReceiverReportBuilder, i| {
-            rr.add_report_block(ReportBlock::builder(i).cumulative_lost(0xFFFFFF))
+        let add = |rr: ReceiverReportBuilder, i| {
+            rr.add_report_block(ReportBlock::builder(i).cumulative_lost(8_388_607))
         };
         (0..n).fold(ReceiverReport::builder(7), add)
     };
     let data = written(&blocks(31));
     let rr = ReceiverReport::parse(&data).expect("31 blocks");
-    let read: Vec<(u32, u32)> = rr
+    let read: Vec<(u32, i32)> = rr
         .report_blocks()
         .map(|block| (block.ssrc(), block.cumulative_lost()))
         .collect();
-    assert_eq!(read, (0..31).map(|i| (i, 0xFFFFFF)).collect::<Vec<_>>());
+    assert_eq!(read, (0..31).map(|i| (i, 8_388_607)).collect::<Vec<_>>());
     assert_eq!(unwritten(&blocks(32)), (18, 32, 31));
-    let lost = ReportBlock::builder(1).cumulative_lost(0x1000000);
-    let sr = SenderReport::builder(7).add_report_block(lost);
-    assert_eq!(unwritten(&sr), (17, 0x1000000, 0xFFFFFF));
     let reason = "x".repeat(256);
     let data = written(&Bye::builder().reason(&reason[1..]));
     let bye = Bye::parse(&data).expect("a long reason");
@@ -186,6 +184,90 @@ fn row_10_limits() {
     let app = App::parse(&data).expect("a large APP packet");
     assert_eq!((app.length(), app.data().len()), (262_144, 262_132));
     assert_eq!(unwritten(&App::builder(1, "name").data(&big)), (22, 0, 0));
+}
+
+/// A block with this loss.
+fn losing(lost: &i32) -> ReportBlockBuilder {
+    ReportBlock::builder(8).cumulative_lost(*lost)
+}
+
+fn rr_losing(losses: &[i32]) -> ReceiverReportBuilder {
+    let add = ReceiverReportBuilder::add_report_block;
+    losses
+        .iter()
+        .map(losing)
+        .fold(ReceiverReport::builder(7), add)
+}
+
+fn sr_losing(losses: &[i32]) -> SenderReportBuilder {
+    let add = SenderReportBuilder::add_report_block;
+    losses
+        .iter()
+        .map(losing)
+        .fold(SenderReport::builder(7), add)
+}
+
+/// The 24 bits of a loss in a block, in both reports, and read back.
+#[test]
+fn row_10_losses_and_their_24_bits() {
+    for (lost, bits) in [
+        (0, [0, 0, 0]),
+        (1, [0, 0, 1]),
+        (8_388_607, [0x7F, 0xFF, 0xFF]),
+        (-8_388_608, [0x80, 0, 0]),
+        (-8_388_607, [0x80, 0, 1]),
+        (-65_536, [0xFF, 0, 0]),
+        (-1, [0xFF, 0xFF, 0xFF]),
+    ] {
+        let data = written(&rr_losing(&[-2, lost]));
+        assert_eq!(data[37..40], bits, "{lost}");
+        let rr = ReceiverReport::parse(&data).expect("an RR");
+        let read = rr.report_blocks().map(|block| block.cumulative_lost());
+        assert_eq!(read.collect::<Vec<_>>(), [-2, lost]);
+        let read = rr.report_block(1).map(|block| block.cumulative_lost());
+        assert_eq!(read, Ok(lost));
+        let block = ReportBlock::parse(&data[32..]).map(|block| block.cumulative_lost());
+        assert_eq!(block, Ok(lost));
+
+        let data = written(&sr_losing(&[lost, -2]));
+        assert_eq!(data[33..36], bits, "{lost}");
+        let sr = SenderReport::parse(&data).expect("an SR");
+        let read = sr.report_blocks().map(|block| block.cumulative_lost());
+        assert_eq!(read.collect::<Vec<_>>(), [lost, -2]);
+    }
+}
+
+/// Losses past the limits: 17 with their low 32 bits, of the first block that has
+/// one, after the padding's and the count's own refusals.
+#[test]
+fn row_10_losses_that_are_refused() {
+    for (losses, low) in [
+        (&[8_388_608][..], 8_388_608),
+        (&[-8_388_609], 4_286_578_687),
+        (&[16_777_215], 16_777_215),
+        (&[i32::MAX], 2_147_483_647),
+        (&[i32::MIN], 2_147_483_648),
+        (&[-8_388_608, 8_388_608], 8_388_608),
+        (&[8_388_607, -8_388_609], 4_286_578_687),
+        (&[8_388_609, -8_388_609], 8_388_609),
+        (&[-8_388_610, 8_388_608], 4_286_578_686),
+    ] {
+        let refused = (17, low, 8_388_607);
+        let (rr, sr) = (rr_losing(losses), sr_losing(losses));
+        assert_eq!(unwritten(&rr), refused, "{losses:?}");
+        assert_eq!(unwritten(&sr), refused, "{losses:?}");
+        let mut buf = [0x5A; 128];
+        for packet in [&rr as &dyn RtcpPacketWriter, &sr] {
+            let error = packet.write_into(&mut []).expect_err("no room");
+            assert_eq!(code(error), refused);
+            let mut writer = CompoundWriter::new();
+            let error = writer.add(&mut buf, packet).expect_err("a refusal");
+            assert_eq!((code(error), writer.len(), buf), (refused, 0, [0x5A; 128]));
+        }
+        assert_eq!(unwritten(&rr.padding(3)), (11, 3, 0));
+        assert_eq!(unwritten(&sr.padding(3)), (11, 3, 0));
+    }
+    assert_eq!(unwritten(&rr_losing(&[8_388_608; 32])), (18, 32, 31));
 }
 
 #[test]

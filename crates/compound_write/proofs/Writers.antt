@@ -2,6 +2,7 @@
 use Rattle.rfc3550.proofs.Prelude.{needs, ℕ, _+_, _-_, _^_, _<_, _≤_, _≡_, refl, sym, ap, _∙_, Bool, true, false, _&&_, _||_, not, List, [], _++_, arith, le-leb, lt-leb, leb-true, leb-false, lt-ltb, le-ltb, ltb-true, eq-eqb, ne-eqb, not-true, not-false, length, take, drop, length-take, length-drop, leb, ltb, eqb}
 use Rattle.rfc3550.specs.Answer.{Refusal, refusal, Answer, ok, refused, need, _>>_, capped, pick}
 use Rattle.rfc3550.specs.Bytes.{store}
+use Rattle.rfc3550.specs.Loss.{Loss}
 use Rattle.rfc3550.specs.Packet.{Reporter, type, layout, isReport}
 use Rattle.rfc3550.specs.Write.{BlockLists, Given, giveReport, giveSdes, giveBye, giveApp, packetGiven, contentGiven, paddingGiven, sizeGiven, listsAgree, tests, ownTests, calculateSize}
 use Rattle.rfc3550.specs.Writer.{Writer, add, close, givesCname, addTests, closeTests, afterClose, call}
@@ -256,7 +257,7 @@ sdes-again ss cs ts ps vs bs k = rw (lent-again ss, lent-again cs, lent-again ts
 pub report-reason : (q r : Reporter) (l : BlockLists) (k : ℕ) (x : Refusal) → x ≡ sizeRefusal (calculateSize (giveReport q l k)) → x ≡ sizeRefusal (calculateSize (giveReport r l k))
 report-reason q r l k x h = h ∙ why-same l k q r
 
-pub report-again : (r : Reporter) (fs ls ws : List ℕ) (k : ℕ)
+pub report-again : (r : Reporter) (fs : List ℕ) (ls : List Loss) (ws : List ℕ) (k : ℕ)
     → giveReport r (blockLists (take (length fs - 0) (drop 0 fs)) (take (length ls - 0) (drop 0 ls)) (take (length ws - 0) (drop 0 ws))) k ≡ giveReport r (blockLists fs ls ws) k
 report-again r fs ls ws k = rw (lent-again fs, lent-again ls, lent-again ws)
 

@@ -161,7 +161,7 @@ impl Writer {
         buf: &mut [u8],
         ssrc: u32,
         fractions: &[u8],
-        losses: &[u32],
+        losses: &[i32],
         words: &[u32],
         padding: u64,
     ) -> Call
@@ -190,7 +190,7 @@ impl Writer {
         buf: &mut [u8],
         info: SenderInfo,
         fractions: &[u8],
-        losses: &[u32],
+        losses: &[i32],
         words: &[u32],
         padding: u64,
     ) -> Call

@@ -1,7 +1,11 @@
 -- The cases of a report added from lent records, over whoever reports: what stands around its blocks, where they go, and the whole call.
 use Rattle.rfc3550.proofs.Prelude.{ℕ, _+_, _-_, _*_, _^_, _<_, _≤_, _≡_, refl, sym, ap, _∙_, Bool, true, false, _&&_, _||_, not, le-leb, leb-true, leb-false, lt-ltb, le-ltb, ne-eqb, leb, ltb, List, [], _++_, append-nil, add-zero, arith, length, take, drop, length-append, length-drop, take-append-drop, drop-of-length-le, length-take-le, take-all, take-length}
+use lib.Signed.{mag}
+use mir.Syntax.{w32}
+use mir.Val.{toZ, ofZ}
 use Rattle.rfc3550.specs.Answer.{Refusal, refusal, Answer, ok, refused, need, _>>_, _>>=_, mapOk, capped, pick}
 use Rattle.rfc3550.specs.Bytes.{store}
+use Rattle.rfc3550.specs.Loss.{Loss, noLoss}
 use Rattle.rfc3550.specs.Packet.{receiver, sender, type, isReport, blocksBytes, layout}
 use Rattle.rfc3550.specs.Packet.{Reporter as Reporting}
 use Rattle.rfc3550.specs.Write.{BlockLists, listsOf, Given, giveReport, packetGiven, contentGiven, sizeGiven, tests, calculateSize}
@@ -20,6 +24,7 @@ use Rattle.records.specs.declared.Reporter.{Reporter}
 use Rattle.records.specs.Records.{reporterOf, leastOf, recordsOf, testedOf, frameLaid, laidCount}
 use Rattle.records.proofs.Laid.{store-behind}
 use Rattle.records.proofs.Reports.{lent-size, least-some, counted-fits, frame-fits, blocks-fit, report-whole}
+use Rattle.report.proofs.Losses.{bits-back}
 use Rattle.report_write.specs.Report.{countedSize}
 use Rattle.report_write.proofs.Reports.{reason-same}
 use Rattle.compound_write.specs.Writer.{admits, whyNot, advanced}
@@ -130,17 +135,17 @@ module _ (p : Reporter) (len count k : ℕ) (l : List ℕ) where
       rw (e, z, a, b, append-nil)
 
 -- a report that has a size has some bytes, and why it has none
-pub counted-some : (p : Reporter) (count loss k : ℕ) → countedSize (leastOf p) count loss k ≡ ok 0 → ⊥
+pub counted-some : (p : Reporter) (count : ℕ) (loss : Loss) (k : ℕ) → countedSize (leastOf p) count loss k ≡ ok 0 → ⊥
 counted-some p count loss k e =
     let f = counted-fits p count loss k 0 0 e (omega arith) .size in
     let g = least-some p in
     omega arith
 
-pub counted-number : (p : Reporter) (m count loss k n : ℕ) → m ≡ leastOf p → n ≡ orZero (countedSize m count loss k) → n ≡ orZero (countedSize (leastOf p) count loss k)
-counted-number p m count loss k n e f = f ∙ ap (λ (x : ℕ). orZero (countedSize x count loss k)) e
+pub counted-number : (p : Reporter) (m count : ℕ) (loss : Loss) (k n : ℕ) → m ≡ leastOf p → mag loss < 2147483648 → n ≡ orZero (countedSize m count (toZ w32 (ofZ w32 loss)) k) → n ≡ orZero (countedSize (leastOf p) count loss k)
+counted-number p m count loss k n e g f = (rw (bits-back loss g) at f) ∙ ap (λ (x : ℕ). orZero (countedSize x count loss k)) e
 
-pub counted-own : (p : Reporter) (count loss k : ℕ) (x : Refusal) → x ≡ sizeRefusal (countedSize 0 count loss k) → x ≡ sizeRefusal (countedSize (leastOf p) count loss k)
-counted-own p count loss k x h = h ∙ reason-same (leastOf p) count loss k
+pub counted-own : (p : Reporter) (count : ℕ) (loss : Loss) (k : ℕ) (x : Refusal) → mag loss < 2147483648 → x ≡ sizeRefusal (countedSize 0 count (toZ w32 (ofZ w32 loss)) k) → x ≡ sizeRefusal (countedSize (leastOf p) count loss k)
+counted-own p count loss k x g h = (rw (bits-back loss g) at h) ∙ reason-same (leastOf p) count loss k
 
 -- ---- where its blocks start, and where it ends
 
@@ -180,7 +185,7 @@ unfolding calculateSize
 size-is g n e = ok-injective (then-inv _ _ e .1)
 
 module _ (p : Reporter) (bs : List ReportBlock) (k : ℕ) (w : rfc.Writer) (l : List ℕ) where
-  module _ (n : ℕ) (c : countedSize (leastOf p) (length bs) (testedOf 0 bs) k ≡ ok n) (h : w .len + n ≤ length l) where
+  module _ (n : ℕ) (c : countedSize (leastOf p) (length bs) (testedOf noLoss bs) k ≡ ok n) (h : w .len + n ≤ length l) where
     room-left : n ≤ length (drop (w .len) l)
     room-left = rw (length-drop (w .len) l) (omega arith)
 
@@ -188,7 +193,7 @@ module _ (p : Reporter) (bs : List ReportBlock) (k : ℕ) (w : rfc.Writer) (l : 
     before-long = length-take-le (w .len) l (omega arith)
 
     start-in : w .len + leastOf p ≤ w .len + n
-    start-in = let f = counted-fits p (length bs) (testedOf 0 bs) k n (length (drop (w .len) l)) c room-left .size in omega arith
+    start-in = let f = counted-fits p (length bs) (testedOf noLoss bs) k n (length (drop (w .len) l)) c room-left .size in omega arith
 
     blocks-in : length bs * 24 ≤ length (take (w .len) l ++ frameLaid p (length bs) k n (drop (w .len) l)) - (w .len + leastOf p)
     blocks-in =
@@ -204,11 +209,11 @@ module _ (p : Reporter) (bs : List ReportBlock) (k : ℕ) (w : rfc.Writer) (l : 
         ∙ sym (store-behind (w .len) 0 (take (w .len) l) (layout (packetGiven (giveReport (reporterOf p) (listsOf (recordsOf bs)) k))) (drop (w .len) l) before-long)
         ∙ rw (add-zero, take-append-drop)
 
-  given-tests : (a : Answer ℕ) → a ≡ admitted w true (countedSize (leastOf p) (length bs) (testedOf 0 bs) k) (length l) → addTests w (giveReport (reporterOf p) (listsOf (recordsOf bs)) k) (length l) ≡ mapOk unit a
+  given-tests : (a : Answer ℕ) → a ≡ admitted w true (countedSize (leastOf p) (length bs) (testedOf noLoss bs) k) (length l) → addTests w (giveReport (reporterOf p) (listsOf (recordsOf bs)) k) (length l) ≡ mapOk unit a
   given-tests a e = add-tests w (giveReport (reporterOf p) (listsOf (recordsOf bs)) k) (length l) ∙ rw (is-report (reporterOf p) (listsOf (recordsOf bs)) k, ← lent-size p bs k, e)
 
   -- what the tests leave known of where the blocks go
-  lent-fits : (a : Answer ℕ) → a ≡ admitted w true (countedSize (leastOf p) (length bs) (testedOf 0 bs) k) (length l)
+  lent-fits : (a : Answer ℕ) → a ≡ admitted w true (countedSize (leastOf p) (length bs) (testedOf noLoss bs) k) (length l)
       → ((laidCount a (length bs) ≤ length bs) × (laidCount a (length bs) * 24 ≤ length (addFramed (w .len) p (length bs) k a l) - blocksAt (w .len) p a)) × ((blocksAt (w .len) p a ≤ length l) × (addedEnd (w .len) a ≤ length l))
   unfolding laidCount addFramed blocksAt addedEnd
   lent-fits (refused x) e = ((omega arith, omega arith), (omega arith, omega arith))
@@ -218,7 +223,7 @@ module _ (p : Reporter) (bs : List ReportBlock) (k : ℕ) (w : rfc.Writer) (l : 
       let m = r .1 in
       ((omega arith, blocks-in n (r .0) (r .1)), (omega arith, m))
 
-  lent-added : (a : Answer ℕ) → a ≡ admitted w true (countedSize (leastOf p) (length bs) (testedOf 0 bs) k) (length l)
+  lent-added : (a : Answer ℕ) → a ≡ admitted w true (countedSize (leastOf p) (length bs) (testedOf noLoss bs) k) (length l)
       → (concluded w a k .0, concluded w a k .1, store (blocksAt (w .len) p a) (blocksBytes (recordsOf (take (laidCount a (length bs)) bs))) (addFramed (w .len) p (length bs) k a l)) ≡ call (add (giveReport (reporterOf p) (listsOf (recordsOf bs)) k)) w l
   unfolding laidCount addFramed blocksAt concluded call mapOk blocksBytes
   lent-added (refused x) e = rw (given-tests (refused x) e, store-nil 0 l)
@@ -227,9 +232,9 @@ module _ (p : Reporter) (bs : List ReportBlock) (k : ℕ) (w : rfc.Writer) (l : 
       rw (given-tests (ok n) e, take-length bs, packet-in n (r .0) (r .1), size-is (giveReport (reporterOf p) (listsOf (recordsOf bs)) k) n (sym (lent-size p bs k) ∙ r .0))
 
   -- the same of what the calls have answered: the loss, the tests, how many blocks are laid, and where
-  module _ (a : Answer ℕ) (loss : ℕ) (l₁ : List ℕ) (d : loss ≡ testedOf 0 bs) (e : a ≡ admitted w true (countedSize (leastOf p) (length bs) loss k) (length l)) (f : l₁ ≡ addFramed (w .len) p (length bs) k a l) where
-    told : a ≡ admitted w true (countedSize (leastOf p) (length bs) (testedOf 0 bs) k) (length l)
-    told = e ∙ ap (λ (x : ℕ). admitted w true (countedSize (leastOf p) (length bs) x k) (length l)) d
+  module _ (a : Answer ℕ) (loss : Loss) (l₁ : List ℕ) (d : loss ≡ testedOf noLoss bs) (e : a ≡ admitted w true (countedSize (leastOf p) (length bs) loss k) (length l)) (f : l₁ ≡ addFramed (w .len) p (length bs) k a l) where
+    told : a ≡ admitted w true (countedSize (leastOf p) (length bs) (testedOf noLoss bs) k) (length l)
+    told = e ∙ ap (λ (x : Loss). admitted w true (countedSize (leastOf p) (length bs) x k) (length l)) d
 
     pub start-fits : length l < 2 ^ 64 → blocksAt (w .len) p a < 2 ^ 64
     start-fits h = let g = lent-fits a told .1 .0 in omega arith

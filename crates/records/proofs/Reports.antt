@@ -1,7 +1,11 @@
 -- The cases of a report of lent records, over whoever reports: its size, what stands around its blocks, and the whole written.
 use Rattle.rfc3550.proofs.Prelude.{ℕ, _+_, _-_, _*_, _<_, _≤_, _≡_, refl, sym, ap, _∙_, List, [], arith, add-one, leb-true, length, take, drop, getD, length-map, drop-of-length-le, drop-cons, take-length}
+use lib.Signed.{mag}
+use mir.Syntax.{w32}
+use mir.Val.{toZ, ofZ}
 use Rattle.rfc3550.specs.Answer.{Answer, Refusal, ok, refused, refusal, need, _>>_, _>>=_}
 use Rattle.rfc3550.specs.Bytes.{be, put, store}
+use Rattle.rfc3550.specs.Loss.{Loss, noLoss}
 use Rattle.rfc3550.specs.Packet as rfc
 use Rattle.rfc3550.specs.Write.{listsOf, giveReport, packetGiven, paddingBytes, calculateSize, room, write}
 use Rattle.rfc3550.proofs.Answers.{need-inv, bind-elim, ok-injective}
@@ -17,7 +21,8 @@ use Rattle.utils.proofs.WriterPackets.{writes, refused-written, short-written, 
 use Rattle.utils.proofs.Values.{number-came}
 use Rattle.report.specs.declared.«report_block».ReportBlock.{ReportBlock}
 use Rattle.report_write.specs.declared.sender.SenderInfo.{SenderInfo}
-use Rattle.report_write.specs.Report.{senderOf, testedLoss, countedSize, listsSize, headLaid}
+use Rattle.report.proofs.Losses.{bits-back}
+use Rattle.report_write.specs.Report.{senderOf, blockGiven, laterLoss, testedLoss, countedSize, listsSize, headLaid}
 use Rattle.report_write.proofs.Reports.{reason-same, lists-report, sized-fits, report-laid}
 use Rattle.report_write.proofs.Blocks.{length-blocks}
 use Rattle.records.specs.declared.Reporter.{Reporter}
@@ -26,7 +31,7 @@ use Rattle.records.specs.Records.{noBlock, blockOf, recordsOf, reporterO
 
 -- ---- the losses
 
-module _ (bs : List ReportBlock) (x d i : ℕ) (w : testedOf x (drop i bs) ≡ d) where
+module _ (bs : List ReportBlock) (x d : Loss) (i : ℕ) (w : testedOf x (drop i bs) ≡ d) where
   pub loss-next : i < length bs → testedOf (laterOf x (getD bs i noBlock)) (drop (i + 1) bs) ≡ d
   unfolding testedLoss
   loss-next h = rw (add-one i) (rw (drop-cons bs i noBlock h) at w)
@@ -34,6 +39,16 @@ module _ (bs : List ReportBlock) (x d i : ℕ) (w : testedOf x (drop i bs) ≡ d
   pub loss-done : length bs ≤ i → x ≡ d
   unfolding testedLoss
   loss-done h = rw (drop-of-length-le bs {i = i} h) at w
+
+-- one block's loss after those before it, and a block as it is laid
+module _ (b : ReportBlock) (h : mag (b .«cumulative_lost») < 2147483648) where
+  pub loss-later : (x r : Loss) → mag x < 2147483648 → mag r < 2147483648 → r ≡ laterLoss (toZ w32 (ofZ w32 x)) (toZ w32 (ofZ w32 (b .«cumulative_lost»))) → toZ w32 (ofZ w32 r) ≡ laterOf x b
+  loss-later x r f g e = bits-back r g ∙ e ∙ rw (bits-back x f, bits-back (b .«cumulative_lost») h)
+
+  pub block-put : (at : ℕ) (l l₁ : List ℕ)
+      → l₁ ≡ store at (put rfc.blockWidths (rfc.blockFields (blockGiven (b .ssrc) (b .«fraction_lost») (toZ w32 (ofZ w32 (b .«cumulative_lost»))) (b .«extended_sequence_number») (b .«interarrival_jitter») (b .«last_sender_report_timestamp») (b .«delay_since_last_sender_report_timestamp»)))) l
+      → l₁ ≡ store at (put rfc.blockWidths (rfc.blockFields (blockOf b))) l
+  block-put at l l₁ e = rw (bits-back (b .«cumulative_lost») h) at e
 
 count-is : (bs : List ReportBlock) → length (listsOf (recordsOf bs) .fractions) ≡ length bs
 count-is bs = length-map (recordsOf bs) (λ (b : rfc.Block). b .fraction) ∙ length-map bs blockOf
@@ -75,7 +90,7 @@ module _ (p : Reporter) where
 
   -- ---- the size
 
-  pub counted-fits : (count loss k n space : ℕ) → countedSize (leastOf p) count loss k ≡ ok n → n ≤ space → FrameFits (leastOf p) count k n space
+  pub counted-fits : (count : ℕ) (loss : Loss) (k n space : ℕ) → countedSize (leastOf p) count loss k ≡ ok n → n ≤ space → FrameFits (leastOf p) count k n space
   unfolding countedSize
   counted-fits count loss k n space e h =
       let a = need-inv _ _ _ _ _ e in
@@ -87,10 +102,16 @@ module _ (p : Reporter) where
       let o = least-low p in
       record { count-fits = i; padding = j; size = omega arith; most = omega arith; room = h }
 
-  module _ (m n count loss k : ℕ) (s : m ≡ leastOf p) (e : n ≡ orZero (countedSize m count loss k)) where
-    pub counted-refused : n ≡ 0 → (v : Refusal) → v ≡ sizeRefusal (countedSize 0 count loss k) → refused v ≡ countedSize (leastOf p) count loss k
-    counted-refused z v w = go (countedSize (leastOf p) count loss k) refl
+  module _ (m n count : ℕ) (loss : Loss) (k : ℕ) (s : m ≡ leastOf p) (d : mag loss < 2147483648) (i : n ≡ orZero (countedSize m count (toZ w32 (ofZ w32 loss)) k)) where
+    e : n ≡ orZero (countedSize m count loss k)
+    e = rw (bits-back loss d) at i
+
+    pub counted-refused : n ≡ 0 → (v : Refusal) → v ≡ sizeRefusal (countedSize 0 count (toZ w32 (ofZ w32 loss)) k) → refused v ≡ countedSize (leastOf p) count loss k
+    counted-refused z v j = go (countedSize (leastOf p) count loss k) refl
       where
+        w : v ≡ sizeRefusal (countedSize 0 count loss k)
+        w = rw (bits-back loss d) at j
+
         go : (a : Answer ℕ) → countedSize (leastOf p) count loss k ≡ a → refused v ≡ countedSize (leastOf p) count loss k
         go (refused x) q = ap refused (w ∙ reason-same (leastOf p) count loss k ∙ ap sizeRefusal q) ∙ sym q
         go (ok x) q =
@@ -102,15 +123,19 @@ module _ (p : Reporter) where
     pub counted-sized : (n ≡ 0 → ⊥) → ok n ≡ countedSize (leastOf p) count loss k
     counted-sized z = sym (number-came (countedSize (leastOf p) count loss k) n (e ∙ ap (λ (l : ℕ). orZero (countedSize l count loss k)) s) z)
 
-  pub lent-size : (bs : List ReportBlock) (k : ℕ) → countedSize (leastOf p) (length bs) (testedOf 0 bs) k ≡ calculateSize (giveReport (reporterOf p) (listsOf (recordsOf bs)) k)
+  pub lent-size : (bs : List ReportBlock) (k : ℕ) → countedSize (leastOf p) (length bs) (testedOf noLoss bs) k ≡ calculateSize (giveReport (reporterOf p) (listsOf (recordsOf bs)) k)
   unfolding listsSize need _>>_
   lent-size bs k =
-      let a : listsSize (leastOf p) (listsOf (recordsOf bs)) k ≡ countedSize (leastOf p) (length bs) (testedOf 0 bs) k = rw (blocksAgree-listsOf (recordsOf bs), count-is bs) in
+      let a : listsSize (leastOf p) (listsOf (recordsOf bs)) k ≡ countedSize (leastOf p) (length bs) (testedOf noLoss bs) k = rw (blocksAgree-listsOf (recordsOf bs), count-is bs) in
       sym a ∙ lists-report (reporterOf p) (listsOf (recordsOf bs)) k
+
+  -- what a call that was passed the loss answers
+  pub counted-again : (count : ℕ) (loss : Loss) (k : ℕ) (w : Written) → mag loss < 2147483648 → writtenOf w ≡ countedSize (leastOf p) count (toZ w32 (ofZ w32 loss)) k → writtenOf w ≡ countedSize (leastOf p) count loss k
+  counted-again count loss k w d e = rw (bits-back loss d) at e
 
   -- ---- what stands around the blocks
 
-  pub frame-fits : (count loss k : ℕ) (w : Written) (n space : ℕ) → writtenOf w ≡ countedSize (leastOf p) count loss k → w ≡ Size n → n ≤ space → FrameFits (leastOf p) count k n space
+  pub frame-fits : (count : ℕ) (loss : Loss) (k : ℕ) (w : Written) (n space : ℕ) → writtenOf w ≡ countedSize (leastOf p) count loss k → w ≡ Size n → n ≤ space → FrameFits (leastOf p) count k n space
   frame-fits count loss k w n space e q h = counted-fits count loss k n space (sym e ∙ ap writtenOf q) h
 
   module _ (count k n : ℕ) (l : List ℕ) (f : FrameFits (leastOf p) count k n (length l)) where
@@ -186,9 +211,9 @@ module _ (w : Written) (count : ℕ) where
 -- ---- the blocks laid into the frame
 
 module _ (p : Reporter) (bs : List ReportBlock) (k : ℕ) where
-  module _ (n : ℕ) (l : List ℕ) (c : countedSize (leastOf p) (length bs) (testedOf 0 bs) k ≡ ok n) (h : n ≤ length l) where
+  module _ (n : ℕ) (l : List ℕ) (c : countedSize (leastOf p) (length bs) (testedOf noLoss bs) k ≡ ok n) (h : n ≤ length l) where
     fits : FrameFits (leastOf p) (length bs) k n (length l)
-    fits = counted-fits p (length bs) (testedOf 0 bs) k n (length l) c h
+    fits = counted-fits p (length bs) (testedOf noLoss bs) k n (length l) c h
 
     pub blocks-fit : length bs * 24 ≤ length (frameLaid p (length bs) k n l) - leastOf p
     blocks-fit = let s = fits .size in let m = frame-long p (length bs) k n l fits in omega arith
@@ -205,13 +230,13 @@ module _ (p : Reporter) (bs : List ReportBlock) (k : ℕ) where
         ∙ report-laid (reporterOf p) (leastOf p) (listsOf (recordsOf bs)) k n l (headLaid (reporterOf p) k (length bs) n l) (store (leastOf p) (rfc.blocksBytes (recordsOf bs)) (headLaid (reporterOf p) k (length bs) n l)) _ f refl (rw (count-is bs)) (rw (blocksLent-listsOf (recordsOf bs))) refl
 
   module _ (l : List ℕ) where
-    lent-fits : (a : Answer ℕ) → a ≡ room (countedSize (leastOf p) (length bs) (testedOf 0 bs) k) (length l)
+    lent-fits : (a : Answer ℕ) → a ≡ room (countedSize (leastOf p) (length bs) (testedOf noLoss bs) k) (length l)
         → (laidCount a (length bs) ≤ length bs) × (laidCount a (length bs) * 24 ≤ length (framed p (length bs) k a l) - leastOf p)
     unfolding laidCount framed
     lent-fits (refused x) e = (omega arith, omega arith)
     lent-fits (ok n) e = let r = room-ok _ (length l) n (sym e) in (omega arith, blocks-fit n l (r .0) (r .1))
 
-    lent-written : (a : Answer ℕ) → a ≡ room (countedSize (leastOf p) (length bs) (testedOf 0 bs) k) (length l)
+    lent-written : (a : Answer ℕ) → a ≡ room (countedSize (leastOf p) (length bs) (testedOf noLoss bs) k) (length l)
         → (a, store (leastOf p) (rfc.blocksBytes (recordsOf (take (laidCount a (length bs)) bs))) (framed p (length bs) k a l)) ≡ write (giveReport (reporterOf p) (listsOf (recordsOf bs)) k) l
     unfolding laidCount framed write rfc.blocksBytes
     lent-written (refused x) e = rw (store-nil (leastOf p) l, ← lent-size p bs k, ← e)
@@ -220,9 +245,9 @@ module _ (p : Reporter) (bs : List ReportBlock) (k : ℕ) where
         rw (take-length bs, report-whole n l (r .0) (r .1), ← lent-size p bs k, ← e)
 
     -- the same of what the calls have answered: the loss, the report, how many blocks are laid, and where
-    module _ (a : Answer ℕ) (loss n at : ℕ) (l₁ : List ℕ) (d : loss ≡ testedOf 0 bs) (e : a ≡ room (countedSize (leastOf p) (length bs) loss k) (length l)) (f : l₁ ≡ framed p (length bs) k a l) (c : n ≡ laidCount a (length bs)) (s : at ≡ leastOf p) where
-      told : a ≡ room (countedSize (leastOf p) (length bs) (testedOf 0 bs) k) (length l)
-      told = e ∙ ap (λ (x : ℕ). room (countedSize (leastOf p) (length bs) x k) (length l)) d
+    module _ (a : Answer ℕ) (loss : Loss) (n at : ℕ) (l₁ : List ℕ) (d : loss ≡ testedOf noLoss bs) (e : a ≡ room (countedSize (leastOf p) (length bs) loss k) (length l)) (f : l₁ ≡ framed p (length bs) k a l) (c : n ≡ laidCount a (length bs)) (s : at ≡ leastOf p) where
+      told : a ≡ room (countedSize (leastOf p) (length bs) (testedOf noLoss bs) k) (length l)
+      told = e ∙ ap (λ (x : Loss). room (countedSize (leastOf p) (length bs) x k) (length l)) d
 
       pub count-fits-in : n ≤ length bs
       count-fits-in = rw c (lent-fits a told .0)
@@ -233,4 +258,4 @@ module _ (p : Reporter) (bs : List ReportBlock) (k : ℕ) where
       pub report-written : (l₂ : List ℕ) → l₂ ≡ store at (rfc.blocksBytes (recordsOf (take n bs))) l₁ → (a, l₂) ≡ write (giveReport (reporterOf p) (listsOf (recordsOf bs)) k) l
       report-written l₂ g = rw (g, c, f, s) (lent-written a told)
 
-pub ruleset records = (writes, least-receiver, least-sender, receiver-fitting, sender-fitting, head-receiver, head-sender, counted-refused, counted-sized, frame-fits, frame-long, frame-laid, frame-left, frame-done, frame-refused, room-refused, room-short, room-sized, none-laid, all-laid)
+pub ruleset records = (writes, loss-later, block-put, least-receiver, least-sender, receiver-fitting, sender-fitting, head-receiver, head-sender, counted-refused, counted-sized, counted-again, frame-fits, frame-long, frame-laid, frame-left, frame-done, frame-refused, room-refused, room-short, room-sized, none-laid, all-laid)

@@ -4,7 +4,7 @@ use mathlib.Core.Path.{_≡_}
 use mathlib.Core.List.{List, map}
 use Rattle.rfc3550.specs.Answer.{Answer, ok, refused}
 use Rattle.rfc3550.specs.Bytes.{store}
-use Rattle.rfc3550.specs.Loss.{Loss}
+use Rattle.rfc3550.specs.Loss.{Loss, noLoss}
 use Rattle.rfc3550.specs.Packet as rfc
 use Rattle.rfc3550.specs.Write.{listsOf, paddingBytes}
 use Rattle.report.specs.declared.«report_block».ReportBlock.{ReportBlock}
@@ -21,7 +21,7 @@ abbrev pub leastOf : Reporter → ℕ
 leastOf p = lists.leastOf (reporterOf p)
 
 abbrev pub noBlock : ReportBlock
-noBlock = record { ssrc = 0; «fraction_lost» = 0; «cumulative_lost» = 0; «extended_sequence_number» = 0; «interarrival_jitter» = 0; «last_sender_report_timestamp» = 0; «delay_since_last_sender_report_timestamp» = 0 }
+noBlock = record { ssrc = 0; «fraction_lost» = 0; «cumulative_lost» = noLoss; «extended_sequence_number» = 0; «interarrival_jitter» = 0; «last_sender_report_timestamp» = 0; «delay_since_last_sender_report_timestamp» = 0 }
 
 abbrev pub blockOf : ReportBlock → rfc.Block
 blockOf b = record { ssrc = b .ssrc; fraction = b .«fraction_lost»; lost = b .«cumulative_lost»; sequence = b .«extended_sequence_number»; jitter = b .«interarrival_jitter»; lsr = b .«last_sender_report_timestamp»; dlsr = b .«delay_since_last_sender_report_timestamp» }

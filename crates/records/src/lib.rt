@@ -18,6 +18,7 @@ ghost use mathlib.Core.Bool.{true};
 ghost use Prim.Native.Nat.{_+_, _-_, _*_, _^_, _<_, _≤_};
 ghost use lib.ListN.{length, take, getD};
 ghost use Rattle.rfc3550.specs.Bytes.{put, store};
+ghost use Rattle.rfc3550.specs.Loss.{noLoss};
 ghost use Rattle.rfc3550.specs.Packet.{isReport, blockWidths, blockFields, blocksBytes};
 ghost use Rattle.rfc3550.specs.Write.{listsOf, giveReport, calculateSize, room, write};
 ghost use Rattle.rfc3550.specs.Writer.{add, call};
@@ -41,18 +42,18 @@ fn block_unchecked(blocks: &[ReportBlock], i: usize) -> ReportBlock
 }
 
 // Of a loss and the next block's, the first if it does not fit.
-fn later_loss(loss: u32, b: ReportBlock) -> u32
+fn later_loss(loss: i32, b: ReportBlock) -> i32
     ensures { λ r. ⌜ r ≡ laterOf loss b ⌝ }
 {
     report_block::later_loss(loss, b.cumulative_lost)
 }
 
 // The loss that decides for all blocks: the first that does not fit 24 bits, or else the last one.
-fn tested_loss(blocks: &[ReportBlock]) -> u32
-    ensures { λ r. ⌜ r ≡ testedOf 0 (now (blocks .entry)) ⌝ }
+fn tested_loss(blocks: &[ReportBlock]) -> i32
+    ensures { λ r. ⌜ r ≡ testedOf noLoss (now (blocks .entry)) ⌝ }
 {
     let n = blocks.len();
-    let mut loss: u32 = 0;
+    let mut loss: i32 = 0;
     let mut i: usize = 0;
     while i < n {
         let b = block_unchecked(blocks, i);
@@ -113,7 +114,7 @@ fn packet_type(reporter: Reporter) -> u8
 }
 
 // The size of a report of so many blocks, of which one loss decides, or why it is refused.
-fn check_report(reporter: Reporter, count: usize, loss: u32, padding: u64) -> Written
+fn check_report(reporter: Reporter, count: usize, loss: i32, padding: u64) -> Written
     ensures { λ r. ⌜ writtenOf r ≡ countedSize (leastOf reporter) count loss padding ⌝ }
 {
     let size = report_block::size_of_count(count, loss, padding, least(reporter));
@@ -163,7 +164,7 @@ fn write_frame_unchecked(
 }
 
 // Answers for a report, and lays all of it but the blocks.
-fn write_frame(buf: &mut [u8], reporter: Reporter, count: usize, loss: u32, padding: u64) -> Written
+fn write_frame(buf: &mut [u8], reporter: Reporter, count: usize, loss: i32, padding: u64) -> Written
     ensures { λ r. ⌜ (writtenOf r ≡ room (countedSize (leastOf reporter) count loss padding) (length (now (buf .entry)))) × (now (buf .exit) ≡ framed reporter count padding (writtenOf r) (now (buf .entry))) ⌝ }
 {
     let checked = check_report(reporter, count, loss, padding);
@@ -217,7 +218,7 @@ fn add_frame(
     buf: &mut [u8],
     reporter: Reporter,
     count: usize,
-    loss: u32,
+    loss: i32,
     padding: u64,
 ) -> Written
     ensures { λ r. ⌜ (writtenOf r ≡ admitted (writerOf writer) true (countedSize (leastOf reporter) count loss padding) (length (now (buf .entry)))) × (now (buf .exit) ≡ addFramed (writer .len) reporter count padding (writtenOf r) (now (buf .entry))) ⌝ }

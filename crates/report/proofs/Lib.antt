@@ -1,3 +1,4 @@
+pub mod Losses
 pub mod Blocks
 pub mod Reports
 pub mod Injective

@@ -2,6 +2,7 @@
 use Rattle.rfc3550.proofs.Prelude.{needs, _≡_, refl, ap, _∙_, sym, subst, List, ⊎-elim, ℕ, zero, suc, _+_, _-_, _*_, _<_, _≤_, arith, le-leb, lt-leb, length, take, drop, length-drop, drop-drop, length-take-le, take-all}
 use Rattle.rfc3550.specs.Answer.{Refusal, refusal, Answer, ok, refused, refuse, need, _>>_, _>>=_, mapOk}
 use Rattle.rfc3550.specs.Bytes.{val, get, sum}
+use Rattle.rfc3550.specs.Loss.{Loss}
 use Rattle.rfc3550.specs.Packet.{Block, Reporter, Content, report, Packet, blockWidths, receiverWidths, senderWidths}
 use Rattle.rfc3550.specs.Read.{Kind, SR, RR, least, kindFor, lowIn, blockFrom, readBlocks, receiverFrom, senderFrom, readReport, readContent, checkPacket, readAs, blocksOf, nth, readBlockAt}
 use Rattle.rfc3550.proofs.Answers.{refused≢ok, ok-injective}
@@ -162,7 +163,7 @@ module _ {k : Kind} {ws : List ℕ} {who : List ℕ → Reporter} (m : ReporterK
       unfolding readBlockAt _>>=_ mapOk
       index-refused i = rw gone-why
 
-      pub lists-refused : (f l w : List ℕ) → (refused r, f, l, w) ≡ layBlocks (mapOk reportBlocks (readAs k s)) f l w
+      pub lists-refused : (f : List ℕ) (l : List Loss) (w : List ℕ) → (refused r, f, l, w) ≡ layBlocks (mapOk reportBlocks (readAs k s)) f l w
       unfolding layBlocks mapOk
       lists-refused f l w = rw gone-why
 
@@ -181,7 +182,7 @@ module _ {k : Kind} {ws : List ℕ} {who : List ℕ → Reporter} (m : ReporterK
       pub blocks-within : (x : ℕ) → x ≡ least k → x + n * 24 ≤ length s
       blocks-within x e = let a = is-whole in omega arith
 
-      pub lists-all : (f l w : List ℕ) (x : Answer ℕ × List ℕ × List ℕ × List ℕ) → x ≡ layBlocks (ok (readBlocks n (drop (least k) s))) f l w → x ≡ layBlocks (mapOk reportBlocks (readAs k s)) f l w
+      pub lists-all : (f : List ℕ) (l : List Loss) (w : List ℕ) (x : Answer ℕ × List ℕ × List Loss × List ℕ) → x ≡ layBlocks (ok (readBlocks n (drop (least k) s))) f l w → x ≡ layBlocks (mapOk reportBlocks (readAs k s)) f l w
       unfolding mapOk
       lists-all f l w x q =
           let a = is-whole in

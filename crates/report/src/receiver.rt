@@ -130,7 +130,7 @@ impl ReceiverReport {
     pub fn report_blocks(
         s: &[u8],
         fractions: &mut [u8],
-        losses: &mut [u32],
+        losses: &mut [i32],
         words: &mut [u32],
     ) -> Listed
         ensures { λ r. ⌜ (listedOf r, now (fractions .exit), now (losses .exit), now (words .exit)) ≡ layBlocks (mapOk reportBlocks (readAs RR (now (s .entry)))) (now (fractions .entry)) (now (losses .entry)) (now (words .entry)) ⌝ }

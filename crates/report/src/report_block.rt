@@ -16,7 +16,7 @@ ghost use Rattle.report.specs.Block.{parsedBlockOf, blockView, layBlocks
 pub struct ReportBlock {
     pub ssrc: u32,
     pub fraction_lost: u8,
-    pub cumulative_lost: u32,
+    pub cumulative_lost: i32,
     pub extended_sequence_number: u32,
     pub interarrival_jitter: u32,
     pub last_sender_report_timestamp: u32,
@@ -76,7 +76,7 @@ fn list_block_unchecked(
     s: &[u8],
     at: usize,
     fractions: &mut [u8],
-    losses: &mut [u32],
+    losses: &mut [i32],
     words: &mut [u32],
     i: usize,
     to: usize,
@@ -86,7 +86,8 @@ fn list_block_unchecked(
 {
     let b = parse_block_unchecked(s, at);
     fractions[i] = b.fraction_lost;
-    losses[i] = b.cumulative_lost;
+    let loss = b.cumulative_lost;
+    losses[i] = loss;
     words[to] = b.ssrc;
     words[to + 1] = b.extended_sequence_number;
     words[to + 2] = b.interarrival_jitter;
@@ -100,7 +101,7 @@ fn list_all_unchecked(
     at: usize,
     n: usize,
     fractions: &mut [u8],
-    losses: &mut [u32],
+    losses: &mut [i32],
     words: &mut [u32],
 )
     requires { ⌜ (at + n * 24 ≤ length (now s)) × (n ≤ length (now fractions)) × (n ≤ length (now losses)) × (n * 5 ≤ length (now words)) ⌝ }
@@ -127,7 +128,7 @@ pub fn list_blocks_unchecked(
     at: usize,
     n: usize,
     fractions: &mut [u8],
-    losses: &mut [u32],
+    losses: &mut [i32],
     words: &mut [u32],
 ) -> Listed
     requires { ⌜ at + n * 24 ≤ length (now s) ⌝ }

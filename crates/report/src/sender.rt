@@ -142,7 +142,7 @@ impl SenderReport {
     pub fn report_blocks(
         s: &[u8],
         fractions: &mut [u8],
-        losses: &mut [u32],
+        losses: &mut [i32],
         words: &mut [u32],
     ) -> Listed
         ensures { λ r. ⌜ (listedOf r, now (fractions .exit), now (losses .exit), now (words .exit)) ≡ layBlocks (mapOk reportBlocks (readAs SR (now (s .entry)))) (now (fractions .entry)) (now (losses .entry)) (now (words .entry)) ⌝ }

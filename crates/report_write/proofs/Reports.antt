@@ -1,8 +1,11 @@
 -- The cases of a report's size and bytes, over the reporter, each from what the code has tested or called.
 use Rattle.rfc3550.proofs.Prelude.{ℕ, _+_, _-_, _*_, _^_, _≤_, _<_, _≡_, refl, sym, ap, _∙_, Bool, true, false, List, [], _∷_, append-nil, arith, needs, le-leb, lt-leb, leb-true, not-true, not-false, length, take, drop, length-append, leb}
+use lib.Signed.{mag}
+use mir.Syntax.{w32}
+use mir.Val.{toZ, ofZ}
 use Rattle.rfc3550.specs.Answer.{Refusal, ok, refused, refusal, need, _>>_}
 use Rattle.rfc3550.specs.Bytes.{be, put, store}
-use Rattle.rfc3550.specs.Loss.{lossIn, lossShown, lossMost}
+use Rattle.rfc3550.specs.Loss.{Loss, noLoss, lossIn, lossShown, lossMost}
 use Rattle.rfc3550.specs.Packet.{Block, Reporter, receiver, sender, report, blocksBytes, senderWidths, reporterWidths, reporterFields, contentBytes, type, layout}
 use Rattle.rfc3550.specs.Write.{BlockLists, blocksLent, giveReport, blocksAgree, packetGiven, paddingBytes, paddingOk, ownTests, calculateSize, write}
 use Rattle.rfc3550.proofs.Answers.{need-inv}
@@ -15,15 +18,12 @@ use Rattle.utils.proofs.WriterStores.{stores}
 use Rattle.utils.proofs.WriterPackets.{writes, padding-most, sized, size-ok, size-refused, parts-laid, header-long, packet-laid}
 use Rattle.report_write.specs.declared.sender.SenderInfo.{SenderInfo}
 use Rattle.report_write.specs.Report.{senderOf, leastOf, blockLists, testedLoss, countedSize, listsSize, ReportFits, headLaid}
+use Rattle.report.proofs.Losses.{bits-back}
 use Rattle.report_write.proofs.Blocks.{length-blocks, losses-decided, lists-loss, words-differ, lists-agree}
 
 -- ---- the size by what decides
 
-pub loss-test : (x : ℕ) → leb x 16777215 ≡ lossIn x
-unfolding lossIn
-loss-test x = refl
-
-module _ (least n x k : ℕ) where
+module _ (least n : ℕ) (x : Loss) (k : ℕ) where
   pub over-count : 31 < n → refused (refusal 18 n 31) ≡ countedSize least n x k
   unfolding countedSize need _>>_
   over-count h = simp (lt-leb _ _ h)
@@ -33,17 +33,20 @@ module _ (least n x k : ℕ) where
     unfolding countedSize need _>>_
     bad-padding q = simp (le-leb _ _ h, ← e, q)
 
-    module _ (q : t ≡ true) (u : Bool) (f : u ≡ lossIn x) where
-      pub over-loss : u ≡ false → refused (refusal 17 x 16777215) ≡ countedSize least n x k
-      unfolding countedSize lossShown need _>>_
-      over-loss z = simp (le-leb _ _ h, ← e, q, ← f, z)
+    module _ (q : t ≡ true) (g : mag x < 2147483648) (u : Bool) (f : u ≡ lossIn (toZ w32 (ofZ w32 x))) where
+      loss-test : lossIn x ≡ u
+      loss-test = ap lossIn (sym (bits-back x g)) ∙ sym f
+
+      pub over-loss : u ≡ false → (v : ℕ) → v ≡ lossShown (toZ w32 (ofZ w32 x)) → refused (refusal 17 v lossMost) ≡ countedSize least n x k
+      unfolding countedSize need _>>_
+      over-loss z v s = simp (le-leb _ _ h, ← e, q, loss-test, z, s, bits-back x g)
 
       counted : u ≡ true → ok (least + n * 24 + k) ≡ countedSize least n x k
       unfolding countedSize need _>>_
-      counted z = simp (le-leb _ _ h, ← e, q, ← f, z)
+      counted z = simp (le-leb _ _ h, ← e, q, loss-test, z)
 
 -- the number and why of each
-module _ (n x k : ℕ) where
+module _ (n : ℕ) (x : Loss) (k : ℕ) where
   pub count-none : (least : ℕ) → 31 < n → 0 ≡ orZero (countedSize least n x k)
   count-none least h = ap orZero (over-count least n x k h)
 
@@ -51,27 +54,27 @@ module _ (n x k : ℕ) where
     pub padding-none : (least : ℕ) → t ≡ false → 0 ≡ orZero (countedSize least n x k)
     padding-none least q = ap orZero (bad-padding least n x k h t e q)
 
-    module _ (q : t ≡ true) (u : Bool) (f : u ≡ lossIn x) where
+    module _ (q : t ≡ true) (g : mag x < 2147483648) (u : Bool) (f : u ≡ lossIn (toZ w32 (ofZ w32 x))) where
       pub loss-none : (least : ℕ) → u ≡ false → 0 ≡ orZero (countedSize least n x k)
-      loss-none least z = ap orZero (over-loss least n x k h t e q u f z)
+      loss-none least z = ap orZero (over-loss least n x k h t e q g u f z _ refl)
 
       pub counted-size : (least : ℕ) → u ≡ true → least + n * 24 + k ≡ orZero (countedSize least n x k)
-      counted-size least z = ap orZero (counted least n x k h t e q u f z)
+      counted-size least z = ap orZero (counted least n x k h t e q g u f z)
 
       pub counted-why : u ≡ true → refusal 22 0 0 ≡ sizeRefusal (countedSize 0 n x k)
-      counted-why z = ap sizeRefusal (counted 0 n x k h t e q u f z)
+      counted-why z = ap sizeRefusal (counted 0 n x k h t e q g u f z)
 
   pub counted-in : (least : ℕ) (t : Bool) → least < 256 → n ≤ 31 → t ≡ paddingOk k → t ≡ true → least + n * 24 + k < 2 ^ 64
   counted-in least t h f e q = let m = padding-most t k e q in omega arith
 
-pub ruleset counts = (needs, not-true, not-false, loss-test, count-none, padding-none, loss-none, counted-size, counted-in)
+pub ruleset counts = (needs, not-true, not-false, count-none, padding-none, loss-none, counted-size, counted-in)
 
 pub ruleset whys = (not-true, not-false, why-of, over-count, bad-padding, counted-why)
 
 -- ---- of lent lists
 
 -- a number goes by whether the loss fits, not by the loss
-number-same : (least n x y k : ℕ) → lossIn x ≡ lossIn y → orZero (countedSize least n x k) ≡ orZero (countedSize least n y k)
+number-same : (least n : ℕ) (x y : Loss) (k : ℕ) → lossIn x ≡ lossIn y → orZero (countedSize least n x k) ≡ orZero (countedSize least n y k)
 unfolding countedSize need _>>_
 number-same least n x y k e = rw e (go (leb n 31) (paddingOk k) (lossIn y))
   where
@@ -82,7 +85,7 @@ number-same least n x y k e = rw e (go (leb n 31) (paddingOk k) (lossIn y))
     go true true true = refl
 
 -- a reason goes by no length
-pub reason-same : (least n x k : ℕ) → sizeRefusal (countedSize 0 n x k) ≡ sizeRefusal (countedSize least n x k)
+pub reason-same : (least n : ℕ) (x : Loss) (k : ℕ) → sizeRefusal (countedSize 0 n x k) ≡ sizeRefusal (countedSize least n x k)
 unfolding countedSize need _>>_
 reason-same least n x k = go (leb n 31) (paddingOk k) (lossIn x)
   where
@@ -93,7 +96,7 @@ reason-same least n x k = go (leb n 31) (paddingOk k) (lossIn x)
     go true true true = refl
 
 module _ (l : BlockLists) (k : ℕ) (t : Bool) (a : t ≡ blocksAgree l) where
-  lists-counted : t ≡ true → (least : ℕ) → countedSize least (length (l .fractions)) (testedLoss 0 (l .losses)) k ≡ listsSize least l k
+  lists-counted : t ≡ true → (least : ℕ) → countedSize least (length (l .fractions)) (testedLoss noLoss (l .losses)) k ≡ listsSize least l k
   unfolding listsSize need _>>_
   lists-counted q least = sym (rw (← a, q))
 
@@ -101,11 +104,11 @@ module _ (l : BlockLists) (k : ℕ) (t : Bool) (a : t ≡ blocksAgree l) where
   unfolding listsSize need _>>_
   lists-none least q = sym (rw (← a, q))
 
-  lists-size : (least x n : ℕ) → t ≡ true → lossIn x ≡ lossIn (testedLoss 0 (l .losses)) → n ≡ orZero (countedSize least (length (l .fractions)) x k) → n ≡ orZero (listsSize least l k)
-  lists-size least x n q f e = e ∙ number-same least (length (l .fractions)) x (testedLoss 0 (l .losses)) k f ∙ ap orZero (lists-counted q least)
+  lists-size : (least : ℕ) (x : Loss) (n : ℕ) → t ≡ true → lossIn x ≡ lossIn (testedLoss noLoss (l .losses)) → n ≡ orZero (countedSize least (length (l .fractions)) x k) → n ≡ orZero (listsSize least l k)
+  lists-size least x n q f e = e ∙ number-same least (length (l .fractions)) x (testedLoss noLoss (l .losses)) k f ∙ ap orZero (lists-counted q least)
 
 -- of lists whose lengths are tested one by one, after the number of blocks
-module _ (fs ls ws : List ℕ) (k least : ℕ) where
+module _ (fs : List ℕ) (ls : List Loss) (ws : List ℕ) (k least : ℕ) where
   abbrev lent : BlockLists
   lent = blockLists fs ls ws
 
@@ -114,7 +117,7 @@ module _ (fs ls ws : List ℕ) (k least : ℕ) where
     where
       go : (t : Bool) → t ≡ blocksAgree lent → 0 ≡ orZero (listsSize least lent k)
       go false a = lists-none lent k false a least refl
-      go true a = count-none (length fs) (testedLoss 0 ls) k least h ∙ ap orZero (lists-counted lent k true a refl least)
+      go true a = count-none (length fs) (testedLoss noLoss ls) k least h ∙ ap orZero (lists-counted lent k true a refl least)
 
   pub losses-other : (length ls ≡ length fs → ⊥) → 0 ≡ orZero (listsSize least lent k)
   losses-other h = lists-none lent k false (lists-loss fs ls ws h) least refl
@@ -123,8 +126,9 @@ module _ (fs ls ws : List ℕ) (k least : ℕ) where
     pub words-other : (length ws ≡ length fs * 5 → ⊥) → 0 ≡ orZero (listsSize least lent k)
     words-other q = lists-none lent k false (words-differ fs ls ws h (λ e. q (omega arith))) least refl
 
-    pub lists-tested : (x n : ℕ) → length ws ≡ length fs * 5 → lossIn x ≡ lossIn (testedLoss 0 ls) → n ≡ orZero (countedSize least (length fs) x k) → n ≡ orZero (listsSize least lent k)
-    lists-tested x n q = lists-size lent k true (lists-agree fs ls ws h q) least x n refl
+    pub lists-tested : (x : Loss) (n : ℕ) → length ws ≡ length fs * 5 → mag x < 2147483648 → lossIn x ≡ lossIn (testedLoss noLoss ls)
+        → n ≡ orZero (countedSize least (length fs) (toZ w32 (ofZ w32 x)) k) → n ≡ orZero (listsSize least lent k)
+    lists-tested x n q g e f = lists-size lent k true (lists-agree fs ls ws h q) least x n refl e (rw (bits-back x g) at f)
 
 -- ---- over the reporter
 
@@ -145,9 +149,9 @@ module _ (r : Reporter) (l : BlockLists) where
   module _ (k : ℕ) where
     pub lists-report : listsSize (leastOf r) l k ≡ calculateSize (giveReport r l k)
     unfolding listsSize countedSize ownTests need _>>_
-    lists-report = go (blocksAgree l) refl (leb (length (l .fractions)) 31) refl (paddingOk k) refl (lossIn (testedLoss 0 (l .losses))) refl
+    lists-report = go (blocksAgree l) refl (leb (length (l .fractions)) 31) refl (paddingOk k) refl (lossIn (testedLoss noLoss (l .losses))) refl
       where
-        go : (a : Bool) → blocksAgree l ≡ a → (b : Bool) → leb (length (l .fractions)) 31 ≡ b → (c : Bool) → paddingOk k ≡ c → (d : Bool) → lossIn (testedLoss 0 (l .losses)) ≡ d → listsSize (leastOf r) l k ≡ calculateSize (giveReport r l k)
+        go : (a : Bool) → blocksAgree l ≡ a → (b : Bool) → leb (length (l .fractions)) 31 ≡ b → (c : Bool) → paddingOk k ≡ c → (d : Bool) → lossIn (testedLoss noLoss (l .losses)) ≡ d → listsSize (leastOf r) l k ≡ calculateSize (giveReport r l k)
         go false e b f c g d h = simp e (size-refused (giveReport r l k) (simp e))
         go true e false f c g d h = simp (e, f) (size-refused (giveReport r l k) (simp (e, f)))
         go true e true f false g d h = simp (e, f, g) (size-refused (giveReport r l k) (simp (e, f, g)))
@@ -169,8 +173,8 @@ module _ (l : BlockLists) (k : ℕ) (q r : Reporter) where
       n : ℕ
       n = length (l .fractions)
 
-      x : ℕ
-      x = testedLoss 0 (l .losses)
+      x : Loss
+      x = testedLoss noLoss (l .losses)
 
       go : (a : Bool) → sizeRefusal (need a 24 0 0 >> countedSize (leastOf q) n x k) ≡ sizeRefusal (need a 24 0 0 >> countedSize (leastOf r) n x k)
       go false = refl
@@ -181,9 +185,9 @@ module _ (l : BlockLists) (k : ℕ) (t : Bool) (a : t ≡ blocksAgree l) where
   unfolding listsSize need _>>_
   agree-why q r = rw (← lists-report r l k, ← a, q)
 
-  pub lists-why : (x : ℕ) (v : Refusal) → t ≡ true → x ≡ testedLoss 0 (l .losses) → v ≡ sizeRefusal (countedSize 0 (length (l .fractions)) x k) → (r : Reporter) → v ≡ sizeRefusal (calculateSize (giveReport r l k))
-  lists-why x v q f h r =
-      h ∙ reason-same (leastOf r) (length (l .fractions)) x k ∙ ap (λ (y : ℕ). sizeRefusal (countedSize (leastOf r) (length (l .fractions)) y k)) f
+  pub lists-why : (x : Loss) (v : Refusal) → t ≡ true → mag x < 2147483648 → x ≡ testedLoss noLoss (l .losses) → v ≡ sizeRefusal (countedSize 0 (length (l .fractions)) (toZ w32 (ofZ w32 x)) k) → (r : Reporter) → v ≡ sizeRefusal (calculateSize (giveReport r l k))
+  lists-why x v q g f h r =
+      h ∙ ap (λ (y : Loss). sizeRefusal (countedSize 0 (length (l .fractions)) y k)) (bits-back x g) ∙ reason-same (leastOf r) (length (l .fractions)) x k ∙ ap (λ (y : Loss). sizeRefusal (countedSize (leastOf r) (length (l .fractions)) y k)) f
       ∙ ap sizeRefusal (lists-counted l k t a q (leastOf r) ∙ lists-report r l k)
 
 pub report-size : (r : Reporter) (least n : ℕ) (l : BlockLists) (k : ℕ) → leastOf r ≡ least → n ≡ orZero (listsSize least l k) → n ≡ orZero (calculateSize (giveReport r l k))
@@ -231,7 +235,7 @@ pub report-fits : (r : Reporter) (least n : ℕ) (l : BlockLists) (k space : ℕ
 report-fits r least n l k space h z f e = rw e at (sized-fits r l k n space (size-came (giveReport r l k) n h z) f)
 
 -- lists lent again are the same
-pub why-again : (r : Reporter) (fs ls ws : List ℕ) (k : ℕ) (v : Refusal) → v ≡ sizeRefusal (calculateSize (giveReport r (blockLists (take (length fs - 0) (drop 0 fs)) (take (length ls - 0) (drop 0 ls)) (take (length ws - 0) (drop 0 ws))) k))
+pub why-again : (r : Reporter) (fs : List ℕ) (ls : List Loss) (ws : List ℕ) (k : ℕ) (v : Refusal) → v ≡ sizeRefusal (calculateSize (giveReport r (blockLists (take (length fs - 0) (drop 0 fs)) (take (length ls - 0) (drop 0 ls)) (take (length ws - 0) (drop 0 ws))) k))
     → v ≡ sizeRefusal (calculateSize (giveReport r (blockLists fs ls ws) k))
 why-again r fs ls ws k v w = rw (lent-again fs, lent-again ls, lent-again ws) at w
 

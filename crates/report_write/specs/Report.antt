@@ -7,7 +7,7 @@ use lib.ListN.{length}
 use lib.Dec.{leb}
 use Rattle.rfc3550.specs.Answer.{Answer, ok, need, pick, _>>_}
 use Rattle.rfc3550.specs.Bytes.{put, store}
-use Rattle.rfc3550.specs.Loss.{Loss, lossIn, lossShown, lossMost}
+use Rattle.rfc3550.specs.Loss.{Loss, noLoss, lossIn, lossShown, lossMost}
 use Rattle.rfc3550.specs.Packet.{Block, Reporter, receiver, sender, report, type, reporterWidths, reporterFields}
 use Rattle.rfc3550.specs.Write.{BlockLists, blocksAgree, paddingOk}
 use Rattle.utils.specs.Writer.{header}
@@ -23,10 +23,10 @@ leastOf (sender ssrc ntp rtp packets octets) = 28
 
 -- ---- blocks
 
-abbrev pub blockLists : List ℕ → List ℕ → List ℕ → BlockLists
+abbrev pub blockLists : List ℕ → List Loss → List ℕ → BlockLists
 blockLists fs ls ws = record { fractions = fs; losses = ls; words = ws }
 
-abbrev pub blockGiven : ℕ → ℕ → ℕ → ℕ → ℕ → ℕ → ℕ → Block
+abbrev pub blockGiven : ℕ → ℕ → Loss → ℕ → ℕ → ℕ → ℕ → Block
 blockGiven ssrc fraction lost sequence jitter lsr dlsr = record { ssrc = ssrc; fraction = fraction; lost = lost; sequence = sequence; jitter = jitter; lsr = lsr; dlsr = dlsr }
 
 -- ---- the size
@@ -51,7 +51,7 @@ countedSize least count loss k = do
 unfoldable pub listsSize : ℕ → BlockLists → ℕ → Answer ℕ
 listsSize least l k = do
   need (blocksAgree l) 24 0 0
-  countedSize least (length (l .fractions)) (testedLoss 0 (l .losses)) k
+  countedSize least (length (l .fractions)) (testedLoss noLoss (l .losses)) k
 
 -- ---- what is laid
 

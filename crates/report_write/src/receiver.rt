@@ -15,7 +15,7 @@ ghost use Rattle.utils.specs.Writer.{writtenOf};
 ghost use Rattle.report_write.specs.Report.{blockLists, ReportFits, headLaid};
 
 // The size of a receiver report, whatever its SSRC; 0 where it is refused.
-pub fn size_of(fractions: &[u8], losses: &[u32], words: &[u32], padding: u64) -> usize
+pub fn size_of(fractions: &[u8], losses: &[i32], words: &[u32], padding: u64) -> usize
     ensures { λ r. ⌜ r ≡ orZero (calculateSize (giveReport (receiver 0) (blockLists (now (fractions .entry)) (now (losses .entry)) (now (words .entry))) padding)) ⌝ }
 {
     report_block::size_of(
@@ -28,7 +28,7 @@ pub fn size_of(fractions: &[u8], losses: &[u32], words: &[u32], padding: u64) ->
 }
 
 // The size of a receiver report, whatever its SSRC, or why it is refused.
-pub fn calculate_size(fractions: &[u8], losses: &[u32], words: &[u32], padding: u64) -> Written
+pub fn calculate_size(fractions: &[u8], losses: &[i32], words: &[u32], padding: u64) -> Written
     ensures { λ r. ⌜ writtenOf r ≡ calculateSize (giveReport (receiver 0) (blockLists (now (fractions .entry)) (now (losses .entry)) (now (words .entry))) padding) ⌝ }
 {
     let size = size_of(fractions, losses, words, padding);
@@ -57,7 +57,7 @@ pub fn write_into_unchecked(
     buf: &mut [u8],
     ssrc: u32,
     fractions: &[u8],
-    losses: &[u32],
+    losses: &[i32],
     words: &[u32],
     padding: u64,
     size: usize,
@@ -82,7 +82,7 @@ pub fn write_into(
     buf: &mut [u8],
     ssrc: u32,
     fractions: &[u8],
-    losses: &[u32],
+    losses: &[i32],
     words: &[u32],
     padding: u64,
 ) -> Written

@@ -8,7 +8,7 @@ ghost use mathlib.Core.Bool.{true};
 ghost use Prim.Native.Nat.{_+_, _*_, _≤_};
 ghost use lib.ListN.{length};
 ghost use Rattle.rfc3550.specs.Bytes.{put, store};
-ghost use Rattle.rfc3550.specs.Loss.{lossIn};
+ghost use Rattle.rfc3550.specs.Loss.{noLoss, lossIn};
 ghost use Rattle.rfc3550.specs.Packet.{receiver, blockWidths, blockFields, blocksBytes};
 ghost use Rattle.rfc3550.specs.Write.{giveReport, blocksLent, blocksAgree, calculateSize};
 ghost use Rattle.utils.specs.Error.{orZero, writeRefusal};
@@ -16,7 +16,7 @@ ghost use Rattle.utils.specs.Writer.{sizeRefusal};
 ghost use Rattle.report_write.specs.Report.{blockLists, blockGiven, laterLoss, testedLoss, countedSize, listsSize};
 
 // Of a loss and the next one, the first if it does not fit.
-pub fn later_loss(loss: u32, next: u32) -> u32
+pub fn later_loss(loss: i32, next: i32) -> i32
     ensures { λ r. ⌜ r ≡ laterLoss loss next ⌝ }
 {
     if loss::check_loss(loss) {
@@ -26,12 +26,12 @@ pub fn later_loss(loss: u32, next: u32) -> u32
 }
 
 // The first loss that does not fit, or else the last one.
-fn tested_loss(losses: &[u32]) -> u32
-    ensures { λ r. ⌜ r ≡ testedLoss 0 (now (losses .entry)) ⌝ }
+fn tested_loss(losses: &[i32]) -> i32
+    ensures { λ r. ⌜ r ≡ testedLoss noLoss (now (losses .entry)) ⌝ }
 {
     let n = losses.len();
     let mut i: usize = 0;
-    let mut loss: u32 = 0;
+    let mut loss: i32 = 0;
     while i < n {
         loss = later_loss(loss, losses[i]);
         i += 1;
@@ -39,22 +39,22 @@ fn tested_loss(losses: &[u32]) -> u32
     loss
 }
 
-// The bits of all losses: it fits exactly if all of them do, and is found without a branch for each.
-fn merged_losses(losses: &[u32]) -> u32
-    ensures { λ r. ⌜ lossIn r ≡ lossIn (testedLoss 0 (now (losses .entry))) ⌝ }
+// The bits of the magnitudes of all losses: it fits exactly if all of them do, and is found without a branch for each.
+fn merged_losses(losses: &[i32]) -> i32
+    ensures { λ r. ⌜ lossIn r ≡ lossIn (testedLoss noLoss (now (losses .entry))) ⌝ }
 {
     let n = losses.len();
     let mut i: usize = 0;
     let mut bits: u32 = 0;
     while i < n {
-        bits = bits | losses[i];
+        bits = bits | loss::loss_magnitude(losses[i]);
         i += 1;
     }
-    bits
+    bits as i32
 }
 
 // The size of a report of so many blocks with so many bytes before them; 0 where it is refused. One loss decides for all.
-pub fn size_of_count(count: usize, loss: u32, padding: u64, least: u8) -> usize
+pub fn size_of_count(count: usize, loss: i32, padding: u64, least: u8) -> usize
     ensures { λ r. ⌜ r ≡ orZero (countedSize least count loss padding) ⌝ }
 {
     if writer::MAX_COUNT < count {
@@ -70,7 +70,7 @@ pub fn size_of_count(count: usize, loss: u32, padding: u64, least: u8) -> usize
 }
 
 // Why such a report has no size, however many bytes stand before its blocks; PacketTooLarge where it has one.
-pub fn why_count(count: usize, loss: u32, padding: u64) -> RtcpWriteError
+pub fn why_count(count: usize, loss: i32, padding: u64) -> RtcpWriteError
     ensures { λ r. ⌜ writeRefusal r ≡ sizeRefusal (countedSize 0 count loss padding) ⌝ }
 {
     if writer::MAX_COUNT < count {
@@ -84,7 +84,7 @@ pub fn why_count(count: usize, loss: u32, padding: u64) -> RtcpWriteError
     }
     if !loss::check_loss(loss) {
         return RtcpWriteError::CumulativeLostTooLarge {
-            value: loss,
+            value: loss::loss_shown(loss),
             max: loss::MAX_LOSS,
         };
     }
@@ -92,7 +92,7 @@ pub fn why_count(count: usize, loss: u32, padding: u64) -> RtcpWriteError
 }
 
 // There are one loss and five words for each fraction.
-fn check_lists(fractions: &[u8], losses: &[u32], words: &[u32]) -> bool
+fn check_lists(fractions: &[u8], losses: &[i32], words: &[u32]) -> bool
     ensures { λ r. ⌜ r ≡ blocksAgree (blockLists (now (fractions .entry)) (now (losses .entry)) (now (words .entry))) ⌝ }
 {
     let n = fractions.len();
@@ -106,7 +106,7 @@ fn check_lists(fractions: &[u8], losses: &[u32], words: &[u32]) -> bool
 }
 
 // The size of a report of lent blocks with so many bytes before them; 0 where it is refused.
-pub fn size_of(fractions: &[u8], losses: &[u32], words: &[u32], padding: u64, least: u8) -> usize
+pub fn size_of(fractions: &[u8], losses: &[i32], words: &[u32], padding: u64, least: u8) -> usize
     ensures { λ r. ⌜ r ≡ orZero (listsSize least (blockLists (now (fractions .entry)) (now (losses .entry)) (now (words .entry))) padding) ⌝ }
 {
     let n = fractions.len();
@@ -123,7 +123,7 @@ pub fn size_of(fractions: &[u8], losses: &[u32], words: &[u32], padding: u64, le
 }
 
 // Why a report of lent blocks has no size, whoever reports; PacketTooLarge where it has one.
-pub fn why_size(fractions: &[u8], losses: &[u32], words: &[u32], padding: u64) -> RtcpWriteError
+pub fn why_size(fractions: &[u8], losses: &[i32], words: &[u32], padding: u64) -> RtcpWriteError
     ensures { λ r. ⌜ writeRefusal r ≡ sizeRefusal (calculateSize (giveReport (receiver 0) (blockLists (now (fractions .entry)) (now (losses .entry)) (now (words .entry))) padding)) ⌝ }
 {
     if !check_lists(fractions, losses, words) {
@@ -138,7 +138,7 @@ pub fn write_block_unchecked(
     at: usize,
     ssrc: u32,
     fraction: u8,
-    loss: u32,
+    loss: i32,
     sequence: u32,
     jitter: u32,
     lsr: u32,
@@ -164,7 +164,7 @@ pub fn write_blocks_unchecked(
     buf: &mut [u8],
     at: usize,
     fractions: &[u8],
-    losses: &[u32],
+    losses: &[i32],
     words: &[u32],
 )
     requires { ⌜ (blocksAgree (blockLists (now fractions) (now losses) (now words)) ≡ true) × (at + length (now fractions) * 24 ≤ length (now buf)) ⌝ }

@@ -24,7 +24,7 @@ pub struct SenderInfo {
 }
 
 // The size of a sender report, whatever it says of the sender; 0 where it is refused.
-pub fn size_of(fractions: &[u8], losses: &[u32], words: &[u32], padding: u64) -> usize
+pub fn size_of(fractions: &[u8], losses: &[i32], words: &[u32], padding: u64) -> usize
     ensures { λ r. ⌜ r ≡ orZero (calculateSize (giveReport (sender 0 0 0 0 0) (blockLists (now (fractions .entry)) (now (losses .entry)) (now (words .entry))) padding)) ⌝ }
 {
     report_block::size_of(
@@ -37,7 +37,7 @@ pub fn size_of(fractions: &[u8], losses: &[u32], words: &[u32], padding: u64) ->
 }
 
 // The size of a sender report, whatever it says of the sender, or why it is refused.
-pub fn calculate_size(fractions: &[u8], losses: &[u32], words: &[u32], padding: u64) -> Written
+pub fn calculate_size(fractions: &[u8], losses: &[i32], words: &[u32], padding: u64) -> Written
     ensures { λ r. ⌜ writtenOf r ≡ calculateSize (giveReport (sender 0 0 0 0 0) (blockLists (now (fractions .entry)) (now (losses .entry)) (now (words .entry))) padding) ⌝ }
 {
     let size = size_of(fractions, losses, words, padding);
@@ -83,7 +83,7 @@ pub fn write_into_unchecked(
     buf: &mut [u8],
     info: SenderInfo,
     fractions: &[u8],
-    losses: &[u32],
+    losses: &[i32],
     words: &[u32],
     padding: u64,
     size: usize,
@@ -108,7 +108,7 @@ pub fn write_into(
     buf: &mut [u8],
     info: SenderInfo,
     fractions: &[u8],
-    losses: &[u32],
+    losses: &[i32],
     words: &[u32],
     padding: u64,
 ) -> Written

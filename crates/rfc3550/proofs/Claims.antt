@@ -1,7 +1,8 @@
 -- What is promised to the buyer, each claim stated whole. Demand 3 comes last.
-use Rattle.rfc3550.proofs.Prelude.{ℕ, _≡_, refl, _↔_, List, [], map}
+use Rattle.rfc3550.proofs.Prelude.{ℕ, _<_, _≡_, refl, _↔_, true, List, [], map}
 use Rattle.rfc3550.specs.Answer.{Refusal, ok, refused}
 use Rattle.rfc3550.specs.Bytes.{Bytes}
+use Rattle.rfc3550.specs.Loss.{Loss, LossFits, lossBits, lossOf, lossIn}
 use Rattle.rfc3550.specs.Packet.{Chunk, Packet, layout, layouts, chunksOf, All, Valid, Compound}
 use Rattle.rfc3550.specs.Read.{Kind, SDES, kindFor, nth, readChunk, readAs}
 use Rattle.rfc3550.specs.Compound.{readCompound}
@@ -10,6 +11,7 @@ use Rattle.rfc3550.specs.Write.{Given, Typed, packetGiven, write}
 use Rattle.rfc3550.specs.Writer.{Writer, fresh, Request, add, close, call}
 use Rattle.rfc3550.specs.Book.{empty}
 use Rattle.rfc3550.specs.Calls.{Event, Made, answers, bookInput, booked, compounds}
+use Rattle.rfc3550.proofs.Losses as Losses
 use Rattle.rfc3550.proofs.Packets
 use Rattle.rfc3550.proofs.Compounds as C
 use Rattle.rfc3550.proofs.Walks as W
@@ -35,6 +37,17 @@ reading k s p h = Packets.packet-iff k s p h
 
 pub one-packet : (p q : Packet) → Valid p → Valid q → layout p ≡ layout q → p ≡ q
 one-packet p q v w e = Packets.layout-injective p q v w e
+
+-- a loss, from −8,388,608 to 8,388,607, is its value modulo 16,777,216 in 24 bits: any 24 bits are read as such a loss with these bits, such a
+-- loss is what its bits are read as, and the writer's test lets such losses through and no other (document 02, order 1)
+pub loss-read : (n : ℕ) → n < 16777216 → LossFits (lossOf n) × (lossBits (lossOf n) ≡ n)
+loss-read n h = (Losses.lossOf-fits n h, Losses.lossBits-lossOf n h)
+
+pub loss-written : (l : Loss) → LossFits l → (lossBits l < 16777216) × (lossOf (lossBits l) ≡ l)
+loss-written l h = (Losses.lossBits-lt l, Losses.lossOf-lossBits l h)
+
+pub loss-tested : (l : Loss) → (lossIn l ≡ true) ↔ LossFits l
+loss-tested l = (Losses.lossIn-fits l, Losses.fits-lossIn l)
 
 -- a write not refused lays down the layout of the packet given, its size is the bytes' number, and all else in the buffer is as it was
 pub writing : (g : Given) (l : List ℕ) (n : ℕ) → Typed g → write g l .0 ≡ ok n → Valid (packetGiven g) × Wrote (layout (packetGiven g)) l n (write g l .1)

@@ -1,4 +1,5 @@
 -- The definitions compute: a compound of 3 kB is read by evaluation alone.
+use lib.IntN.{negsuc}
 use Rattle.rfc3550.proofs.Prelude.{ℕ, _≡_, refl, List, [], _∷_, _++_, length, replicate}
 use Rattle.rfc3550.specs.Answer.{ok, need, _>>_, _>>=_}
 use Rattle.rfc3550.specs.Bytes.{be, val, put, get, sum}
@@ -8,7 +9,7 @@ use Rattle.rfc3550.specs.Read.{kindOf, versionIn, padded, lowIn, typeIn,
 use Rattle.rfc3550.specs.Compound.{readPacket, readPackets, readCompound}
 
 abbrev block : Block
-block = record { ssrc = 0xCAFEBABE; fraction = 0x40; lost = 0x123456; sequence = 0x00010203; jitter = 77; lsr = 0x89ABCDEF; dlsr = 65536 }
+block = record { ssrc = 0xCAFEBABE; fraction = 0x40; lost = negsuc 0x123455; sequence = 0x00010203; jitter = 77; lsr = 0x89ABCDEF; dlsr = 65536 }
 
 abbrev reports : List Packet
 reports = replicate 4 (record { content = report (receiver 0x01020304) (replicate 31 block) []; padding = [] })

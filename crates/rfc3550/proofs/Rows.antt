@@ -1,10 +1,12 @@
--- Document 01's trial rows marked ★, as one list by one theorem.
+-- Document 01's trial rows marked ★ and row 10 by document 02, order 1, as one list by one theorem.
+use lib.IntN.{pos, negsuc}
 use Rattle.rfc3550.proofs.Prelude.{ℕ, _≡_, refl, List, [], _∷_, _++_, replicate}
 use Rattle.rfc3550.specs.Answer.{Answer, ok, refuse, need, _>>_, _>>=_}
 use Rattle.rfc3550.specs.Bytes.{be, val, put, get, sum, store}
+use Rattle.rfc3550.specs.Loss.{Loss, lossBits, lossIn, lossShown}
 use Rattle.rfc3550.specs.Packet.{item, receiver, Content, report, sdes, Packet, All, blocksBytes, itemsBytes, chunkBytes, chunksBytes, contentBytes, layout}
 use Rattle.rfc3550.specs.Read.{Kind, RR, SDES, kindOf, versionIn, padded, lowIn, typeIn, stated, paddingCount, paddingFits, checkHeader, readBlocks, readReport, itemOf, readItem, readFill, readItems, readChunk, readChunks, readContent, readAs}
-use Rattle.rfc3550.specs.Write.{Given, giveBye, ownTests, tests, calculateSize, room, write}
+use Rattle.rfc3550.specs.Write.{Given, giveReport, giveBye, lentBlocks, lossTests, ownTests, tests, calculateSize, room, write}
 use Rattle.rfc3550.specs.Compound.{readPacket, readPackets, readCompound}
 
 pub data Row : Type 0 where
@@ -32,6 +34,16 @@ rr = plain (report (receiver 0x11223344) [] [])
 abbrev cname : Packet
 cname = plain (sdes (record { ssrc = 0x11223344; items = item 1 (0x61 ∷ 0x40 ∷ 0x62 ∷ []) ∷ [] } ∷ []))
 
+-- row 10: a report of one block with this loss, and its bytes with the loss's three
+abbrev lost : Loss → Given
+lost l = giveReport (receiver 0x11223344) (record { fractions = 5 ∷ []; losses = l ∷ []; words = 1 ∷ 2 ∷ 3 ∷ 4 ∷ 5 ∷ [] }) 0
+
+abbrev row10 : ℕ → ℕ → ℕ → List ℕ
+row10 a b c = 0x81 ∷ 0xC9 ∷ 0 ∷ 7 ∷ 0x11 ∷ 0x22 ∷ 0x33 ∷ 0x44 ∷ 0 ∷ 0 ∷ 0 ∷ 1 ∷ 5 ∷ a ∷ b ∷ c ∷ 0 ∷ 0 ∷ 0 ∷ 2 ∷ 0 ∷ 0 ∷ 0 ∷ 3 ∷ 0 ∷ 0 ∷ 0 ∷ 4 ∷ 0 ∷ 0 ∷ 0 ∷ 5 ∷ []
+
+abbrev space : List ℕ
+space = replicate 32 0xEE
+
 abbrev rows : List Row
 rows =
     reads RR row1 (ok rr)
@@ -51,8 +63,14 @@ rows =
     ∷ reads SDES (0x81 ∷ 0xCA ∷ 0x00 ∷ 0x01 ∷ 0x00 ∷ 0x00 ∷ 0x00 ∷ 0x01 ∷ []) (refuse 2 8 4)
     ∷ writes (giveBye (0x11223344 ∷ []) (0x61 ∷ 0x62 ∷ []) 4) (replicate 18 0xEE)
     (ok 16, 0xA1 ∷ 0xCB ∷ 0x00 ∷ 0x03 ∷ 0x11 ∷ 0x22 ∷ 0x33 ∷ 0x44 ∷ 0x02 ∷ 0x61 ∷ 0x62 ∷ 0x00 ∷ 0x00 ∷ 0x00 ∷ 0x00 ∷ 0x04 ∷ 0xEE ∷ 0xEE ∷ [])
+    ∷ writes (lost (pos 8388607)) space (ok 32, row10 0x7F 0xFF 0xFF)
+    ∷ writes (lost (negsuc 8388607)) space (ok 32, row10 0x80 0 0)
+    ∷ writes (lost (negsuc 0)) space (ok 32, row10 0xFF 0xFF 0xFF)
+    ∷ writes (lost (pos 0)) space (ok 32, row10 0 0 0)
+    ∷ writes (lost (pos 8388608)) space (refuse 17 8388608 8388607, space)
+    ∷ writes (lost (negsuc 8388608)) space (refuse 17 4286578687 8388607, space)
     ∷ []
 
 pub rows-hold : All Holds rows
-unfolding be val put get sum store blocksBytes itemsBytes chunkBytes chunksBytes contentBytes layout kindOf versionIn padded lowIn typeIn stated paddingCount paddingFits checkHeader readBlocks readReport itemOf readItem readFill readItems readChunk readChunks readContent readAs ownTests tests calculateSize room write readPacket readPackets readCompound need _>>_ _>>=_
-rows-hold = (refl, (refl, (refl, (refl, (refl, (refl, (refl, (refl, (refl, (refl, (refl, (refl, tt))))))))))))
+unfolding be val put get sum store lossBits lossIn lossShown lentBlocks lossTests blocksBytes itemsBytes chunkBytes chunksBytes contentBytes layout kindOf versionIn padded lowIn typeIn stated paddingCount paddingFits checkHeader readBlocks readReport itemOf readItem readFill readItems readChunk readChunks readContent readAs ownTests tests calculateSize room write readPacket readPackets readCompound need _>>_ _>>=_
+rows-hold = (refl, (refl, (refl, (refl, (refl, (refl, (refl, (refl, (refl, (refl, (refl, (refl, (refl, (refl, (refl, (refl, (refl, (refl, tt))))))))))))))))))

@@ -7,7 +7,7 @@ use Rattle.rfc3550.specs.Packet.{Block, Reporter, receiver, sender, item
 use Rattle.rfc3550.specs.Write.{BlockLists, lentBlocks, blocksLent, wordsOf, listsOf, LentItem, LentChunk, lentItems, lentChunks, Given, giveReport, giveSdes, giveBye, giveApp, Typed, paddingBytes, leavingOf, itemGiven, itemsGiven, chunkGiven, chunksGiven, nameGiven, contentGiven, paddingGiven, packetGiven, paddingOk, blocksAgree, lossTests, itemTests, itemsTests, ownTests, sizeGiven, tests, calculateSize, itemSize, chunkSize, room, written, write, writeItem, writeChunk}
 use Rattle.rfc3550.proofs.Answers.{need-inv, need-ok, then-inv, bind-elim, ok-injective, and-inv}
 use Rattle.rfc3550.proofs.Bytes.{bytes-take, bytes-drop, bytes-append, bytes-zeros, length-be, length-put, sum-replicate, store-front}
-use Rattle.rfc3550.proofs.Losses.{lossBits-lt, lossIn-fits}
+use Rattle.rfc3550.proofs.Losses.{noLoss-fits, lossBits-lt, lossIn-fits}
 use Rattle.rfc3550.proofs.Blocks.{length-blocksBytes}
 use Rattle.rfc3550.proofs.Packets.{length-layout}
 
@@ -31,7 +31,7 @@ padding-valid (suc k) o =
 -- a loss that passed, or that was not lent
 loss-fits : (xs : List Loss) → lossTests xs ≡ ok tt → LossFits (getD xs 0 noLoss) × (lossTests (drop 1 xs) ≡ ok tt)
 unfolding lossTests
-loss-fits [] e = (omega arith, refl)
+loss-fits [] e = (noLoss-fits, refl)
 loss-fits (x ∷ xs) e = let a = need-inv _ _ _ _ _ e in (lossIn-fits x (a .0), a .1)
 
 word-fits : (ws : List ℕ) (i : ℕ) → Fits (replicate (length ws) 4) ws → getD ws i 0 < 256 ^ 4

@@ -1,38 +1,50 @@
--- Cumulative lost, behind its names: unsigned, 24 bits (document 01, "Block, 24 bytes").
-use Prim.Native.Nat.{ℕ, _%_, _<_, _≤_}
+-- Cumulative lost, behind its names: signed, from −8,388,608 to 8,388,607, in 24 bits (document 02, order 1).
+use Prim.Native.Nat.{ℕ, suc, _-_, _%_, _<_, _≤_}
 use mathlib.Core.Bool.{Bool}
 use lib.Dec.{leb, ltb}
+use lib.IntN.{ℤ, pos, negsuc, _-ℤ_}
+use Rattle.rfc3550.specs.Answer.{pick}
 
+-- `pos n` is n, and `negsuc n` is −(n + 1)
 abbrev pub Loss : Type 0
-Loss = ℕ
+Loss = ℤ
 
 -- what stands for a loss that was not lent
 abbrev pub noLoss : Loss
-noLoss = 0
+noLoss = pos 0
+
+-- a number modulo m, from 0 to m − 1
+abbrev pub modulo : ℤ → ℕ → ℕ
+modulo (pos n) m = n % m
+modulo (negsuc n) m = m - suc (n % m)
 
 -- the field of 24 bits, and the number that it is read as
 unfoldable pub lossBits : Loss → ℕ
-lossBits l = l % 16777216
+lossBits l = modulo l 16777216
 
 unfoldable pub lossOf : ℕ → Loss
-lossOf n = n
+lossOf n = pick (ltb n 8388608) (pos n) (pos n -ℤ pos 16777216)
 
 abbrev pub LossFits : Loss → Type 0
-LossFits l = l ≤ 16777215
+LossFits (pos n) = n ≤ 8388607
+LossFits (negsuc n) = suc n ≤ 8388608
 
 -- what the type of a call's argument says of it
 abbrev pub LossTyped : Loss → Type 0
-LossTyped l = l < 4294967296
+LossTyped (pos n) = n < 2147483648
+LossTyped (negsuc n) = suc n ≤ 2147483648
 
--- 17: the writer's test, the book's, and the details
+-- 17: the writer's test, the book's, and the details, the low 32 bits and the most
 unfoldable pub lossIn : Loss → Bool
-lossIn l = leb l 16777215
+lossIn (pos n) = leb n 8388607
+lossIn (negsuc n) = leb (suc n) 8388608
 
 unfoldable pub lossOver : Loss → Bool
-lossOver l = ltb 16777215 l
+lossOver (pos n) = ltb 8388607 n
+lossOver (negsuc n) = ltb 8388608 (suc n)
 
 unfoldable pub lossShown : Loss → ℕ
-lossShown l = l
+lossShown l = modulo l 4294967296
 
 abbrev pub lossMost : ℕ
-lossMost = 16777215
+lossMost = 8388607

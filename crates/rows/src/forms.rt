@@ -20,12 +20,16 @@ fn word(list: &[u32], i: usize) -> u32 {
     if i < list.len() { list[i] } else { 0 }
 }
 
-fn record(fractions: &[u8], losses: &[u32], words: &[u32], i: usize) -> ReportBlock {
+fn loss(list: &[i32], i: usize) -> i32 {
+    if i < list.len() { list[i] } else { 0 }
+}
+
+fn record(fractions: &[u8], losses: &[i32], words: &[u32], i: usize) -> ReportBlock {
     let at = i % 33 * 5;
     ReportBlock {
         ssrc: word(words, at),
         fraction_lost: if i < fractions.len() { fractions[i] } else { 0 },
-        cumulative_lost: word(losses, i),
+        cumulative_lost: loss(losses, i),
         extended_sequence_number: word(words, at + 1),
         interarrival_jitter: word(words, at + 2),
         last_sender_report_timestamp: word(words, at + 3),
@@ -33,7 +37,7 @@ fn record(fractions: &[u8], losses: &[u32], words: &[u32], i: usize) -> ReportBl
     }
 }
 
-fn records(fractions: &[u8], losses: &[u32], words: &[u32]) -> [ReportBlock; 33] {
+fn records(fractions: &[u8], losses: &[i32], words: &[u32]) -> [ReportBlock; 33] {
     let mut list = [record(fractions, losses, words, 0); 33];
     let mut i: usize = 0;
     while i < 33 {
@@ -77,7 +81,7 @@ pub fn report(
     reporter: Reporter,
     padding: u64,
     fractions: &[u8],
-    losses: &[u32],
+    losses: &[i32],
     words: &[u32],
 ) {
     let n = lists::least(fractions.len(), 33);

@@ -1,10 +1,12 @@
-// The numbers of a row, each in two lists; parts of lists, from one place to another, cut where a list ends.
+// The numbers of a row, each in three lists; parts of lists, from one place to another, cut where a list ends.
 ghost use Prim.Native.Nat.{_≤_};
 ghost use Rattle.io.specs.Counts.{Counts};
 
 pub type Numbers = [u64; 4096];
 
 pub type Words = [u32; 4096];
+
+pub type Losses = [i32; 4096];
 
 // The least of two numbers.
 pub fn least(a: usize, b: usize) -> usize
@@ -27,6 +29,13 @@ pub fn bytes(list: &[u8], from: u64, to: u64) -> &[u8] {
 }
 
 pub fn words(list: &Words, from: u64, to: u64) -> &[u32] {
+    let all = &list[..];
+    let end = least(to as usize, all.len());
+    let at = least(from as usize, end);
+    &all[at..end]
+}
+
+pub fn losses(list: &Losses, from: u64, to: u64) -> &[i32] {
     let all = &list[..];
     let end = least(to as usize, all.len());
     let at = least(from as usize, end);

@@ -10,6 +10,7 @@ mod read;
 mod text;
 mod write;
 
+use lists::Losses;
 use lists::Numbers;
 use lists::Words;
 use print::print;
@@ -30,14 +31,15 @@ fn row(
     out: &mut [u8],
     n: &mut Numbers,
     w: &mut Words,
+    l: &mut Losses,
     space: &mut [u8],
 ) {
-    let len = text::parse(text::rest(text::rest(line)), n, w, space);
+    let len = text::parse(text::rest(text::rest(line)), n, w, l, space);
     let room = lists::limited(lists::at(n, 0), out);
     if op < 37 {
         read::row(op, &space[..len], lists::at(n, 0), lists::at(n, 1));
     } else {
-        write::row(op, state, &mut out[..room], n, w, &space[..len]);
+        write::row(op, state, &mut out[..room], n, w, l, &space[..len]);
     }
 }
 
@@ -47,6 +49,7 @@ fn rows(
     out: &mut [u8],
     n: &mut Numbers,
     w: &mut Words,
+    l: &mut Losses,
     space: &mut [u8],
 ) {
     let first = text::find(lines, 0, b'\n');
@@ -55,7 +58,7 @@ fn rows(
     while at < lines.len() {
         let end = text::find(lines, at, b'\n');
         let line = &lines[at..end];
-        row(asked(names, line), line, state, out, n, w, space);
+        row(asked(names, line), line, state, out, n, w, l, space);
         print(b"\n");
         at = end + 1;
     }
@@ -73,8 +76,17 @@ fn start(lines: &[u8]) {
     let mut space = large();
     let mut n = [0u64; 4096];
     let mut w = [0u32; 4096];
+    let mut l = [0i32; 4096];
     let mut state = [0u64; 4];
-    rows(lines, &mut state, &mut out, &mut n, &mut w, &mut space);
+    rows(
+        lines,
+        &mut state,
+        &mut out,
+        &mut n,
+        &mut w,
+        &mut l,
+        &mut space,
+    );
 }
 
 fn main() {

@@ -1,5 +1,6 @@
 // Answers as text, on standard output.
 use super::lists;
+use report::loss;
 use rtcp::write_result::RtcpWritten;
 
 pub fn print(text: &[u8]) {
@@ -9,6 +10,17 @@ pub fn print(text: &[u8]) {
 pub fn one(a: u64) {
     print(b" ");
     io::print_decimal(1, a);
+}
+
+// A number with its sign.
+pub fn signed(a: i32) {
+    let magnitude = loss::loss_magnitude(a) as u64;
+    if a < 0 {
+        print(b" -");
+        io::print_decimal(1, magnitude + 1);
+        return;
+    }
+    one(magnitude);
 }
 
 pub fn two(a: u64, b: u64) {

@@ -3,6 +3,7 @@ use super::forms;
 use super::print::bytes;
 use super::print::four;
 use super::print::one;
+use super::print::signed;
 use super::print::three;
 use super::print::two;
 use app::App;
@@ -22,7 +23,8 @@ use sdes_chunk::item::SdesItem;
 
 fn block(r: RtcpBlock) {
     three(r.number, r.first, r.second);
-    three(r.ssrc, r.fraction_lost, r.cumulative_lost);
+    two(r.ssrc, r.fraction_lost);
+    signed(r.cumulative_lost);
     two(r.extended_sequence_number, r.interarrival_jitter);
     one(r.last_sender_report_timestamp);
     one(r.delay_since_last_sender_report_timestamp);

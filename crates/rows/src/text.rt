@@ -1,5 +1,6 @@
 // The words of a row, which one blank sets apart, and what they stand for.
 use super::lists;
+use super::lists::Losses;
 use super::lists::Numbers;
 use super::lists::Words;
 ghost use Prim.Native.Nat.{_<_, _≤_};
@@ -145,9 +146,32 @@ fn put_bytes(word: &[u8], out: &mut [u8], from: usize) -> usize
     repeat(out, from, last, number(tail(word)))
 }
 
+// The digits of a number, behind its sign.
+fn digits(word: &[u8]) -> &[u8] {
+    if first(word) == b'-' {
+        return tail(word);
+    }
+    &word[0..]
+}
+
+// A number with its sign; 31 bits of it.
+fn signed(word: &[u8]) -> i32 {
+    let n = number(digits(word));
+    if first(word) == b'-' {
+        return !((std::num::wrapping_sub_u64(n, 1) % 2147483648) as i32);
+    }
+    (n % 2147483648) as i32
+}
+
 // Any other word is a number.
-fn put_number(word: &[u8], numbers: &mut Numbers, words: &mut Words, i: usize) -> usize {
-    let digit = first(word);
+fn put_number(
+    word: &[u8],
+    numbers: &mut Numbers,
+    words: &mut Words,
+    losses: &mut Losses,
+    i: usize,
+) -> usize {
+    let digit = first(digits(word));
     if digit < b'0' {
         return i;
     }
@@ -157,14 +181,22 @@ fn put_number(word: &[u8], numbers: &mut Numbers, words: &mut Words, i: usize) -
     if 4095 < i {
         return i;
     }
-    let n = number(word);
+    let n = number(digits(word));
     numbers[i] = n;
     words[i] = (n % 4294967296) as u32;
+    let loss = signed(word);
+    losses[i] = loss;
     i + 1
 }
 
-// Puts the words of a row into lists, a number into two, and says how many bytes there are.
-pub fn parse(line: &[u8], numbers: &mut Numbers, words: &mut Words, bytes: &mut [u8]) -> usize
+// Puts the words of a row into lists, a number into three, and says how many bytes there are.
+pub fn parse(
+    line: &[u8],
+    numbers: &mut Numbers,
+    words: &mut Words,
+    losses: &mut Losses,
+    bytes: &mut [u8],
+) -> usize
     ensures { λ r. ⌜ Counts r (now (bytes .exit)) ⌝ }
 {
     let mut n = 0;
@@ -173,7 +205,7 @@ pub fn parse(line: &[u8], numbers: &mut Numbers, words: &mut Words, bytes: &mut 
     while at < line.len() {
         let end = find(line, at, b' ');
         n = put_bytes(&line[at..end], bytes, n);
-        i = put_number(&line[at..end], numbers, words, i);
+        i = put_number(&line[at..end], numbers, words, losses, i);
         at = end + 1;
     }
     n

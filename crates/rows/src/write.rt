@@ -2,6 +2,7 @@
 // A list of a row is named by the place where it ends, among the row's numbers or among its bytes.
 use super::forms;
 use super::lists;
+use super::lists::Losses;
 use super::lists::Numbers;
 use super::lists::Words;
 use super::lists::at;
@@ -32,11 +33,19 @@ fn called(r: RtcpCall, state: &[u64; 4]) {
 }
 
 // `ROOM PADDING SSRC LOSSES WORDS`, then these; the bytes are the fractions.
-fn rr(op: usize, state: &mut [u64; 4], buf: &mut [u8], n: &Numbers, w: &Words, s: &[u8]) {
+fn rr(
+    op: usize,
+    state: &mut [u64; 4],
+    buf: &mut [u8],
+    n: &Numbers,
+    w: &Words,
+    l: &Losses,
+    s: &[u8],
+) {
     let padding = at(n, 1);
     let ssrc = word(w, 2);
     let end = at(n, 3);
-    let losses = lists::words(w, 5, end);
+    let losses = lists::losses(l, 5, end);
     let words = lists::words(w, end, at(n, 4));
     if op == 39 {
         written(write_report::rtcp_rr_size(s, losses, words, padding));
@@ -60,7 +69,7 @@ fn sender_info(n: &Numbers, w: &Words) -> SenderInfo {
     }
 }
 
-fn sr_write(buf: &mut [u8], i: SenderInfo, s: &[u8], losses: &[u32], words: &[u32], padding: u64) {
+fn sr_write(buf: &mut [u8], i: SenderInfo, s: &[u8], losses: &[i32], words: &[u32], padding: u64) {
     written(write_report::rtcp_sr_size(s, losses, words, padding));
     written(write_report::rtcp_sr_write(
         buf,
@@ -81,7 +90,7 @@ fn sr_add(
     buf: &mut [u8],
     i: SenderInfo,
     s: &[u8],
-    losses: &[u32],
+    losses: &[i32],
     words: &[u32],
     padding: u64,
 ) {
@@ -102,11 +111,19 @@ fn sr_add(
 }
 
 // `ROOM PADDING SSRC NTP RTP PACKETS OCTETS LOSSES WORDS`, then these.
-fn sr(op: usize, state: &mut [u64; 4], buf: &mut [u8], n: &Numbers, w: &Words, s: &[u8]) {
+fn sr(
+    op: usize,
+    state: &mut [u64; 4],
+    buf: &mut [u8],
+    n: &Numbers,
+    w: &Words,
+    l: &Losses,
+    s: &[u8],
+) {
     let padding = at(n, 1);
     let info = sender_info(n, w);
     let end = at(n, 7);
-    let losses = lists::words(w, 9, end);
+    let losses = lists::losses(l, 9, end);
     let words = lists::words(w, end, at(n, 8));
     match op {
         40 => sr_write(buf, info, s, losses, words, padding),
@@ -242,16 +259,32 @@ fn writer(op: usize, state: &mut [u64; 4], n: &Numbers) {
     }
 }
 
-fn report(op: usize, state: &mut [u64; 4], buf: &mut [u8], n: &Numbers, w: &Words, s: &[u8]) {
+fn report(
+    op: usize,
+    state: &mut [u64; 4],
+    buf: &mut [u8],
+    n: &Numbers,
+    w: &Words,
+    l: &Losses,
+    s: &[u8],
+) {
     match op {
-        39 | 44 | 47 | 52 => rr(op, state, buf, n, w, s),
-        40 | 45 | 48 | 53 => sr(op, state, buf, n, w, s),
+        39 | 44 | 47 | 52 => rr(op, state, buf, n, w, l, s),
+        40 | 45 | 48 | 53 => sr(op, state, buf, n, w, l, s),
         _ => print(b" no such operation"),
     }
 }
 
 // 37 chunk_write, 38 item_write; rr, sr, sdes, bye, app: from 39 on written, from 47 on added; 44, 45 and 52, 53 reports of records.
-fn run(op: usize, state: &mut [u64; 4], buf: &mut [u8], n: &Numbers, w: &Words, s: &[u8]) {
+fn run(
+    op: usize,
+    state: &mut [u64; 4],
+    buf: &mut [u8],
+    n: &Numbers,
+    w: &Words,
+    l: &Losses,
+    s: &[u8],
+) {
     match op {
         37 => chunk(buf, n, w, s),
         38 => item(buf, n, s),
@@ -259,7 +292,7 @@ fn run(op: usize, state: &mut [u64; 4], buf: &mut [u8], n: &Numbers, w: &Words, 
         42 | 50 => bye(op, state, buf, n, w, s),
         43 | 51 => app(op, state, buf, n, w, s),
         46 | 54 | 55 => writer(op, state, n),
-        _ => report(op, state, buf, n, w, s),
+        _ => report(op, state, buf, n, w, l, s),
     }
 }
 
@@ -268,8 +301,16 @@ fn stale(op: usize) -> u64 {
     if op < 47 { 262400 } else { 0 }
 }
 
-pub fn row(op: usize, state: &mut [u64; 4], buf: &mut [u8], n: &Numbers, w: &Words, s: &[u8]) {
+pub fn row(
+    op: usize,
+    state: &mut [u64; 4],
+    buf: &mut [u8],
+    n: &Numbers,
+    w: &Words,
+    l: &Losses,
+    s: &[u8],
+) {
     text::repeat(buf, 0, 0x5A, stale(op));
-    run(op, state, buf, n, w, s);
+    run(op, state, buf, n, w, l, s);
     bytes(buf);
 }

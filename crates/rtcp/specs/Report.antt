@@ -2,6 +2,7 @@
 use Prim.Native.Nat.{ℕ, _-_}
 use mathlib.Core.List.{List}
 use Rattle.rfc3550.specs.Answer.{Answer, ok, refused}
+use Rattle.rfc3550.specs.Loss.{Loss, noLoss}
 use Rattle.report.specs.declared.report_block.ReportBlock.{ReportBlock}
 use Rattle.report.specs.declared.receiver.ReceiverReport.{ReceiverReport}
 use Rattle.report.specs.declared.sender.SenderReport.{SenderReport}
@@ -9,7 +10,7 @@ use Rattle.rtcp.specs.declared.read_report.RtcpBlock.{RtcpBlock}
 use Rattle.rtcp.specs.declared.read_report.RtcpRr.{RtcpRr}
 use Rattle.rtcp.specs.declared.read_report.RtcpSr.{RtcpSr}
 use Rattle.rtcp.specs.declared.write_result.RtcpWritten.{RtcpWritten}
-use Rattle.rtcp.specs.Result.{numberOf, firstOf, secondOf, field}
+use Rattle.rtcp.specs.Result.{numberOf, firstOf, secondOf, fieldOr, field}
 use Rattle.rtcp.specs.WriteResult.{writtenResult}
 
 abbrev pub blockResult : Answer ReportBlock → RtcpBlock
@@ -20,7 +21,7 @@ blockResult a =
       second = secondOf a;
       ssrc = field (λ b. b .ssrc) a;
       «fraction_lost» = field (λ b. b .«fraction_lost») a;
-      «cumulative_lost» = field (λ b. b .«cumulative_lost») a;
+      «cumulative_lost» = fieldOr noLoss (λ b. b .«cumulative_lost») a;
       «extended_sequence_number» = field (λ b. b .«extended_sequence_number») a;
       «interarrival_jitter» = field (λ b. b .«interarrival_jitter») a;
       «last_sender_report_timestamp» = field (λ b. b .«last_sender_report_timestamp») a;
@@ -61,7 +62,7 @@ srResult a =
 
 -- ---- blocks in three lists, by themselves and with the report in one call
 
-abbrev pub blocksOut : Answer ℕ × List ℕ × List ℕ × List ℕ → RtcpWritten × List ℕ × List ℕ × List ℕ
+abbrev pub blocksOut : Answer ℕ × List ℕ × List Loss × List ℕ → RtcpWritten × List ℕ × List Loss × List ℕ
 blocksOut w = (writtenResult (w .0), w .1, w .2, w .3)
 
 -- the report, or why its blocks are not handed over
@@ -69,5 +70,5 @@ abbrev pub readOut : {A R : Type 0} → (Answer A → R) → Answer A → Answer
 readOut result a (ok n) = result a
 readOut result a (refused e) = result (refused e)
 
-abbrev pub readBoth : {A R : Type 0} → (Answer A → R) → Answer A → Answer ℕ × List ℕ × List ℕ × List ℕ → R × List ℕ × List ℕ × List ℕ
+abbrev pub readBoth : {A R : Type 0} → (Answer A → R) → Answer A → Answer ℕ × List ℕ × List Loss × List ℕ → R × List ℕ × List Loss × List ℕ
 readBoth result a w = (readOut result a (w .0), w .1, w .2, w .3)

@@ -24,9 +24,12 @@ module _ {A : Type 0} where
   secondOf (refused r) = secondIn r
 
   -- a field of what is handed over
+  abbrev pub fieldOr : {B : Type 0} → B → (A → B) → Answer A → B
+  fieldOr none f (ok a) = f a
+  fieldOr none f (refused r) = none
+
   abbrev pub field : (A → ℕ) → Answer A → ℕ
-  field f (ok a) = f a
-  field f (refused r) = 0
+  field f a = fieldOr 0 f a
 
 -- a bool as C gets it
 abbrev pub bit : Bool → ℕ

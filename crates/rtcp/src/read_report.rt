@@ -24,7 +24,7 @@ pub struct RtcpBlock {
     pub second: u64,
     pub ssrc: u64,
     pub fraction_lost: u64,
-    pub cumulative_lost: u64,
+    pub cumulative_lost: i32,
     pub extended_sequence_number: u64,
     pub interarrival_jitter: u64,
     pub last_sender_report_timestamp: u64,
@@ -72,7 +72,7 @@ impl RtcpBlock {
                 second: 0,
                 ssrc: block.ssrc as u64,
                 fraction_lost: block.fraction_lost as u64,
-                cumulative_lost: block.cumulative_lost as u64,
+                cumulative_lost: block.cumulative_lost,
                 extended_sequence_number: block.extended_sequence_number as u64,
                 interarrival_jitter: block.interarrival_jitter as u64,
                 last_sender_report_timestamp: block.last_sender_report_timestamp as u64,
@@ -260,7 +260,7 @@ pub extern "C" fn rtcp_sr_report_block(s: &[u8], i: u64) -> RtcpBlock
 pub extern "C" fn rtcp_rr_report_blocks(
     s: &[u8],
     fractions: &mut [u8],
-    losses: &mut [u32],
+    losses: &mut [i32],
     words: &mut [u32],
 ) -> RtcpWritten
     ensures { λ r. ⌜ (r, now (fractions .exit), now (losses .exit), now (words .exit)) ≡ blocksOut (layBlocks (mapOk reportBlocks (readAs RR (now (s .entry)))) (now (fractions .entry)) (now (losses .entry)) (now (words .entry))) ⌝ }
@@ -272,7 +272,7 @@ pub extern "C" fn rtcp_rr_report_blocks(
 pub extern "C" fn rtcp_sr_report_blocks(
     s: &[u8],
     fractions: &mut [u8],
-    losses: &mut [u32],
+    losses: &mut [i32],
     words: &mut [u32],
 ) -> RtcpWritten
     ensures { λ r. ⌜ (r, now (fractions .exit), now (losses .exit), now (words .exit)) ≡ blocksOut (layBlocks (mapOk reportBlocks (readAs SR (now (s .entry)))) (now (fractions .entry)) (now (losses .entry)) (now (words .entry))) ⌝ }
@@ -285,7 +285,7 @@ pub extern "C" fn rtcp_sr_report_blocks(
 pub extern "C" fn rtcp_rr_read(
     s: &[u8],
     fractions: &mut [u8],
-    losses: &mut [u32],
+    losses: &mut [i32],
     words: &mut [u32],
 ) -> RtcpRr
     ensures { λ r. ⌜ (r, now (fractions .exit), now (losses .exit), now (words .exit)) ≡ readBoth rrResult (mapOk receiverView (readAs RR (now (s .entry)))) (layBlocks (mapOk reportBlocks (readAs RR (now (s .entry)))) (now (fractions .entry)) (now (losses .entry)) (now (words .entry))) ⌝ }
@@ -310,7 +310,7 @@ pub extern "C" fn rtcp_rr_read(
 pub extern "C" fn rtcp_sr_read(
     s: &[u8],
     fractions: &mut [u8],
-    losses: &mut [u32],
+    losses: &mut [i32],
     words: &mut [u32],
 ) -> RtcpSr
     ensures { λ r. ⌜ (r, now (fractions .exit), now (losses .exit), now (words .exit)) ≡ readBoth srResult (mapOk senderView (readAs SR (now (s .entry)))) (layBlocks (mapOk reportBlocks (readAs SR (now (s .entry)))) (now (fractions .entry)) (now (losses .entry)) (now (words .entry))) ⌝ }

@@ -81,7 +81,7 @@ pub extern "C" fn rtcp_writer_add_rr(
     buf: &mut [u8],
     ssrc: u32,
     fractions: &[u8],
-    losses: &[u32],
+    losses: &[i32],
     words: &[u32],
     padding: u64,
 ) -> RtcpCall
@@ -104,7 +104,7 @@ pub extern "C" fn rtcp_writer_add_sr(
     packet_count: u32,
     octet_count: u32,
     fractions: &[u8],
-    losses: &[u32],
+    losses: &[i32],
     words: &[u32],
     padding: u64,
 ) -> RtcpCall

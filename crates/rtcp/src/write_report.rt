@@ -15,7 +15,7 @@ pub extern "C" fn rtcp_rr_write(
     buf: &mut [u8],
     ssrc: u32,
     fractions: &[u8],
-    losses: &[u32],
+    losses: &[i32],
     words: &[u32],
     padding: u64,
 ) -> RtcpWritten
@@ -28,7 +28,7 @@ pub extern "C" fn rtcp_rr_write(
 #[no_mangle]
 pub extern "C" fn rtcp_rr_size(
     fractions: &[u8],
-    losses: &[u32],
+    losses: &[i32],
     words: &[u32],
     padding: u64,
 ) -> RtcpWritten
@@ -46,7 +46,7 @@ pub extern "C" fn rtcp_sr_write(
     packet_count: u32,
     octet_count: u32,
     fractions: &[u8],
-    losses: &[u32],
+    losses: &[i32],
     words: &[u32],
     padding: u64,
 ) -> RtcpWritten
@@ -66,7 +66,7 @@ pub extern "C" fn rtcp_sr_write(
 #[no_mangle]
 pub extern "C" fn rtcp_sr_size(
     fractions: &[u8],
-    losses: &[u32],
+    losses: &[i32],
     words: &[u32],
     padding: u64,
 ) -> RtcpWritten

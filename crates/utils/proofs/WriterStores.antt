@@ -125,9 +125,12 @@ puts-sets : (at k : ℕ) (bs l : List ℕ) → puts at k bs l ≡ sets l (at + k
 puts-sets at k [] l = refl
 puts-sets at k (b ∷ bs) l = puts-sets at (suc k) bs (set l (at + k) b) ∙ ap (λ (n : ℕ). sets (set l (at + k) b) n bs) (add-suc at k)
 
--- a byte and those after it, one by one
+-- a number and those after it, one by one
+pub sets-puts : (at b : ℕ) (bs l : List ℕ) → puts at 1 bs (set l at b) ≡ sets l at (b ∷ bs)
+sets-puts at b bs l = puts-sets at 1 bs (set l at b) ∙ ap (λ (n : ℕ). sets (set l at b) n bs) (add-one at)
+
 pub store-puts : (at b : ℕ) (bs l : List ℕ) → at + suc (length bs) ≤ length l → puts at 1 bs (set l at b) ≡ store at (b ∷ bs) l
-store-puts at b bs l h = puts-sets at 1 bs (set l at b) ∙ ap (λ (n : ℕ). sets (set l at b) n bs) (add-one at) ∙ store-sets at (b ∷ bs) l h
+store-puts at b bs l h = sets-puts at b bs l ∙ store-sets at (b ∷ bs) l h
 
 length-digits : (w v : ℕ) → length (digits w v) ≡ w
 length-digits zero v = refl

@@ -1,5 +1,5 @@
 //! The operations, and the loop that is measured. bench/bokyjave compiles this file too, over the crate in rust/ under the name of rtcp-types: what
-//! takes a type that differs there is a macro.
+//! takes a type that differs there is a macro, and a loss, which has a sign there, is cast.
 
 use crate::whole::{Compound, CompoundBuilder, Packet};
 use rtcp_types::prelude::*;
@@ -16,7 +16,7 @@ macro_rules! numbers {
         [
             $block.ssrc(),
             $block.fraction_lost().into(),
-            $block.cumulative_lost(),
+            $block.cumulative_lost() as u32,
             $block.extended_sequence_number(),
             $block.interarrival_jitter(),
             $block.last_sender_report_timestamp(),
@@ -243,7 +243,7 @@ fn sum_of_sdes(input: &[u8]) -> u64 {
 fn block(numbers: &[u32; 7]) -> ReportBlockBuilder {
     ReportBlock::builder(numbers[0])
         .fraction_lost(numbers[1] as u8)
-        .cumulative_lost(numbers[2])
+        .cumulative_lost(numbers[2] as _)
         .extended_sequence_number(numbers[3])
         .interarrival_jitter(numbers[4])
         .last_sender_report_timestamp(numbers[5])

@@ -9,6 +9,7 @@ use Prim.Native.Nat.{ℕ}
 use mathlib.Core.Path.{_≡_, refl}
 use mathlib.Core.Bool.{Bool, true, false}
 use mathlib.Core.List.{List, [], _∷_}
+use lib.IntN.{pos, negsuc}
 use Rattle.rfc3550.specs.Answer.{ok, refuse, need, _>>_, _>>=_, mapOk}
 use Rattle.rfc3550.specs.Bytes.{be, val, put, get, sum, store}
 use Rattle.rfc3550.specs.Loss.{lossBits, lossOf, lossIn, lossOver, lossShown}
@@ -63,11 +64,16 @@ fn list<T>(items: impl IntoIterator<Item = T>, show: impl Fn(T) -> String) -> St
     text + "[])"
 }
 
-fn numbers<T: Copy + Into<u64>>(numbers: &[T]) -> String {
-    list(numbers, |number| {
-        let number: u64 = (*number).into();
-        number.to_string()
-    })
+fn numbers<T: ToString>(numbers: &[T]) -> String {
+    list(numbers, T::to_string)
+}
+
+/// An integer: `pos n` is n, and `negsuc n` is -(n + 1).
+fn loss(loss: i32) -> String {
+    match loss {
+        0.. => format!("(pos {loss})"),
+        _ => format!("(negsuc {})", -(loss + 1)),
+    }
 }
 
 fn answer<T>(answer: &Answer<T>, show: impl Fn(&T) -> String) -> String {
@@ -95,7 +101,7 @@ fn block(block: &Block) -> String {
         "record {{ ssrc = {}; fraction = {}; lost = {}; sequence = {}; jitter = {}; lsr = {}; dlsr = {} }}",
         block.ssrc,
         block.fraction_lost,
-        block.cumulative_lost,
+        loss(block.cumulative_lost),
         block.extended_sequence,
         block.jitter,
         block.last_sr,
@@ -191,7 +197,7 @@ fn given(given: &Given) -> String {
             "(giveReport {} (record {{ fractions = {}; losses = {}; words = {} }}) {padding})",
             reporter(*ssrc, sender),
             numbers(&blocks.fractions),
-            numbers(&blocks.losses),
+            list(&blocks.losses, |lost| loss(*lost)),
             numbers(&blocks.words)
         ),
         Given::Sdes { lists, padding } => format!(

@@ -1,7 +1,7 @@
 //! Inputs by enumeration: short ones exhaustively, every length around each
 //! boundary, both sides of every limit.
 
-use crate::generate::{lengths, sdes_lists, stale_lists, STALE};
+use crate::generate::{lengths, sdes_lists, stale_lists, LOSSES, LOSSES_OUTSIDE, STALE};
 use crate::operation::Operation;
 use model::*;
 
@@ -9,6 +9,7 @@ use model::*;
 pub fn enumerate(visit: &mut dyn FnMut(Operation)) {
     headers(visit);
     reports(visit);
+    block_losses(visit);
     byes(visit);
     apps(visit);
     sdes_packets(visit);
@@ -105,6 +106,45 @@ fn reports(visit: &mut dyn FnMut(Operation)) {
     for len in 0..=50 {
         let bytes: Vec<u8> = (0..len).map(|i| 255 - i).collect();
         visit(Operation::ReadBlock(bytes));
+    }
+}
+
+/// The edges of the range, and every power of two, its negative and the numbers
+/// beside these.
+fn losses() -> Vec<i32> {
+    let mut losses = [&LOSSES[..], &LOSSES_OUTSIDE].concat();
+    for bit in 0..32 {
+        for power in [1i64 << bit, -1 << bit] {
+            let beside = [power - 1, power, power + 1];
+            losses.extend(beside.iter().filter_map(|loss| i32::try_from(*loss).ok()));
+        }
+    }
+    losses.sort_unstable();
+    losses.dedup();
+    losses
+}
+
+/// Every loss of 24 bits among these, behind any fraction, in a lone block, in the
+/// second of a report's blocks and in the lists of its blocks.
+fn block_losses(visit: &mut dyn FnMut(Operation)) {
+    for loss in losses() {
+        if !(LOSS_LEAST..=LOSS_MOST).contains(&loss) {
+            continue;
+        }
+        for fraction in [0, 0x7F, 0x80, 0xFF] {
+            let mut block = [7; 24];
+            block[4..8].copy_from_slice(&loss.to_be_bytes());
+            block[4] = fraction;
+            visit(Operation::ReadBlock(block.to_vec()));
+            for kind in [Kind::Sr, Kind::Rr] {
+                let rest = vec![!fraction; kind.least() - 4 + 24];
+                let bytes = packet(kind, 0x82, &[&rest[..], &block].concat());
+                visit(Operation::ReadAs(kind, bytes.clone()));
+                visit(Operation::ReadBlockAt(kind, bytes.clone(), 0));
+                visit(Operation::ReadBlockAt(kind, bytes.clone(), 1));
+                lists(Listing::Blocks(kind), &bytes, visit);
+            }
+        }
     }
 }
 
@@ -389,16 +429,19 @@ fn disagreeing() -> Vec<[usize; 3]> {
     lengths
 }
 
-fn report_writes(visit: &mut dyn FnMut(Operation)) {
-    let some = |lost: u32| Block {
+fn some_block(cumulative_lost: i32) -> Block {
+    Block {
         ssrc: 0x0102_0304,
         fraction_lost: 5,
-        cumulative_lost: lost,
+        cumulative_lost,
         extended_sequence: 0x0A0B_0C0D,
         jitter: 6,
         last_sr: 0x0E0F_1011,
         delay: 7,
-    };
+    }
+}
+
+fn report_writes(visit: &mut dyn FnMut(Operation)) {
     let sender = SenderInfo {
         ntp_time: 0x1122_3344_5566_7788,
         rtp_time: 1,
@@ -418,26 +461,36 @@ fn report_writes(visit: &mut dyn FnMut(Operation)) {
         for [fractions, losses, words] in disagreeing() {
             let blocks = BlockLists {
                 fractions: vec![5; fractions],
-                losses: vec![u32::MAX; losses],
+                losses: vec![i32::MAX; losses],
                 words: vec![6; words],
             };
             lent(blocks, 1);
         }
-        let mut report = |blocks: Vec<Block>, padding: u64| lent(BlockLists::of(&blocks), padding);
-        for count in 0..35 {
-            for padding in [0, 4, 3] {
-                report(vec![some(0xABCDEF); count], padding);
-            }
-        }
-        for padding in 0..=260 {
-            report(vec![some(1)], padding);
-        }
-        for bit in 0..32 {
-            for lost in [1 << bit, (1u32 << bit) - 1, u32::MAX >> bit] {
-                report(vec![some(3), some(lost), some(u32::MAX)], 0);
-            }
+        for (losses, padding) in given_losses() {
+            let blocks: Vec<Block> = losses.into_iter().map(some_block).collect();
+            lent(BlockLists::of(&blocks), padding);
         }
     }
+}
+
+/// The losses of a report's blocks, with a padding: every count of blocks, every
+/// padding, every loss.
+fn given_losses() -> Vec<(Vec<i32>, u64)> {
+    let mut given = Vec::new();
+    for count in 0..35 {
+        for padding in [0, 4, 3] {
+            given.extend([-0x54_3211, i32::MIN].map(|loss| (vec![loss; count], padding)));
+        }
+    }
+    given.extend((0..=260).map(|padding| (vec![1], padding)));
+    for loss in losses() {
+        given.extend([
+            (vec![loss], 0),
+            (vec![-3, loss], 4),
+            (vec![loss, i32::MAX], 0),
+        ]);
+    }
+    given
 }
 
 fn bye_writes(visit: &mut dyn FnMut(Operation)) {

@@ -240,7 +240,7 @@ impl Comparison {
         for (number, count) in refused {
             println!("refusal {number}: {count} inputs");
         }
-        for number in 1..=9 {
+        for number in 1..=10 {
             let count: usize = self
                 .counts
                 .values()

@@ -19,7 +19,7 @@ pub enum Operation {
     OpenItems(Vec<u8>),
     ItemStep(Vec<u8>, u64),
     /// The last part is the lists before it: three of blocks, else one.
-    List(Listing, Vec<u8>, Vec<Vec<u64>>),
+    List(Listing, Vec<u8>, Vec<Vec<i128>>),
     /// The last part of a write is the buffer before it.
     Write(Given, Vec<u8>),
     WriteChunk(ChunkLists, Vec<u8>),
@@ -45,7 +45,7 @@ pub enum Outcome {
     OpenedSdes(Answer<SdesWalk>),
     SdesStep(Answer<(Chunk, SdesWalk)>),
     ItemStep(Answer<(Item, u64)>),
-    Listed(Answer<u64>, Vec<Vec<u64>>),
+    Listed(Answer<u64>, Vec<Vec<i128>>),
     Written(Answer<u64>, Vec<u8>),
     Added(Answer<()>, Writer, Vec<u8>),
     Closed(Answer<()>, Writer),

@@ -1,4 +1,5 @@
-//! The nine rows of "Where the RFC overrides the Rust", each as a switch.
+//! The nine rows of "Where the RFC overrides the Rust", each as a switch, and a
+//! tenth: cumulative lost, which has a sign by order 1 of document 02.
 //!
 //! With no row on, the readings and writings below are the model's; with all
 //! of them on they are the Rust's. A row explains a difference on an input where
@@ -14,12 +15,9 @@ use std::fmt;
 #[derive(Clone, Copy, Debug, PartialEq, Eq, PartialOrd, Ord)]
 pub struct Rows(u16);
 
-pub const READING: Rows = Rows::of(&[1, 2, 3, 4, 5, 8]);
-pub const WRITING: Rows = Rows::of(&[6, 7, 9]);
-
 impl Rows {
     pub const NONE: Rows = Rows(0);
-    pub const ALL: Rows = Rows::of(&[1, 2, 3, 4, 5, 6, 7, 8, 9]);
+    pub const ALL: Rows = Rows::of(&[1, 2, 3, 4, 5, 6, 7, 8, 9, 10]);
 
     pub const fn of(numbers: &[u8]) -> Rows {
         let mut bits = 0;
@@ -35,8 +33,12 @@ impl Rows {
         self.0 >> number & 1 == 1
     }
 
+    pub fn without(self, number: u8) -> Rows {
+        Rows(self.0 & !(1 << number))
+    }
+
     pub fn numbers(self) -> impl Iterator<Item = u8> {
-        (1..=9).filter(move |number| self.has(*number))
+        (1..=10).filter(move |number| self.has(*number))
     }
 
     /// The sets within this one, smaller ones first.
@@ -59,15 +61,25 @@ impl fmt::Display for Rows {
 
 /// The smallest set of rows that explains what the Rust shows.
 pub fn explain(operation: &Operation, rust: &View) -> Option<Rows> {
-    let rows = match operation {
-        Operation::Write(..) | Operation::WriteChunk(..) | Operation::WriteItem(..) => WRITING,
-        _ => READING,
-    };
-    rows.subsets().into_iter().find(|rows| {
+    rows_about(operation).subsets().into_iter().find(|rows| {
         Switched(*rows)
             .view(operation)
             .is_some_and(|view| view.agrees(rust))
     })
+}
+
+/// The rows that an operation can fall under.
+fn rows_about(operation: &Operation) -> Rows {
+    match operation {
+        Operation::ReadAs(Kind::Sr | Kind::Rr, _) | Operation::ReadBlockAt(..) => {
+            Rows::of(&[1, 10])
+        }
+        Operation::ReadBlock(_) | Operation::Write(Given::Report { .. }, _) => Rows::of(&[10]),
+        Operation::Write(..) | Operation::WriteChunk(..) | Operation::WriteItem(..) => {
+            Rows::of(&[6, 7, 9])
+        }
+        _ => Rows::of(&[1, 2, 3, 4, 5, 8]),
+    }
 }
 
 /// The model with some rows as in the Rust.
@@ -79,44 +91,58 @@ impl Side for Switched {
     }
 
     fn view(&self, operation: &Operation) -> Option<View> {
-        let rows = self.0;
-        Some(match operation {
-            Operation::ReadAs(kind, bytes) => read_packet(*kind, bytes, rows),
-            Operation::ReadBlockAt(kind, bytes, index) => part_at(
-                read_packet(*kind, bytes, rows),
-                "blocks",
-                BLOCK_FIELDS,
-                *index,
-            ),
-            Operation::ReadSourceAt(bytes, index) => {
-                part_at(read_packet(Kind::Bye, bytes, rows), "sources", 1, *index)
-            }
-            Operation::ReadItem(bytes) => View::of_answer(read_item(bytes, rows), |view, item| {
-                item.show(view);
-                view.count("used", item.bytes.len());
-            }),
-            Operation::ReadPrefix(bytes) => match read_item(bytes, rows) {
-                Ok(item) if item.bytes[0] == PRIV => {
-                    let mut view = View::accepted();
-                    view.put("prefix", item.part(3, 3 + item.prefix_length()));
-                    view
-                }
-                Ok(item) => View::refused(Refusal::not_priv(item.bytes[0])),
-                Err(refusal) => View::refused(refusal),
-            },
-            Operation::ReadChunk(bytes) => {
-                View::of_answer(read_chunk(bytes, rows), |view, chunk| {
-                    chunk.show(view, rows);
-                    view.count("used", chunk.used);
-                })
-            }
-            Operation::ReadBlock(_) => View::of(operation, &operation.modelled()),
-            Operation::Write(given, before) => write_packet(given, before, rows),
-            Operation::WriteChunk(lists, before) => write_chunk(lists, before, rows),
-            Operation::WriteItem(item, before) => write_item(item, before, rows),
-            _ => return None,
-        })
+        let mut view = switched(operation, self.0)?;
+        if self.0.has(10) {
+            show_loss_bits(&mut view);
+        }
+        Some(view)
     }
+}
+
+/// Row 10: the Rust shows the 24 bits of a loss.
+fn show_loss_bits(view: &mut View) {
+    for (name, value) in &mut view.fields {
+        if let ("cumulative_lost", Value::Number(number)) = (*name, value) {
+            *number = number.rem_euclid(1 << 24);
+        }
+    }
+}
+
+fn switched(operation: &Operation, rows: Rows) -> Option<View> {
+    Some(match operation {
+        Operation::ReadAs(kind, bytes) => read_packet(*kind, bytes, rows),
+        Operation::ReadBlockAt(kind, bytes, index) => part_at(
+            read_packet(*kind, bytes, rows),
+            "blocks",
+            BLOCK_FIELDS,
+            *index,
+        ),
+        Operation::ReadSourceAt(bytes, index) => {
+            part_at(read_packet(Kind::Bye, bytes, rows), "sources", 1, *index)
+        }
+        Operation::ReadItem(bytes) => View::of_answer(read_item(bytes, rows), |view, item| {
+            item.show(view);
+            view.count("used", item.bytes.len());
+        }),
+        Operation::ReadPrefix(bytes) => match read_item(bytes, rows) {
+            Ok(item) if item.bytes[0] == PRIV => {
+                let mut view = View::accepted();
+                view.put("prefix", item.part(3, 3 + item.prefix_length()));
+                view
+            }
+            Ok(item) => View::refused(Refusal::not_priv(item.bytes[0])),
+            Err(refusal) => View::refused(refusal),
+        },
+        Operation::ReadChunk(bytes) => View::of_answer(read_chunk(bytes, rows), |view, chunk| {
+            chunk.show(view, rows);
+            view.count("used", chunk.used);
+        }),
+        Operation::ReadBlock(_) => View::of(operation, &operation.modelled()),
+        Operation::Write(given, before) => write_packet(given, before, rows),
+        Operation::WriteChunk(lists, before) => write_chunk(lists, before, rows),
+        Operation::WriteItem(item, before) => write_item(item, before, rows),
+        _ => return None,
+    })
 }
 
 // ---- reading
@@ -389,7 +415,7 @@ fn part_at(packet: View, list: &str, fields: usize, index: u64) -> View {
     let Value::Number(count) = packet.fields[at].1 else {
         return packet;
     };
-    if index >= count {
+    if i128::from(index) >= count {
         return View::refused(Refusal::NOTHING_LEFT);
     }
     let start = at + 1 + index as usize * fields;
@@ -402,7 +428,8 @@ fn part_at(packet: View, list: &str, fields: usize, index: u64) -> View {
 // ---- writing
 
 fn write_packet(given: &Given, before: &[u8], rows: Rows) -> View {
-    let bytes = before_limit(size(&without_zero_types(given, rows)))
+    let bytes = before_limit(size(&allowed(given, rows)))
+        .map_err(|refusal| loss_limit(refusal, rows))
         .map(|()| layout(&written_packet(given)))
         .and_then(|bytes| limited(bytes, 262_144, rows));
     let mut view = put(bytes, before);
@@ -459,15 +486,42 @@ fn limited(bytes: Vec<u8>, limit: usize, rows: Rows) -> Answer<Vec<u8>> {
 /// An item type with the limits that the Rust has for type 0.
 const OTHER_TYPE: u8 = 2;
 
-/// Row 9: the Rust takes item type 0 as any other.
-fn without_zero_types(given: &Given, rows: Rows) -> Given {
+/// The packet with what the Rust allows put for what is refused here.
+fn allowed(given: &Given, rows: Rows) -> Given {
     let mut given = given.clone();
-    if let Given::Sdes { lists, .. } = &mut given {
-        without_zero_type(&mut lists.items, rows);
+    match &mut given {
+        Given::Sdes { lists, .. } => without_zero_type(&mut lists.items, rows),
+        Given::Report { blocks, .. } if rows.has(10) => within_range(&mut blocks.losses),
+        _ => {}
     }
     given
 }
 
+/// The Rust's greatest loss.
+const UNSIGNED_MOST: i32 = 16_777_215;
+
+/// Row 10: the Rust writes a loss up to 16,777,215. The number less 2^24 is in the
+/// range here.
+fn within_range(losses: &mut [i32]) {
+    for loss in losses {
+        if (LOSS_MOST + 1..=UNSIGNED_MOST).contains(loss) {
+            *loss -= UNSIGNED_MOST + 1;
+        }
+    }
+}
+
+/// Row 10: the Rust names its own limit.
+fn loss_limit(refusal: Refusal, rows: Rows) -> Refusal {
+    match refusal.number {
+        17 if rows.has(10) => Refusal {
+            second: UNSIGNED_MOST as u64,
+            ..refusal
+        },
+        _ => refusal,
+    }
+}
+
+/// Row 9: the Rust takes item type 0 as any other.
 fn without_zero_type(items: &mut ItemLists, rows: Rows) {
     if rows.has(9) {
         for item_type in &mut items.types {
@@ -489,7 +543,7 @@ fn put(bytes: Answer<Vec<u8>>, before: &[u8]) -> View {
         Ok(bytes.len() as u64)
     });
     let mut view = View::of_answer(answer, |view, size| view.number("written", size));
-    let size = size.map_or_else(Value::Refused, |size| Value::Number(size as u64));
+    let size = size.map_or_else(Value::Refused, |size| Value::Number(size as i128));
     view.put("size", size);
     view.bytes("buffer", &buffer);
     view

@@ -4,7 +4,7 @@
 use crate::operation::Operation;
 use crate::side::Side;
 use crate::view::{Value, Verdict, View};
-use model::{ChunkLists, Given, Item, ItemLists, Kind, Refusal};
+use model::{BlockLists, ChunkLists, Given, Item, ItemLists, Kind, Refusal, LOSS_LEAST, LOSS_MOST};
 use rtcp_types::prelude::*;
 use rtcp_types::sdes::{parse_chunk, parse_item};
 use rtcp_types::*;
@@ -112,7 +112,7 @@ fn panics<T>(call: impl FnOnce() -> T) -> bool {
 }
 
 fn number_or_panic(call: impl FnOnce() -> u64) -> Value {
-    caught(call).map_or(Value::Panic, Value::Number)
+    caught(call).map_or(Value::Panic, |number| Value::Number(number.into()))
 }
 
 fn bytes_or_panic<'a>(call: impl FnOnce() -> &'a [u8]) -> Value {
@@ -334,10 +334,8 @@ fn write_packet(given: &Given, before: &[u8]) -> Option<View> {
                 .rtp_timestamp(sender.rtp_time)
                 .packet_count(sender.packet_count)
                 .octet_count(sender.octet_count);
-            let blocks = blocks.split().ok()?;
-            let builder = blocks
-                .iter()
-                .map(block_builder)
+            let builder = block_builders(blocks)?
+                .into_iter()
                 .fold(builder, SenderReportBuilder::add_report_block);
             Some(written_packet(&builder, before))
         }
@@ -347,8 +345,7 @@ fn write_packet(given: &Given, before: &[u8]) -> Option<View> {
             blocks,
             ..
         } => {
-            let blocks = blocks.split().ok()?;
-            let builder = blocks.iter().map(block_builder).fold(
+            let builder = block_builders(blocks)?.into_iter().fold(
                 ReceiverReport::builder(*ssrc).padding(padding),
                 ReceiverReportBuilder::add_report_block,
             );
@@ -391,14 +388,28 @@ fn write_packet(given: &Given, before: &[u8]) -> Option<View> {
     }
 }
 
-fn block_builder(block: &model::Block) -> ReportBlockBuilder {
-    ReportBlock::builder(block.ssrc)
+fn block_builders(lists: &BlockLists) -> Option<Vec<ReportBlockBuilder>> {
+    lists.split().ok()?.iter().map(block_builder).collect()
+}
+
+fn block_builder(block: &model::Block) -> Option<ReportBlockBuilder> {
+    let builder = ReportBlock::builder(block.ssrc)
         .fraction_lost(block.fraction_lost)
-        .cumulative_lost(block.cumulative_lost)
+        .cumulative_lost(unsigned(block.cumulative_lost)?)
         .extended_sequence_number(block.extended_sequence)
         .interarrival_jitter(block.jitter)
         .last_sender_report_timestamp(block.last_sr)
-        .delay_since_last_sender_report_timestamp(block.delay)
+        .delay_since_last_sender_report_timestamp(block.delay);
+    Some(builder)
+}
+
+/// A loss as the crate takes it: its 24 bits where they stand for it here, else the
+/// number itself. A number below that range has no such form.
+fn unsigned(loss: i32) -> Option<u32> {
+    match loss {
+        LOSS_LEAST..=LOSS_MOST => Some(loss as u32 & 0xFF_FFFF),
+        _ => u32::try_from(loss).ok(),
+    }
 }
 
 fn chunk_builder(ssrc: u32, items: &[Item]) -> Option<SdesChunkBuilder<'_>> {
@@ -432,7 +443,7 @@ fn write_item(item: &Item, before: &[u8]) -> Option<View> {
 fn written_packet(builder: &impl RtcpPacketWriter, before: &[u8]) -> View {
     let size = match caught(|| builder.calculate_size()) {
         None => Value::Panic,
-        Some(Ok(size)) => Value::Number(size as u64),
+        Some(Ok(size)) => Value::Number(size as i128),
         Some(Err(error)) => Value::Refused(write_refusal(error)),
     };
     written(before, size, |buffer| builder.write_into(buffer))

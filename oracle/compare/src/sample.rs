@@ -107,11 +107,10 @@ fn asked(operation: &Operation) -> Vec<(Class, Pair)> {
         return Vec::new();
     };
     let model = Model.view(operation).expect("the model");
-    // No field of a C result is the length that row 8 is about, but a step's.
-    let rows = match explain(operation, &rust).expect("rows explain it") {
-        rows if rows == Rows::of(&[8]) => Rows::NONE,
-        rows => rows,
-    };
+    let rows = seen_in_c(
+        operation,
+        explain(operation, &rust).expect("rows explain it"),
+    );
     let view = match rows {
         Rows::NONE => filled(rust, &model),
         _ => model,
@@ -134,6 +133,19 @@ fn asked(operation: &Operation) -> Vec<(Class, Pair)> {
         }
     }
     asked
+}
+
+/// No field of a C result is the length that row 8 is about, but a step's; and the
+/// result of a whole packet has no loss.
+fn seen_in_c(operation: &Operation, rows: Rows) -> Rows {
+    let rows = match operation {
+        Operation::ReadAs(..) => rows.without(10),
+        _ => rows,
+    };
+    if rows == Rows::of(&[8]) {
+        return Rows::NONE;
+    }
+    rows
 }
 
 fn asked_to_write(operation: &Operation, row: String) -> Option<(Class, Pair)> {
@@ -204,7 +216,7 @@ fn filled(rust: View, model: &View) -> View {
 /// bytes there are the part.
 struct Fields<'a> {
     input: &'a [u8],
-    numbers: Vec<u64>,
+    numbers: Vec<i128>,
 }
 
 impl<'a> Fields<'a> {
@@ -216,8 +228,8 @@ impl<'a> Fields<'a> {
         }
     }
 
-    fn number(mut self, number: u64) -> Self {
-        self.numbers.push(number);
+    fn number(mut self, number: impl Into<i128>) -> Self {
+        self.numbers.push(number.into());
         self
     }
 
@@ -296,11 +308,7 @@ fn answer(operation: &Operation, input: &[u8], view: &View) -> String {
         }
         Operation::ReadAs(Kind::Sdes, _) => {
             let has_cname = seen.chunks().iter().any(|chunk| chunk.cname() != 0);
-            seen.padding(
-                Fields::of(input)
-                    .number(n("chunks"))
-                    .number(has_cname.into()),
-            )
+            seen.padding(Fields::of(input).number(n("chunks")).number(has_cname))
         }
         Operation::ReadItem(_) => Fields::of(input).item(0, &seen.chunks()[0].items[0]),
         Operation::ReadPrefix(_) => Fields::of(input).part(3, seen.bytes("prefix")),
@@ -312,7 +320,7 @@ fn answer(operation: &Operation, input: &[u8], view: &View) -> String {
         _ => Fields::of(input)
             .number(n("block_ssrc"))
             .number(n("fraction_lost"))
-            .number(n("cumulative_lost"))
+            .number(signed(seen.value("cumulative_lost")))
             .number(n("extended_sequence"))
             .number(n("jitter"))
             .number(n("last_sr"))
@@ -450,11 +458,15 @@ impl<'a> Seen<'a> {
     }
 }
 
-fn number(value: &Value) -> u64 {
+fn signed(value: &Value) -> i128 {
     match value {
         Value::Number(number) => *number,
         other => panic!("a number, not {other}"),
     }
+}
+
+fn number(value: &Value) -> u64 {
+    signed(value).try_into().expect("a number of 64 bits")
 }
 
 fn bytes(value: &Value) -> &[u8] {

@@ -27,7 +27,7 @@ pub fn inputs(operation: &Operation) -> String {
         }
         Operation::List(_, _, before) => {
             for numbers in before {
-                put("list", list(numbers, u64::to_string));
+                put("list", list(numbers, i128::to_string));
             }
         }
         Operation::Write(g, buffer) => {
@@ -126,7 +126,7 @@ fn given(given: &Given, put: &mut impl FnMut(&str, String)) {
                 put("octet_count", sender.octet_count.to_string());
             }
             put("fractions", run(&blocks.fractions));
-            put("losses", list(&blocks.losses, u32::to_string));
+            put("losses", list(&blocks.losses, i32::to_string));
             put("words", list(&blocks.words, u32::to_string));
         }
         Given::Sdes { lists, .. } => {

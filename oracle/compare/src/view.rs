@@ -14,9 +14,10 @@ pub enum Value {
     Unseen,
     /// There is no such part.
     Nothing,
-    Number(u64),
+    /// Of 64 bits, or a loss, which has a sign.
+    Number(i128),
     Bytes(Vec<u8>),
-    Numbers(Vec<u64>),
+    Numbers(Vec<i128>),
     Refused(Refusal),
     Panic,
 }
@@ -64,12 +65,12 @@ impl View {
         self.fields.push((name, value));
     }
 
-    pub fn number(&mut self, name: &'static str, number: impl Into<u64>) {
+    pub fn number(&mut self, name: &'static str, number: impl Into<i128>) {
         self.put(name, Value::Number(number.into()));
     }
 
     pub fn count(&mut self, name: &'static str, count: usize) {
-        self.number(name, count as u64);
+        self.number(name, count as i128);
     }
 
     pub fn bytes(&mut self, name: &'static str, bytes: &[u8]) {
@@ -168,7 +169,7 @@ fn size_value(operation: &Operation) -> Value {
         Operation::WriteItem(item, _) => size_of_item(item),
         _ => return Value::Nothing,
     };
-    size.map_or_else(Value::Refused, Value::Number)
+    size.map_or_else(Value::Refused, |size| Value::Number(size.into()))
 }
 
 pub fn block(view: &mut View, block: &Block) {

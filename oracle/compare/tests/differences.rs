@@ -11,7 +11,7 @@ use compare::rows::{explain, Rows};
 use compare::rust::Rust;
 use compare::side::{Model, Side};
 use compare::text::{from_hex, inputs};
-use compare::view::{Verdict, View};
+use compare::view::{Value, Verdict, View};
 use model::*;
 
 struct Line {
@@ -53,7 +53,7 @@ fn table() -> Vec<Line> {
 #[test]
 fn every_line_is_as_it_says() {
     let lines = table();
-    for row in 1..=9 {
+    for row in 1..=10 {
         assert!(lines.iter().any(|line| line.rows.contains(&row)), "{row}");
     }
     for line in lines {
@@ -109,6 +109,7 @@ fn input(text: &str) -> Operation {
     };
     let bytes = from_hex(bytes);
     match what {
+        "lone block" => Operation::ReadBlock(bytes),
         "lone item" => Operation::ReadItem(bytes),
         "lone chunk" => Operation::ReadChunk(bytes),
         "SR" => Operation::ReadAs(Kind::Sr, bytes),
@@ -147,8 +148,25 @@ fn write(text: &str) -> Operation {
         "lone item of type 1, value FF, over 3 bytes 5A" => {
             Operation::WriteItem(item(1, &[0xFF]), vec![STALE; 3])
         }
+        "RR with a block, loss 8,388,608, over 32 bytes 5A" => write_loss(8_388_608),
+        "RR with a block, loss 16,777,216, over 32 bytes 5A" => write_loss(16_777_216),
+        "RR with a block, loss −8,388,609, over 32 bytes 5A" => write_loss(-8_388_609),
         _ => panic!("{text}"),
     }
+}
+
+fn write_loss(cumulative_lost: i32) -> Operation {
+    let block = Block {
+        cumulative_lost,
+        ..Block::default()
+    };
+    let rr = Given::Report {
+        ssrc: 1,
+        sender: None,
+        blocks: BlockLists::of(&[block]),
+        padding: 0,
+    };
+    Operation::Write(rr, vec![STALE; 32])
 }
 
 fn write_app(data: usize, buffer: usize) -> Operation {
@@ -175,7 +193,12 @@ fn item(item_type: u8, value: &[u8]) -> Item {
 type Condition = fn(&Operation) -> bool;
 
 fn condition(text: &str) -> Condition {
-    match text {
+    let condition = reading_condition(text).or_else(|| writing_condition(text));
+    condition.unwrap_or_else(|| panic!("{text}"))
+}
+
+fn reading_condition(text: &str) -> Option<Condition> {
+    Some(match text {
         "P is set, and the count is no multiple of 4 or above L less the least length" => |o| {
             padded(o).is_some_and(|packet| !packet.count_is_valid())
         },
@@ -197,34 +220,50 @@ fn condition(text: &str) -> Condition {
         "PRIV, prefix length > length − 1, and prefix length + 3 ≤ bytes left" => |o| {
             places(o).contains(&Place::PrefixPastItem)
         },
-        "a reason that is not empty and whose length + 1 is no multiple of 4, and padding" => |o| {
-            match o {
-                Operation::Write(Given::Bye { reason, padding, .. }, _) => {
-                    !reason.is_empty() && (reason.len() + 1) % 4 != 0 && *padding > 0
-                }
+        "any chunk, but not one with a single item whose length is 1 more than a multiple of 4" => {
+            |o| places(o).contains(&Place::OtherLength)
+        }
+        "the first of the 24 bits of a loss is 1" => |o| {
+            loss_starts(o).iter().any(|byte| byte & 0x80 != 0)
+        },
+        _ => return None,
+    })
+}
+
+fn writing_condition(text: &str) -> Option<Condition> {
+    Some(match text {
+        "a reason that is not empty and whose length + 1 is no multiple of 4, and padding" => {
+            |o| match o {
+                Operation::Write(
+                    Given::Bye {
+                        reason, padding, ..
+                    },
+                    _,
+                ) => !reason.is_empty() && (reason.len() + 1) % 4 != 0 && *padding > 0,
                 _ => false,
             }
-        },
-        "size > 262,144" => |o| {
-            matches!(o, Operation::Write(given, _) if size(given) == Err(Refusal::OVERSIZED))
-        },
+        }
+        "size > 262,144" => {
+            |o| matches!(o, Operation::Write(given, _) if size(given) == Err(Refusal::OVERSIZED))
+        }
         "chunk > 262,140 bytes" => |o| {
             matches!(o, Operation::WriteChunk(lists, _)
                 if size_of_chunk(lists) == Err(Refusal::OVERSIZED))
         },
-        "any chunk, but not one with a single item whose length is 1 more than a multiple of 4" => {
-            |o| places(o).contains(&Place::OtherLength)
-        }
         "a lent item type of 0" => |o| match o {
             Operation::Write(Given::Sdes { lists, .. }, _) => lists.items.types.contains(&0),
             Operation::WriteChunk(lists, _) => lists.items.types.contains(&0),
             Operation::WriteItem(item, _) => item.item_type == 0,
             _ => false,
         },
-        // Such a call cannot be put to the Rust.
-        "bytes that are not UTF-8" => |_| false,
-        _ => panic!("{text}"),
-    }
+        "a loss above 8,388,607" => |o| {
+            matches!(o, Operation::Write(Given::Report { blocks, .. }, _)
+                if blocks.losses.iter().any(|loss| *loss > 8_388_607))
+        },
+        // Such calls cannot be put to the Rust.
+        "bytes that are not UTF-8" | "a loss below −8,388,608" => |_| false,
+        _ => return None,
+    })
 }
 
 /// A packet with P set whose header is fine up to the padding.
@@ -270,6 +309,26 @@ impl Padded<'_> {
             }
             Kind::Sdes | Kind::App => false,
         }
+    }
+}
+
+/// The first byte of each loss that is read.
+fn loss_starts(operation: &Operation) -> Vec<u8> {
+    let at = |bytes: &[u8], block: usize| bytes.get(block + 5).copied();
+    match (operation, packet(operation)) {
+        (Operation::ReadBlock(bytes), _) => at(bytes, 0).into_iter().collect(),
+        (_, Some((kind @ (Kind::Sr | Kind::Rr), bytes))) => {
+            let count = usize::from(bytes[0] & 31);
+            let read = |block: &usize| match operation {
+                Operation::ReadBlockAt(_, _, index) => *index == *block as u64,
+                _ => true,
+            };
+            let blocks = (0..count).filter(read);
+            blocks
+                .filter_map(|block| at(bytes, kind.least() + 24 * block))
+                .collect()
+        }
+        _ => Vec::new(),
     }
 }
 
@@ -352,42 +411,95 @@ fn item_places(bytes: &[u8], places: &mut Vec<Place>) {
     }
 }
 
-#[test]
-fn outside_the_conditions_answers_are_equal() {
-    // Row 8 changes one number of almost every chunk, so it is kept apart.
-    let (lengths, others): (Vec<Line>, Vec<Line>) =
-        table().into_iter().partition(|line| line.rows == [8]);
-    let conditions = |lines: Vec<Line>| -> Vec<Condition> {
-        let mut texts: Vec<String> = lines.into_iter().map(|line| line.condition).collect();
-        texts.dedup();
-        texts.iter().map(|text| condition(text)).collect()
-    };
-    let (lengths, others) = (conditions(lengths), conditions(others));
-    let mut differing = 0;
-    let mut check = |operation: &Operation| {
-        let Some(rust) = Rust.view(operation) else {
-            return;
-        };
-        let conditions = match explain(operation, &rust).expect("rows explain it") {
-            Rows::NONE => return,
-            rows if rows == Rows::of(&[8]) => &lengths,
-            _ => &others,
-        };
-        let holds = conditions.iter().any(|condition| condition(operation));
-        assert!(holds, "{}", inputs(operation));
-        differing += 1;
+/// The conditions of some lines.
+fn conditions(wanted: impl Fn(&Line) -> bool) -> Vec<Condition> {
+    let lines = table().into_iter().filter(wanted);
+    let mut texts: Vec<String> = lines.map(|line| line.condition).collect();
+    texts.dedup();
+    texts.iter().map(|text| condition(text)).collect()
+}
+
+/// Random and enumerated operations that the Rust can be asked, with what it shows.
+fn asked(mut check: impl FnMut(&Operation, View)) {
+    let mut ask = |operation: &Operation| {
+        if let Some(rust) = Rust.view(operation) {
+            check(operation, rust);
+        }
     };
     let mut rng = Rng::new(3);
     for _ in 0..100_000 {
         let sort = Sort::any(&mut rng);
-        check(&operation(&mut rng, sort));
+        ask(&operation(&mut rng, sort));
     }
     let mut at = 0;
     limits::enumerate(&mut |operation| {
         at += 1;
         if at % 7 == 0 {
-            check(&operation);
+            ask(&operation);
         }
     });
-    assert!(differing > 10_000);
+}
+
+#[test]
+fn outside_the_conditions_answers_are_equal() {
+    // Row 8 changes one number of almost every chunk, and row 10 one of many blocks, so
+    // they are kept apart.
+    let lengths = conditions(|line| line.rows == [8]);
+    let losses = conditions(|line| line.rows == [10]);
+    let others = conditions(|line| line.rows != [8] && line.rows != [10]);
+    let mut differing = [0; 3];
+    asked(|operation, rust| {
+        let rows = explain(operation, &rust).expect("rows explain it");
+        let mut hold = |conditions: &[Condition], count: usize| {
+            let holds = conditions.iter().any(|condition| condition(operation));
+            assert!(holds, "{}", inputs(operation));
+            differing[count] += 1;
+        };
+        if rows.has(10) {
+            hold(&losses, 0);
+        }
+        match rows.without(10) {
+            Rows::NONE => {}
+            rows if rows == Rows::of(&[8]) => hold(&lengths, 1),
+            _ => hold(&others, 2),
+        }
+    });
+    assert!(
+        differing.iter().all(|count| *count > 2_000),
+        "{differing:?}"
+    );
+}
+
+/// The losses that a view shows.
+fn losses_shown(view: &View) -> Vec<i128> {
+    let shown = view.fields.iter().filter_map(|(name, value)| match value {
+        Value::Number(number) if *name == "cumulative_lost" => Some(*number),
+        _ => None,
+    });
+    shown.collect()
+}
+
+/// A loss that is read is the Rust's number, less 2^24 exactly where the first of the 24
+/// bits is 1. A report that is written differs exactly where 17 refuses it.
+#[test]
+fn losses_differ_by_their_sign_alone() {
+    let mut seen = [0; 4];
+    asked(|operation, rust| {
+        let here = Model.view(operation).expect("the model");
+        if (here.verdict, rust.verdict) == (Verdict::Accepted, Verdict::Accepted) {
+            let (ours, theirs) = (losses_shown(&here), losses_shown(&rust));
+            assert_eq!(ours.len(), theirs.len(), "{}", inputs(operation));
+            for (ours, theirs) in ours.into_iter().zip(theirs) {
+                let first_bit = theirs >> 23;
+                assert_eq!(ours, theirs - (first_bit << 24), "{}", inputs(operation));
+                seen[usize::try_from(first_bit).expect("24 bits")] += 1;
+            }
+        }
+        if let Operation::Write(Given::Report { .. }, _) = operation {
+            let outside = matches!(here.verdict, Verdict::Refused(Refusal { number: 17, .. }));
+            assert_eq!(here.agrees(&rust), !outside, "{}", inputs(operation));
+            seen[2 + usize::from(outside)] += 1;
+        }
+    });
+    assert!(seen.iter().all(|count| *count > 1_000), "{seen:?}");
 }

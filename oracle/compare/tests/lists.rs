@@ -15,44 +15,44 @@ use model::*;
 const ROUNDS: usize = 20_000;
 
 /// The blocks by their index: fractions, losses, and five words of each.
-fn blocks(kind: Kind, bytes: &[u8]) -> Answer<Vec<Vec<u64>>> {
+fn blocks(kind: Kind, bytes: &[u8]) -> Answer<Vec<Vec<i128>>> {
     read_as(kind, bytes)?;
     let [mut fractions, mut losses, mut words] = [const { Vec::new() }; 3];
     while let Ok(b) = read_block_at(kind, bytes, losses.len() as u64) {
         fractions.push(b.fraction_lost.into());
         losses.push(b.cumulative_lost.into());
         words.push(b.ssrc.into());
-        words.extend([b.extended_sequence, b.jitter, b.last_sr, b.delay].map(u64::from));
+        words.extend([b.extended_sequence, b.jitter, b.last_sr, b.delay].map(i128::from));
     }
     Ok(vec![fractions, losses, words])
 }
 
 /// The items by the walks.
-fn items(bytes: &[u8]) -> Answer<Vec<u64>> {
+fn items(bytes: &[u8]) -> Answer<Vec<i128>> {
     let mut walk = open_sdes(bytes)?;
     let mut numbers = Vec::new();
     while let Ok((chunk, next)) = sdes_step(bytes, walk) {
         let from = &bytes[walk.position as usize..];
         let mut at = open_items(from)?;
         while let Ok((item, next)) = item_step(from, at) {
-            let [prefix, value] = [item.prefix, item.value].map(|part| part.len() as u64);
-            let place = walk.position + next - value;
+            let [prefix, value] = [item.prefix, item.value].map(|part| part.len() as i128);
+            let place = i128::from(walk.position + next) - value;
             numbers.extend([chunk.ssrc.into(), item.item_type.into(), place]);
             numbers.extend([prefix, value]);
             at = next;
         }
-        numbers.extend([chunk.ssrc.into(), 0, walk.position + at, 0, 0]);
+        numbers.extend([chunk.ssrc.into(), 0, (walk.position + at).into(), 0, 0]);
         walk = next;
     }
     Ok(numbers)
 }
 
 /// The packets by the walk.
-fn packets(bytes: &[u8]) -> Answer<Vec<u64>> {
+fn packets(bytes: &[u8]) -> Answer<Vec<i128>> {
     let mut at = open(bytes)?;
     let mut numbers = Vec::new();
     while let Ok((packet, next)) = step(bytes, at) {
-        numbers.extend([packet.packet_type().into(), at, next - at]);
+        numbers.extend([packet.packet_type().into(), at, next - at].map(i128::from));
         at = next;
     }
     Ok(numbers)

@@ -141,3 +141,62 @@ fn row_9() {
         "ok written=3 size=? buffer=x000176",
     );
 }
+
+/// A report of one block with that loss, over as many bytes as it takes.
+fn write_loss(cumulative_lost: i32) -> Operation {
+    let block = Block {
+        cumulative_lost,
+        ..Block::default()
+    };
+    let rr = Given::Report {
+        ssrc: 0,
+        sender: None,
+        blocks: BlockLists::of(&[block]),
+        padding: 0,
+    };
+    Operation::Write(rr, vec![0x5A; 32])
+}
+
+#[test]
+fn row_10() {
+    let block = |bits: [u8; 3]| {
+        let mut bytes = vec![0; 24];
+        bytes[5..8].copy_from_slice(&bits);
+        Operation::ReadBlock(bytes)
+    };
+    let lost = |number: i32| format!("ok block_ssrc=0 fraction_lost=0 cumulative_lost={number} ");
+    for (bits, here, rust) in [
+        ([0x80, 0, 0], -8_388_608, 8_388_608),
+        ([0xFF, 0xFF, 0xFF], -1, 16_777_215),
+    ] {
+        differs(block(bits), &[10], &lost(here), &lost(rust));
+    }
+    for (bits, number) in [([0, 0, 0], 0), ([0x7F, 0xFF, 0xFF], 8_388_607)] {
+        differs(block(bits), &[], &lost(number), &lost(number));
+    }
+    let most = "17(8388608,8388607)";
+    differs(write_loss(8_388_608), &[10], most, "ok written=32");
+    let above = ("17(16777215,8388607)", "ok written=32");
+    differs(write_loss(16_777_215), &[10], above.0, above.1);
+    let over = ("17(16777216,8388607)", "17(16777216,16777215)");
+    differs(write_loss(16_777_216), &[10], over.0, over.1);
+}
+
+/// In the range the Rust is given the 24 bits, and the bytes are equal; a number below
+/// it has no form that the Rust takes.
+#[test]
+fn a_loss_is_given_to_the_rust_as_its_24_bits() {
+    for (loss, bits) in [
+        (0, "000000"),
+        (-1, "FFFFFF"),
+        (-8_388_608, "800000"),
+        (8_388_607, "7FFFFF"),
+    ] {
+        let head = "ok written=32 size=32 buffer=x81C90007000000000000000000";
+        let bytes = format!("{head}{bits}");
+        differs(write_loss(loss), &[], &bytes, &bytes);
+    }
+    for loss in [-8_388_609, i32::MIN] {
+        assert_eq!(Rust.view(&write_loss(loss)), None);
+    }
+}

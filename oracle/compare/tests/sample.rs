@@ -54,8 +54,9 @@ fn replayed(file: &str, wanted: Vec<String>) {
 }
 
 /// What the C function gives, or nothing where it is not there.
-fn given(row: &Row) -> Option<Vec<u64>> {
-    let (s, n) = (&row.bytes[..], &row.numbers[..]);
+fn given(row: &Row) -> Option<Vec<i128>> {
+    let s = &row.bytes[..];
+    let n = |at| row.number::<u64>(at);
     Some(match row.function.as_str() {
         "sr_parse" => all(rtcp_sr_parse(s)?),
         "rr_parse" => all(rtcp_rr_parse(s)?),
@@ -63,24 +64,25 @@ fn given(row: &Row) -> Option<Vec<u64>> {
         "bye_parse" => all(rtcp_bye_parse(s)?),
         "app_parse" => all(rtcp_app_parse(s)?),
         "block_parse" => all(rtcp_block_parse(s)?),
-        "sr_report_block" => all(rtcp_sr_report_block(s, n[0])?),
-        "rr_report_block" => all(rtcp_rr_report_block(s, n[0])?),
-        "bye_source" => all(rtcp_bye_source(s, n[0])?),
+        "sr_report_block" => all(rtcp_sr_report_block(s, n(0))?),
+        "rr_report_block" => all(rtcp_rr_report_block(s, n(0))?),
+        "bye_source" => all(rtcp_bye_source(s, n(0))?),
         "item_parse" => all(rtcp_item_parse(s)?),
         "item_priv_prefix" => all(rtcp_item_priv_prefix(s)?),
         "chunk_parse" => all(rtcp_chunk_parse(s)?),
-        "chunk_walk_step" => all(rtcp_chunk_walk_step(s, n[0], n[1])?),
-        "item_walk_step" => all(rtcp_item_walk_step(s, n[0])?),
+        "chunk_walk_step" => all(rtcp_chunk_walk_step(s, n(0), n(1))?),
+        "item_walk_step" => all(rtcp_item_walk_step(s, n(0))?),
         other => panic!("{other}"),
     })
 }
 
 /// The numbers of a result.
-fn all<R: Outcome>(result: R) -> Vec<u64> {
+fn all<R: Outcome>(result: R) -> Vec<i128> {
     let Head {
         number,
         first,
         second,
     } = result.head();
-    [vec![number, first, second], result.fields()].concat()
+    let head = [number, first, second].map(i128::from);
+    [head.to_vec(), result.fields()].concat()
 }

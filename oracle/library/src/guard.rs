@@ -64,6 +64,7 @@ thread_local! {
 /// Plain numbers: any bytes are one, and none needs to be dropped.
 pub trait Number: Copy {}
 impl Number for u8 {}
+impl Number for i32 {}
 impl Number for u32 {}
 impl Number for u64 {}
 impl Number for crate::RtcpWriter {}

@@ -22,7 +22,7 @@ pub trait Outcome: Copy + PartialEq {
     fn bare(head: Head) -> Self;
 
     /// The fields after the head, in order.
-    fn fields(&self) -> Vec<u64>;
+    fn fields(&self) -> Vec<i128>;
 }
 
 macro_rules! results {
@@ -51,7 +51,7 @@ macro_rules! results {
                 }
             }
 
-            fn fields(&self) -> Vec<u64> {
+            fn fields(&self) -> Vec<i128> {
                 vec![$(self.$field.into()),*]
             }
         }

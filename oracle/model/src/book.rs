@@ -87,7 +87,8 @@ fn faults(given: &Given) -> Vec<Refusal> {
             fault(count > 31, Refusal::too_many_blocks(count));
             fault(padding_holds, bad_padding);
             for lost in &blocks.losses {
-                fault(*lost >= 1 << 24, Refusal::loss_too_large(*lost));
+                let fits = (-(1 << 23)..1 << 23).contains(lost);
+                fault(!fits, Refusal::loss_too_large(*lost));
             }
         }
         Given::Sdes { lists, .. } => match lists.split() {

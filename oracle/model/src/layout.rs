@@ -65,7 +65,7 @@ fn layout_sender(sender: &SenderInfo) -> Vec<u8> {
 fn layout_block(block: &Block) -> Vec<u8> {
     [
         block.ssrc,
-        u32::from(block.fraction_lost) << 24 | block.cumulative_lost,
+        u32::from(block.fraction_lost) << 24 | block.cumulative_lost as u32 & 0xFF_FFFF,
         block.extended_sequence,
         block.jitter,
         block.last_sr,

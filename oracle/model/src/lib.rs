@@ -1,8 +1,8 @@
-//! Document 01 in Rust: what every operation answers, on every input.
-//! docs/PROTOCOL.md says the same in our own words.
+//! Document 01 in Rust, with order 1 of document 02: what every operation answers,
+//! on every input. docs/PROTOCOL.md says the same in our own words.
 //!
-//! The text follows the document and nothing else. It is meant to be held
-//! beside the document, so it prefers the document's order and words to speed.
+//! The text follows the documents and nothing else. It is meant to be held
+//! beside them, so it prefers their order and words to speed.
 
 mod book;
 mod compound;

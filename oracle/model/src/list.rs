@@ -28,8 +28,9 @@ impl Listing {
         Listing::Packets,
     ];
 
-    /// The numbers that there are, list by list.
-    pub fn numbers(self, bytes: &[u8]) -> Answer<Vec<Vec<u64>>> {
+    /// The numbers that there are, list by list. An `i128` holds every number of 64
+    /// bits and every loss.
+    pub fn numbers(self, bytes: &[u8]) -> Answer<Vec<Vec<i128>>> {
         if self == Listing::Packets {
             return Ok(vec![packet_rows(&read_compound(bytes)?)]);
         }
@@ -46,7 +47,7 @@ impl Listing {
 
     /// The numbers at the start of each list, and how many blocks or numbers these
     /// are. Where a list is too short there is 10, after every other refusal.
-    pub fn fill(self, bytes: &[u8], lists: &mut [Vec<u64>]) -> Answer<u64> {
+    pub fn fill(self, bytes: &[u8], lists: &mut [Vec<i128>]) -> Answer<u64> {
         let numbers = self.numbers(bytes)?;
         let count = numbers[0].len() as u64;
         let mut pairs = lists.iter().zip(&numbers);
@@ -60,36 +61,42 @@ impl Listing {
     }
 }
 
-fn block_lists(blocks: &[Block]) -> Vec<Vec<u64>> {
+fn block_lists(blocks: &[Block]) -> Vec<Vec<i128>> {
     let lists = BlockLists::of(blocks);
-    let wide = |words: &[u32]| words.iter().map(|word| (*word).into()).collect();
-    let fractions = lists.fractions.iter().map(|fraction| (*fraction).into());
-    vec![fractions.collect(), wide(&lists.losses), wide(&lists.words)]
+    vec![
+        wide(&lists.fractions),
+        wide(&lists.losses),
+        wide(&lists.words),
+    ]
+}
+
+fn wide<T: Copy + Into<i128>>(numbers: &[T]) -> Vec<i128> {
+    numbers.iter().map(|number| (*number).into()).collect()
 }
 
 /// A row for each item, and one for the closing zero of each chunk.
-fn chunk_rows(chunks: &[Chunk]) -> Vec<u64> {
+fn chunk_rows(chunks: &[Chunk]) -> Vec<i128> {
     let mut rows = Vec::new();
     let mut start = 4;
     for chunk in chunks {
         let ssrc = chunk.ssrc.into();
         let mut at = start + 4;
         for item in &chunk.items {
-            let [prefix, value] = [&item.prefix, &item.value].map(|part| part.len() as u64);
-            at += layout_item(item).len() as u64;
+            let [prefix, value] = [&item.prefix, &item.value].map(|part| part.len() as i128);
+            at += layout_item(item).len() as i128;
             rows.extend([ssrc, item.item_type.into(), at - value, prefix, value]);
         }
         rows.extend([ssrc, 0, at, 0, 0]);
-        start += layout_chunk(chunk).len() as u64;
+        start += layout_chunk(chunk).len() as i128;
     }
     rows
 }
 
-fn packet_rows(packets: &[Packet]) -> Vec<u64> {
+fn packet_rows(packets: &[Packet]) -> Vec<i128> {
     let mut rows = Vec::new();
     let mut at = 0;
     for packet in packets {
-        let length = layout(packet).len() as u64;
+        let length = layout(packet).len() as i128;
         rows.extend([packet.packet_type().into(), at, length]);
         at += length;
     }

@@ -3,6 +3,10 @@
 pub const CNAME: u8 = 1;
 pub const PRIV: u8 = 8;
 
+/// The range of cumulative lost.
+pub const LOSS_LEAST: i32 = -8_388_608;
+pub const LOSS_MOST: i32 = 8_388_607;
+
 /// The five kinds that are read and written here.
 #[derive(Clone, Copy, Debug, PartialEq, Eq, Hash, PartialOrd, Ord)]
 pub enum Kind {
@@ -51,7 +55,7 @@ impl Kind {
 pub struct Block {
     pub ssrc: u32,
     pub fraction_lost: u8,
-    pub cumulative_lost: u32,
+    pub cumulative_lost: i32,
     pub extended_sequence: u32,
     pub jitter: u32,
     pub last_sr: u32,
@@ -60,15 +64,15 @@ pub struct Block {
 
 impl Block {
     /// Its seven numbers, in the order of the wire.
-    pub fn numbers(&self) -> [u32; 7] {
+    pub fn numbers(&self) -> [i64; 7] {
         [
-            self.ssrc,
+            self.ssrc.into(),
             self.fraction_lost.into(),
-            self.cumulative_lost,
-            self.extended_sequence,
-            self.jitter,
-            self.last_sr,
-            self.delay,
+            self.cumulative_lost.into(),
+            self.extended_sequence.into(),
+            self.jitter.into(),
+            self.last_sr.into(),
+            self.delay.into(),
         ]
     }
 

@@ -124,11 +124,22 @@ fn block(bytes: &[u8]) -> Block {
     Block {
         ssrc: word(bytes, 0),
         fraction_lost: bytes[4],
-        cumulative_lost: number(&bytes[5..8]) as u32,
+        cumulative_lost: signed(number(&bytes[5..8])),
         extended_sequence: word(bytes, 8),
         jitter: word(bytes, 12),
         last_sr: word(bytes, 16),
         delay: word(bytes, 20),
+    }
+}
+
+/// The number from -8,388,608 to 8,388,607 whose value modulo 16,777,216 is the 24
+/// bits.
+fn signed(bits: u64) -> i32 {
+    let value = bits as i32;
+    if value > LOSS_MOST {
+        value - 16_777_216
+    } else {
+        value
     }
 }
 

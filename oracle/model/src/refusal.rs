@@ -79,8 +79,9 @@ impl Refusal {
         Refusal::new(16, len as u64, 255)
     }
 
-    pub fn loss_too_large(value: u32) -> Self {
-        Refusal::new(17, value.into(), 16_777_215)
+    /// The first detail is the value's low 32 bits.
+    pub fn loss_too_large(value: i32) -> Self {
+        Refusal::new(17, (value as u32).into(), 8_388_607)
     }
 
     pub fn too_many_blocks(count: usize) -> Self {

@@ -11,7 +11,7 @@ pub const CHUNK_LIMIT: usize = 262_140;
 #[derive(Clone, Debug, Default, PartialEq, Eq, Hash)]
 pub struct BlockLists {
     pub fractions: Vec<u8>,
-    pub losses: Vec<u32>,
+    pub losses: Vec<i32>,
     pub words: Vec<u32>,
 }
 
@@ -222,7 +222,7 @@ fn check_report(lists: &BlockLists, padding: u64) -> Answer<Vec<Block>> {
     }
     check_padding(padding)?;
     for block in &blocks {
-        if block.cumulative_lost > 0xFF_FFFF {
+        if block.cumulative_lost < LOSS_LEAST || block.cumulative_lost > LOSS_MOST {
             return Err(Refusal::loss_too_large(block.cumulative_lost));
         }
     }
@@ -240,7 +240,8 @@ fn put_report(bytes: &mut Vec<u8>, ssrc: u32, sender: Option<&SenderInfo>, block
     for block in blocks {
         bytes.extend(block.ssrc.to_be_bytes());
         bytes.push(block.fraction_lost);
-        bytes.extend(&block.cumulative_lost.to_be_bytes()[1..]);
+        let bits = block.cumulative_lost.rem_euclid(16_777_216);
+        bytes.extend(&bits.to_be_bytes()[1..]);
         bytes.extend(block.extended_sequence.to_be_bytes());
         bytes.extend(block.jitter.to_be_bytes());
         bytes.extend(block.last_sr.to_be_bytes());

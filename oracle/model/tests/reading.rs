@@ -73,7 +73,7 @@ fn report_blocks_and_extension() {
     let bytes = packet(0x81, 201, &rest);
     let block = Block {
         fraction_lost: 5,
-        cumulative_lost: 0x80_0001,
+        cumulative_lost: -8_388_607,
         ..Block::default()
     };
     assert_eq!(read_block_at(Kind::Rr, &bytes, 0), Ok(block));
@@ -120,6 +120,78 @@ fn lone_block() {
     assert_eq!(read_block(&[0; 23]), refused(2, 24, 23));
     assert_eq!(read_block(&[0; 24]), Ok(Block::default()));
     assert_eq!(read_block(&[0; 25]), refused(3, 24, 25));
+}
+
+/// The 24 bits of a loss, and the loss.
+const LOSSES: [([u8; 3], i32); 10] = [
+    ([0x00, 0x00, 0x00], 0),
+    ([0x00, 0x00, 0x01], 1),
+    ([0x01, 0x02, 0x03], 66_051),
+    ([0x7F, 0xFF, 0xFE], 8_388_606),
+    ([0x7F, 0xFF, 0xFF], 8_388_607),
+    ([0x80, 0x00, 0x00], -8_388_608),
+    ([0x80, 0x00, 0x01], -8_388_607),
+    ([0xFE, 0xFD, 0xFD], -66_051),
+    ([0xFF, 0xFF, 0xFE], -2),
+    ([0xFF, 0xFF, 0xFF], -1),
+];
+
+/// A fraction lost and a loss in a block of zeros, with its bytes.
+fn lossy(fraction_lost: u8, bits: [u8; 3], cumulative_lost: i32) -> (Block, [u8; 24]) {
+    let mut bytes = [0; 24];
+    bytes[4] = fraction_lost;
+    bytes[5..8].copy_from_slice(&bits);
+    let block = Block {
+        fraction_lost,
+        cumulative_lost,
+        ..Block::default()
+    };
+    (block, bytes)
+}
+
+#[test]
+fn losses_have_a_sign() {
+    for (bits, loss) in LOSSES {
+        for fraction in [0, 0x7F, 0x80, 0xFF] {
+            let (block, bytes) = lossy(fraction, bits, loss);
+            assert_eq!(read_block(&bytes), Ok(block));
+            let two = [[0; 4].as_slice(), &[0; 24], &bytes].concat();
+            let rr = packet(0x82, 201, &two);
+            assert_eq!(read_block_at(Kind::Rr, &rr, 0), Ok(Block::default()));
+            assert_eq!(read_block_at(Kind::Rr, &rr, 1), Ok(block));
+            let sr = packet(0x81, 200, &[[0; 24].as_slice(), &bytes].concat());
+            assert_eq!(read_block_at(Kind::Sr, &sr, 0), Ok(block));
+        }
+    }
+}
+
+#[test]
+fn lists_of_losses_have_a_sign() {
+    let mut blocks = Vec::new();
+    let mut rest = vec![0; 4];
+    for (bits, loss) in LOSSES {
+        let (block, bytes) = lossy(9, bits, loss);
+        blocks.push(block);
+        rest.extend(bytes);
+    }
+    let rr = packet(0x8A, 201, &rest);
+    let content = read_as(Kind::Rr, &rr).expect("an RR").content;
+    assert!(matches!(content, Content::Report { blocks: read, .. } if read == blocks));
+    let sr = packet(0x8A, 200, &[&[0; 20], &rest[..]].concat());
+    let losses: Vec<i128> = LOSSES.iter().map(|(_, loss)| (*loss).into()).collect();
+    let mut lists = vec![vec![9; 10], losses, vec![0; 50]];
+    for (kind, bytes) in [(Kind::Rr, rr), (Kind::Sr, sr)] {
+        let listing = Listing::Blocks(kind);
+        assert_eq!(listing.numbers(&bytes), Ok(lists.clone()));
+        let mut filled = vec![vec![7; 10], vec![7; 11], vec![7; 50]];
+        assert_eq!(listing.fill(&bytes, &mut filled), Ok(10));
+        lists[1].push(7);
+        assert_eq!(filled, lists);
+        lists[1].pop();
+        let mut short = vec![vec![7; 10], vec![7; 9], vec![7; 50]];
+        assert_eq!(listing.fill(&bytes, &mut short), refused(10, 10, 0));
+        assert_eq!(short, [vec![7; 10], vec![7; 9], vec![7; 50]]);
+    }
 }
 
 #[test]

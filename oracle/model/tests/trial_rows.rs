@@ -95,11 +95,13 @@ fn row_10() {
     assert_eq!(size(&give_rr(vec![block(0); 31], 0)), Ok(8 + 31 * 24));
     assert_eq!(size(&give_rr(vec![block(0); 32], 0)), refused(18, 32, 31));
 
-    let bytes = written(&give_rr(vec![block(0xFF_FFFF)], 0)).expect("it is written");
-    assert_eq!(bytes[12..16], [0, 0xFF, 0xFF, 0xFF]);
+    let bytes = written(&give_rr(vec![block(8_388_607)], 0)).expect("it is written");
+    assert_eq!(bytes[12..16], [0, 0x7F, 0xFF, 0xFF]);
+    let bytes = written(&give_rr(vec![block(-8_388_608)], 0)).expect("it is written");
+    assert_eq!(bytes[12..16], [0, 0x80, 0, 0]);
     assert_eq!(
-        size(&give_rr(vec![block(0x100_0000)], 0)),
-        refused(17, 0x100_0000, 0xFF_FFFF)
+        size(&give_rr(vec![block(8_388_608)], 0)),
+        refused(17, 8_388_608, 8_388_607)
     );
 
     assert_eq!(size(&give_bye(0, &[b'r'; 255], 0)), Ok(4 + 256));

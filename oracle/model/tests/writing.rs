@@ -23,11 +23,7 @@ fn paddings() {
 
 #[test]
 fn report_order() {
-    let lost = |cumulative_lost| Block {
-        cumulative_lost,
-        ..Block::default()
-    };
-    let large = lost(u32::MAX);
+    let large = lost(i32::MAX);
     assert_eq!(size(&give_rr(vec![large; 32], 1)), refused(18, 32, 31));
     for short in 0..3 {
         let Given::Report { mut blocks, .. } = give_rr(vec![large; 32], 1) else {
@@ -50,9 +46,101 @@ fn report_order() {
     }
     assert_eq!(size(&give_rr(vec![large], 1)), refused(11, 1, 0));
     assert_eq!(
-        size(&give_rr(vec![lost(1), lost(1 << 24), large], 0)),
-        refused(17, 1 << 24, 0xFF_FFFF)
+        size(&give_rr(vec![lost(1), lost(1 << 23), large], 0)),
+        refused(17, 1 << 23, 8_388_607)
     );
+}
+
+fn lost(cumulative_lost: i32) -> Block {
+    Block {
+        cumulative_lost,
+        ..Block::default()
+    }
+}
+
+fn give_sr(blocks: Vec<Block>, padding: u64) -> Given {
+    Given::Report {
+        ssrc: 1,
+        sender: Some(SenderInfo::default()),
+        blocks: BlockLists::of(&blocks),
+        padding,
+    }
+}
+
+/// The first answer of a book with that room, which must be that of a write.
+fn answered(given: &Given, buffer: usize) -> Answer<()> {
+    let mut bytes = vec![0x5A; buffer];
+    let answer = write(given, &mut bytes).map(|_| ());
+    if answer.is_err() {
+        assert_eq!(bytes, vec![0x5A; buffer]);
+    }
+    let call = Call::Add {
+        given: given.clone(),
+        buffer: buffer as u64,
+    };
+    assert_eq!(Book::default().turn(&call), answer);
+    let (mut writer, mut bytes) = (Writer::default(), vec![0x5A; buffer]);
+    assert_eq!(writer.add(given, &mut bytes).map(|_| ()), answer);
+    answer
+}
+
+#[test]
+fn losses_in_the_range_are_their_24_bits() {
+    for (loss, bits) in [
+        (0, [0, 0, 0]),
+        (1, [0, 0, 1]),
+        (-1, [0xFF, 0xFF, 0xFF]),
+        (66_051, [1, 2, 3]),
+        (-66_051, [0xFE, 0xFD, 0xFD]),
+        (8_388_606, [0x7F, 0xFF, 0xFE]),
+        (8_388_607, [0x7F, 0xFF, 0xFF]),
+        (-8_388_607, [0x80, 0, 1]),
+        (-8_388_608, [0x80, 0, 0]),
+    ] {
+        for (given, at) in [
+            (give_rr(vec![lost(loss)], 0), 13),
+            (give_sr(vec![lost(loss)], 0), 33),
+        ] {
+            assert_eq!(written(&given).expect("it is written")[at..at + 3], bits);
+            assert_eq!(answered(&given, at + 19), Ok(()));
+            let laid = layout(&written_packet(&given));
+            assert_eq!(Ok(laid), written(&given));
+        }
+    }
+}
+
+/// Refusal 17 has the loss modulo 2^32.
+#[test]
+fn losses_outside_the_range() {
+    for (loss, value) in [
+        (8_388_608, 8_388_608),
+        (-8_388_609, 4_286_578_687),
+        (16_777_215, 16_777_215),
+        (16_777_216, 16_777_216),
+        (-16_777_216, 4_278_190_080),
+        (i32::MAX, 2_147_483_647),
+        (i32::MIN, 2_147_483_648),
+    ] {
+        for give in [give_rr, give_sr] {
+            let refusal = refused(17, value, 8_388_607);
+            assert_eq!(answered(&give(vec![lost(loss)], 0), 100), refusal);
+            let second = vec![lost(-1), lost(loss)];
+            assert_eq!(answered(&give(second, 4), 100), refusal);
+            let both = vec![lost(loss), lost(1 << 23)];
+            assert_eq!(answered(&give(both, 0), 100), refusal);
+            // 18, 11, 17, 10.
+            let many = [vec![lost(0); 31], vec![lost(loss)]].concat();
+            let over = refused(18, 32, 31);
+            assert_eq!(answered(&give(many.clone(), 3), 0), over);
+            assert_eq!(answered(&give(many.clone(), 0), 1000), over);
+            let padding = refused(11, 3, 0);
+            assert_eq!(answered(&give(many[1..].to_vec(), 3), 0), padding);
+            assert_eq!(answered(&give(many[1..].to_vec(), 4), 0), refusal);
+        }
+    }
+    let least = vec![lost(-8_388_608)];
+    assert_eq!(answered(&give_rr(least.clone(), 0), 31), refused(10, 32, 0));
+    assert_eq!(answered(&give_sr(least, 4), 55), refused(10, 56, 0));
 }
 
 #[test]

@@ -45,7 +45,7 @@ fn a_sender_report() {
       delay since last SR: 98304/65536 s (1.500 s)
     block 2 about SSRC 00000002
       fraction lost: 255/256
-      cumulative number of packets lost: 16777215
+      cumulative number of packets lost: -1
       extended highest sequence number received: 4294967295 (cycle 65535, number 65535)
       interarrival jitter: 4294967295
       last SR: 0 (none received yet)

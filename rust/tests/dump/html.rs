@@ -76,6 +76,57 @@ fn the_captures() {
     assert_eq!((run.err.as_str(), run.status), ("", 0));
 }
 
+/// A datagram of source 7 with a block about source 8 that has this loss.
+fn losing(lost: i32) -> String {
+    let bits = lost & 0xFF_FFFF;
+    let block = format!("00000008{bits:08x}{}", "00".repeat(16));
+    let name = "81ca0003000000070103614062000000";
+    format!("81c9000700000007{block}{name}\n")
+}
+
+/// The drawing of the losses on the page of datagrams that have them.
+fn loss_drawing(name: &str, losses: &[i32]) -> String {
+    let input: String = losses.iter().map(|lost| losing(*lost)).collect();
+    let (run, page) = page(name, &[], input.as_bytes());
+    assert_complete(&page);
+    assert_eq!((run.err.as_str(), run.status), ("", 0));
+    let last = losses.last().expect("a loss");
+    assert!(page.contains(&format!("<td class=\"number\">{last}</td>")));
+    let (_, drawing) = page
+        .split_once("aria-label=\"lost in all, packets\"")
+        .expect("a drawing");
+    drawing
+        .split("</svg>")
+        .next()
+        .expect("a drawing's end")
+        .into()
+}
+
+/// The drawing goes down to the lowest loss, and shows where 0 is.
+#[test]
+fn losses_below_zero() {
+    let drawing = loss_drawing("below-zero.html", &[0, -1, 2]);
+    assert!(drawing.contains("points=\"62.0,155.0 224.0,180.0 386.0,105.0\""));
+    assert!(
+        drawing.contains("<line class=\"axis\" x1=\"62\" x2=\"386\" y1=\"155.0\" y2=\"155.0\"/>")
+    );
+    for tick in -1..=5 {
+        let label = format!("x=\"56\" y=\"{}.0\">{tick}</text>", 159 - 25 * tick);
+        assert!(drawing.contains(&label), "{label}\n{drawing}");
+    }
+    assert!(drawing.contains("<title>00000007, 2: -1</title>"));
+
+    let drawing = loss_drawing("lowest.html", &[0, -8_388_608]);
+    assert!(drawing.contains("points=\"62.0,30.0 386.0,180.0\""));
+    for tick in ["0", "-2.0 M", "-4.0 M", "-6.0 M", "-8.0 M"] {
+        assert!(
+            drawing.contains(&format!(">{tick}</text>")),
+            "{tick}\n{drawing}"
+        );
+    }
+    assert!(drawing.contains("<title>00000007, 2: -8.4 M</title>"));
+}
+
 #[test]
 fn an_input_without_a_report() {
     for input in [&b""[..], b"# nothing\n", b"80C9000111223344\n"] {

@@ -67,6 +67,46 @@ refusals
     assert_eq!((run.err.as_str(), run.status), ("", 0));
 }
 
+/// Sources 2, 3 and 4 report losses of -1, -8,388,608 and 8,388,607 from source 1.
+fn duplicates() -> Vec<u8> {
+    let at = |microseconds, datagram: &[u8]| record(Order::Little, microseconds, &frame(datagram));
+    [
+        pcap(Order::Little, 101),
+        at(0, &receiver(2, 1, [0x00FF_FFFF, 17, 7, 0, 0])),
+        at(100_000, &receiver(3, 1, [0x0780_0000, 18, 9, 0, 0])),
+        at(200_000, &receiver(4, 1, [0x007F_FFFF, 19, 8, 0, 0])),
+    ]
+    .concat()
+}
+
+#[test]
+fn losses_below_zero() {
+    let table = run(&["--summary"], &duplicates());
+    let want = "\
+sources
+      SSRC  SR  RR  reporter  blocks  fraction      lost  jitter  round trip  CNAME, from
+  00000001   0   0  00000002       1     0/256        -1       7           -  -
+                    00000003       1     7/256  -8388608       9           -
+                    00000004       1     0/256   8388607       8           -
+  00000002   0   1         -       -         -         -       -           -  \"a@b\", 192.0.2.1:5005
+  00000003   0   1         -       -         -         -       -           -  \"a@b\", 192.0.2.1:5005
+  00000004   0   1         -       -         -         -       -           -  \"a@b\", 192.0.2.1:5005
+";
+    assert_same(&table.out[before_tables(&table.out).len()..], want);
+    let fields = run(&[], &duplicates()).out;
+    let brief = run(&["--brief"], &duplicates()).out;
+    let json = run(&["--json"], &duplicates()).out;
+    for lost in [-1, -8_388_608, 8_388_607] {
+        let field = format!("      cumulative number of packets lost: {lost}\n");
+        assert_eq!(fields.matches(&field).count(), 1, "{fields}");
+        let word = format!("/256, lost {lost}, jitter ");
+        assert_eq!(brief.matches(&word).count(), 1, "{brief}");
+        // In the datagram, and in the summary.
+        let field = format!("\"cumulative_lost\":{lost},");
+        assert_eq!(json.matches(&field).count(), 2, "{json}");
+    }
+}
+
 #[test]
 fn one_line_a_packet() {
     let run = run(&["--brief"], &conversation());

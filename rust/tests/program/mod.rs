@@ -92,9 +92,12 @@ fn describe(data: &[u8]) -> Result<String, RtcpParseError> {
     let reading = match data[1] {
         SenderReport::PACKET_TYPE => {
             let sr = SenderReport::parse(data)?;
-            let blocks: Vec<(u32, u8, u32)> = sr
+            let blocks: Vec<(u32, u8, i64)> = sr
                 .report_blocks()
-                .map(|block| (block.ssrc(), block.fraction_lost(), block.cumulative_lost()))
+                .map(|block| {
+                    let lost = i64::from(block.cumulative_lost());
+                    (block.ssrc(), block.fraction_lost(), lost)
+                })
                 .collect();
             let times = (sr.ntp_timestamp(), sr.rtp_timestamp());
             let counts = (sr.packet_count(), sr.octet_count(), sr.n_reports());

@@ -1,11 +1,12 @@
 -- `calculate_size` meets its contract: a walk of its MIR, by hand. `tested_loss` reads the blocks lent, and `check_report` answers for their count and that loss.
-use Rattle.by_hand.proofs.Walking.{_≡_, refl, _∙_, subst, List, [], _∷_, ℕ, _<_, _^_, length, calls-plain, calls-lent, callsOf, loopsOf, framed, meets, URA, named, w32, w64, Val, vint, SProp, ent, via, fst∗, emp, id⊢, Lft, Share, Fml, ftrue, flft, Heap, WpFn, givenOf, GhostRules, Running, Model, Given, Item, ‵, _⊛_, _$_, _∵_, !, ⋆, qed, by, move, drop, join, fsplit, fjoin, suffices, frame, done, whole, sub, look-in, look, init, forget, stop, fld, from, load, of-opd, and-then, no-more, assigns, land, returns, enter, alloc1, alloc0, params1, pass1, pass0, free1, free0, owns, Is, uint-makes, uint-vals, uint-tells, uint-lawful, u64, RefT, now, sliceVal, ShrSlice, Room, slice-vals, shr-slice-tells, shr-slice-copy, plain, owned, nothing, onEntry, cited, says, Stays, stay-none-slice, stay-none, walkOf, goes-none-slice, goes-none, ends-at, walked, yes}
+use Rattle.by_hand.proofs.Walking.{_≡_, refl, _∙_, subst, List, [], _∷_, ℕ, _<_, _^_, length, calls-plain, calls-lent, callsOf, loopsOf, framed, meets, URA, named, w32, w64, Val, vint, ofZ, SProp, ent, via, fst∗, emp, id⊢, Lft, Share, Fml, ftrue, flft, Heap, WpFn, givenOf, GhostRules, Running, Model, Given, Item, ‵, _⊛_, _$_, _∵_, !, ⋆, qed, by, move, drop, join, fsplit, fjoin, suffices, frame, done, whole, sub, look-in, look, init, forget, stop, fld, from, load, of-opd, and-then, no-more, assigns, land, returns, enter, alloc1, alloc0, params1, pass1, pass0, free1, free0, owns, Is, uint-makes, sint-makes, uint-vals, sint-vals, uint-tells, sint-tells, sint-lawful, u64, RefT, now, sliceVal, ShrSlice, Room, slice-vals, shr-slice-tells, shr-slice-copy, plain, owned, nothing, onEntry, cited, says, Stays, stay-none-slice, stay-none, walkOf, goes-none-slice, goes-none, ends-at, walked, yes}
 use denote.Enum.Laws as EL
 use Rattle.rfc3550.specs.Write.{listsOf, giveReport, calculateSize}
 use Rattle.utils.specs.Writer.{writtenOf}
 use Rattle.utils.specs.declared.writer.Written.{Written}
 use Rattle.utils.proofs.writer.Written as S
 use Rattle.utils.proofs.writer.Written.Laws as S′
+use Rattle.rfc3550.specs.Loss.{Loss, noLoss}
 use Rattle.report.specs.declared.«report_block».ReportBlock.{ReportBlock}
 use Rattle.report.proofs.report_block.ReportBlock as T
 use Rattle.report_write.specs.Report.{countedSize}
@@ -47,7 +48,7 @@ module _ {M : Type 1} (𝓤 : URA M) (H : Heap 𝓤) (𝓜 : Model 𝓤 H) (𝓖
   abbrev Post : Val → SProp 𝓤
   Post = walkOf 𝓤 H (𝓖 .A) size.ended stayed (size.clauses 𝓤 H (𝓖 .A) (𝓜 .mem) (𝓡 .run)) .post (((κ, tt), (q, tt), tt, (p, (x, (k, tt))), vals), tt)
 
-  abbrev Said : ℕ → Written → Type 0
+  abbrev Said : Loss → Written → Type 0
   Said d r = writtenOf r ≡ countedSize (leastOf p) (length (x .now)) d k
 
   exits : (r : Written) → Is S.the-row r (EL.vals S.the-type S′.the-laws r) → writtenOf r ≡ calculateSize (giveReport (reporterOf p) (listsOf (recordsOf (x .now))) k) → ent 𝓤 (⋆ 𝓤 H (𝓖 .A) (token ∷ ‵ Own ∷ [])) (Post (EL.val S.the-type S′.the-laws r))
@@ -64,16 +65,16 @@ module _ {M : Type 1} (𝓤 : URA M) (H : Heap 𝓤) (𝓜 : Model 𝓤 H) (𝓖
       pass1 ! (init ! 8 refl (EL.lawful P.the-type P′.the-laws 𝓤 H (𝓖 .A) W tt .typed p _ p-is .0)) $ pass1 ! (init ! 6 refl (tt, (tt, (record { fits = room .0 }, tt)))) $ pass1 ! (init ! 4 refl (tt, record { fits = k-fits })) $ pass0 ! $
       move ! (13 ∷ []) $ fsplit ! $ drop ! $ fsplit ! $ move ! (1 ∷ []) $ drop ! $ move ! (13 ∷ 0 ∷ []) $
       calls-lent W loss.ended (loss.clauses 𝓤 H (𝓖 .A) (𝓜 .mem) (𝓡 .run)) (((κ, tt), (q, tt), tt, (x, tt), (t ∷ [], tt)), tt) ! (framed 𝓤 H 𝓜 𝓖 𝓡 code.env) (cited 𝓤 H _ 𝓜 𝓡 code.env loss-def.name loss-def.routine code.calls-records·tested-loss (loss-thm.met 𝓤 H 𝓜 𝓖 𝓡)) token (‵ Own) (shr-slice-copy 𝓤 H (𝓖 .A) W (named 0) κ T.the-row .twice x (t ∷ []))
-      (qed W (token ∷ ‵ Own ∷ []) ∵ nothing ! $ move ! (2 ∷ 0 ∷ []) $ fjoin ! $ move ! (1 ∷ 0 ∷ []) $ join ! $ frame ! $ done !) (id⊢ 𝓤 _) (and-then ! (load ! (from ! (stop !)) (look ! 8 refl)) (no-more !)) (λ d. d ≡ testedOf 0 (x .now)) (λ d ws. id⊢ 𝓤 _) (uint-vals w32) (uint-tells w32) (λ d got d-is.
-      land ! (from ! (stop !)) (init ! 5 refl (uint-lawful 𝓤 H (𝓖 .A) W w32 .typed d _ d-is .0)) $ drop ! $
+      (qed W (token ∷ ‵ Own ∷ []) ∵ nothing ! $ move ! (2 ∷ 0 ∷ []) $ fjoin ! $ move ! (1 ∷ 0 ∷ []) $ join ! $ frame ! $ done !) (id⊢ 𝓤 _) (and-then ! (load ! (from ! (stop !)) (look ! 8 refl)) (no-more !)) (λ d. d ≡ testedOf noLoss (x .now)) (λ d ws. id⊢ 𝓤 _) (sint-vals w32) (sint-tells w32) (λ d got d-is.
+      land ! (from ! (stop !)) (init ! 5 refl (sint-lawful 𝓤 H (𝓖 .A) W w32 .typed d _ d-is .0)) $ drop ! $
       -- [token; Own; _5; …; _4; …; _3; …; _2; …; _1; …; _0; …]
       assigns ! (of-opd ! (load ! (from ! (fld ! refl (stop !))) (look-in ! 8 (sub ! 1 refl (whole !))))) (from ! (stop !)) (init ! 2 refl (tt, record { fits = room .0 })) $
-      calls-plain W check.ended (check.clauses 𝓤 H (𝓖 .A) (𝓜 .mem) (𝓡 .run)) ((tt, tt, tt, (p, (length (x .now), (d, (k, tt)))), (v ∷ [], (vint w64 (length (x .now)) ∷ [], (vint w32 d ∷ [], (vint w64 k ∷ [], tt))))), tt) ! (framed 𝓤 H 𝓜 𝓖 𝓡 code.env) (cited 𝓤 H _ 𝓜 𝓡 code.env check-def.name check-def.routine code.calls-records·check-report (check-thm.met 𝓤 H 𝓜 𝓖 𝓡)) (id⊢ 𝓤 _) (id⊢ 𝓤 _)
-      (EL.makes P.the-type P′.the-plain 𝓤 H (𝓖 .A), (uint-makes 𝓤 H (𝓖 .A) W w64, (uint-makes 𝓤 H (𝓖 .A) W w32, (uint-makes 𝓤 H (𝓖 .A) W w64, tt)))) (p-is, ((refl, room .0), (d-is, ((refl, k-fits), tt)))) (and-then ! (load ! (from ! (stop !)) (look ! 11 refl)) (and-then ! (load ! (from ! (stop !)) (look ! 3 refl)) (and-then ! (load ! (from ! (stop !)) (look ! 5 refl)) (and-then ! (load ! (from ! (stop !)) (look ! 7 refl)) (no-more !)))))
+      calls-plain W check.ended (check.clauses 𝓤 H (𝓖 .A) (𝓜 .mem) (𝓡 .run)) ((tt, tt, tt, (p, (length (x .now), (d, (k, tt)))), (v ∷ [], (vint w64 (length (x .now)) ∷ [], (vint w32 (ofZ w32 d) ∷ [], (vint w64 k ∷ [], tt))))), tt) ! (framed 𝓤 H 𝓜 𝓖 𝓡 code.env) (cited 𝓤 H _ 𝓜 𝓡 code.env check-def.name check-def.routine code.calls-records·check-report (check-thm.met 𝓤 H 𝓜 𝓖 𝓡)) (id⊢ 𝓤 _) (id⊢ 𝓤 _)
+      (EL.makes P.the-type P′.the-plain 𝓤 H (𝓖 .A), (uint-makes 𝓤 H (𝓖 .A) W w64, (sint-makes 𝓤 H (𝓖 .A) W w32, (uint-makes 𝓤 H (𝓖 .A) W w64, tt)))) (p-is, ((refl, room .0), (d-is, ((refl, k-fits), tt)))) (and-then ! (load ! (from ! (stop !)) (look ! 11 refl)) (and-then ! (load ! (from ! (stop !)) (look ! 3 refl)) (and-then ! (load ! (from ! (stop !)) (look ! 5 refl)) (and-then ! (load ! (from ! (stop !)) (look ! 7 refl)) (no-more !)))))
       (Said d) (λ r ws. id⊢ 𝓤 _) (EL.vals S.the-type S′.the-laws) (EL.tells S.the-type S′.the-laws) (λ r e r-is.
       land ! (from ! (stop !)) (init ! 12 refl (EL.lawful S.the-type S′.the-laws 𝓤 H (𝓖 .A) W tt .typed r _ r-is .0)) $
       returns ! (look ! 12 refl) $ forget ! 2 refl $ forget ! 4 refl $ forget ! 6 refl $ forget ! 8 refl $ forget ! 10 refl $ forget ! 12 refl $ move ! (12 ∷ 13 ∷ []) $ free1 ! $ move ! (10 ∷ 11 ∷ []) $ free1 ! $ move ! (8 ∷ 9 ∷ []) $ free1 ! $ move ! (6 ∷ 7 ∷ []) $ free1 ! $ move ! (4 ∷ 5 ∷ []) $ free1 ! $ move ! (2 ∷ 3 ∷ []) $ free1 ! $ free0 ! $
-      by ! (exits r r-is (subst (λ (d : ℕ). Said d r) got e ∙ lent-size p (x .now) k))))))))))
+      by ! (exits r r-is (subst (λ (d : Loss). Said d r) got e ∙ lent-size p (x .now) k))))))))))
 
 pub calculate-size-spec : {M : Type 1} → stated.statement M
 unfolding code.routine

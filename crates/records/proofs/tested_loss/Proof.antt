@@ -1,8 +1,9 @@
 -- `tested_loss` meets its contract: a walk of its MIR, by hand, with a loop that counts the blocks.
-use Rattle.by_hand.proofs.Walking.{_≡_, refl, sym, _∙_, ap, subst, Bool, List, [], _∷_, ℕ, _+_, _<_, _^_, arith, length, getD, lit<, calls-plain, calls-lent, counting, callsOf, loopsOf, framed, meets, URA, fullShare, named, w32, w64, tyInt, Ty, imm, tyBool, tyRef, loop, Val, vint, vbool, SProp, ent, via, fst∗, exE, emp, id⊢, ex, guard, exI, guardI, guardE, Lft, Share, Fml, ftrue, flft, fat, froom, fdies, Heap, WpFn, Out, Env, afterSeq, afterBlock, Wp, atReturn, givenOf, GhostRules, Running, Model, Given, Item, ‵, _⊛_, ⋆, _$_, _∵_, !, qed, by, move, drop, rewrite, fsplit, fjoin, suffices, frame, done, anyQ, atRet, keep, whole, sub, look-in, look, init, forget, stop, fld, from, load, of-opd, and-then, no-more, assigns, land, returns, enter, alloc1, alloc0, params1, pass1, pass0, free1, free0, store, lit, bin, assigns-last, stays, leaves-loop, exec, owns, Is, uint-makes, uint-vals, uint-tells, uint-lawful, u32, usize, RefT, now, sliceVal, ShrSlice, Room, slice-vals, shr-slice-tells, shr-slice-copy, sliceTy, plain, owned, nothing, onEntry, cited, says, Stays, stay-none-slice, walkOf, goes-none-slice, ends-at, walked, yes, pointee, afterTurn}
+use Rattle.by_hand.proofs.Walking.{_≡_, refl, sym, _∙_, ap, subst, Bool, List, [], _∷_, ℕ, _+_, _<_, _^_, arith, length, getD, lit<, calls-plain, calls-lent, counting, callsOf, loopsOf, framed, meets, URA, fullShare, named, w32, w64, tyInt, Ty, imm, tyBool, tyRef, loop, Val, vint, ofZ, vbool, SProp, ent, via, fst∗, exE, emp, id⊢, ex, guard, exI, guardI, guardE, Lft, Share, Fml, ftrue, flft, fat, froom, fdies, Heap, WpFn, Out, Env, afterSeq, afterBlock, Wp, atReturn, givenOf, GhostRules, Running, Model, Given, Item, ‵, _⊛_, ⋆, _$_, _∵_, !, qed, by, move, drop, rewrite, fsplit, fjoin, suffices, frame, done, anyQ, atRet, keep, whole, sub, look-in, look, init, forget, stop, fld, from, load, of-opd, and-then, no-more, assigns, land, returns, enter, alloc1, alloc0, params1, pass1, pass0, free1, free0, store, lit, bin, assigns-last, stays, leaves-loop, exec, owns, Is, uint-makes, sint-makes, sint-vals, sint-tells, sint-lawful, i32, usize, RefT, now, sliceVal, ShrSlice, Room, slice-vals, shr-slice-tells, shr-slice-copy, sliceTy, plain, owned, nothing, onEntry, cited, says, Stays, stay-none-slice, walkOf, goes-none-slice, ends-at, walked, yes, pointee, afterTurn, mag, ofZ-fits}
 use lib.ListN.{drop as behind}
 use borrow.Author.Tests.{lt-ltb, le-ltb}
 use denote.Struct.Laws as LL
+use Rattle.rfc3550.specs.Loss.{Loss, noLoss}
 use Rattle.report.specs.declared.«report_block».ReportBlock.{ReportBlock}
 use Rattle.report.proofs.report_block.ReportBlock as T
 use Rattle.report.proofs.report_block.ReportBlock.Laws as T′
@@ -57,19 +58,19 @@ module _ {M : Type 1} (𝓤 : URA M) (H : Heap 𝓤) (𝓜 : Model 𝓤 H) (𝓖
     E = (half, l₀) ∷ (slice, l₁) ∷ (word, l₂) ∷ (half, l₃) ∷ (word, l₄) ∷ (T′.mir, l₅) ∷ (tyBool, l₆) ∷ []
 
     -- the loss so far is d, and i turns are done; from Own on, what no turn touches
-    abbrev Locals : ℕ → ℕ → List (Item 𝓤)
-    Locals d i = ‵ (fat fullShare half l₃ 0 (vint w32 d)) ∷ ‵ (fat fullShare word l₄ 0 (vint w64 i)) ∷ ‵ (froom tyBool l₆ 0) ∷ ‵ (froom T′.mir l₅ 0) ∷ ‵ Own ∷ token ∷ ‵ (fat fullShare slice l₁ 0 s) ∷ ‵ (fat fullShare word l₂ 0 (vint w64 n)) ∷ ‵ (froom half l₀ 0)
+    abbrev Locals : Loss → ℕ → List (Item 𝓤)
+    Locals d i = ‵ (fat fullShare half l₃ 0 (vint w32 (ofZ w32 d))) ∷ ‵ (fat fullShare word l₄ 0 (vint w64 i)) ∷ ‵ (froom tyBool l₆ 0) ∷ ‵ (froom T′.mir l₅ 0) ∷ ‵ Own ∷ token ∷ ‵ (fat fullShare slice l₁ 0 s) ∷ ‵ (fat fullShare word l₂ 0 (vint w64 n)) ∷ ‵ (froom half l₀ 0)
         ∷ ‵ (fdies half l₀) ∷ ‵ (fdies slice l₁) ∷ ‵ (fdies word l₂) ∷ ‵ (fdies half l₃) ∷ ‵ (fdies word l₄) ∷ ‵ (fdies T′.mir l₅) ∷ ‵ (fdies tyBool l₆) ∷ []
 
     -- what decides of the loss so far and the blocks from i on is what decides of all
-    abbrev Known : ℕ → ℕ → Type 0
-    Known i d = (d < 2 ^ 32) × (testedOf d (behind i (x .now)) ≡ testedOf 0 (x .now))
+    abbrev Known : ℕ → Loss → Type 0
+    Known i d = (mag d < 2 ^ 31) × (testedOf d (behind i (x .now)) ≡ testedOf noLoss (x .now))
 
     abbrev At : ℕ → SProp 𝓤
-    At i = ex 𝓤 (λ (d : ℕ). guard 𝓤 (Known i d) (⋆ 𝓤 H (𝓖 .A) (Locals d i)))
+    At i = ex 𝓤 (λ (d : Loss). guard 𝓤 (Known i d) (⋆ 𝓤 H (𝓖 .A) (Locals d i)))
 
-    into : (i d : ℕ) → Known i d → ent 𝓤 (⋆ 𝓤 H (𝓖 .A) (Locals d i)) (At i)
-    into i d e = via 𝓤 (guard 𝓤 (Known i d) (⋆ 𝓤 H (𝓖 .A) (Locals d i))) (guardI 𝓤 (Known i d) (⋆ 𝓤 H (𝓖 .A) (Locals d i)) e) (exI 𝓤 (λ (d : ℕ). guard 𝓤 (Known i d) (⋆ 𝓤 H (𝓖 .A) (Locals d i))) d)
+    into : (i : ℕ) (d : Loss) → Known i d → ent 𝓤 (⋆ 𝓤 H (𝓖 .A) (Locals d i)) (At i)
+    into i d e = via 𝓤 (guard 𝓤 (Known i d) (⋆ 𝓤 H (𝓖 .A) (Locals d i))) (guardI 𝓤 (Known i d) (⋆ 𝓤 H (𝓖 .A) (Locals d i)) e) (exI 𝓤 (λ (d : Loss). guard 𝓤 (Known i d) (⋆ 𝓤 H (𝓖 .A) (Locals d i))) d)
 
     -- when the loop is left, the rest of the body runs
     abbrev Left : Out → SProp 𝓤
@@ -78,7 +79,7 @@ module _ {M : Type 1} (𝓤 : URA M) (H : Heap 𝓤) (𝓜 : Model 𝓤 H) (𝓖
     -- a turn that takes one block
     more : (i : ℕ) (X : SProp 𝓤) → i < n → ent 𝓤 (At (i + 1)) X → ent 𝓤 (At i) (Wp 𝓤 H (callsOf 𝓤 H 𝓜 𝓖 𝓡 code.env) (loopsOf 𝓤 H 𝓜 𝓖 𝓡 code.env) E mir.turn-1 (afterTurn 𝓤 H X Left))
     unfolding afterTurn
-    more i X within then = exE 𝓤 (λ (d : ℕ). guard 𝓤 (Known i d) (⋆ 𝓤 H (𝓖 .A) (Locals d i))) (λ d. guardE 𝓤 (Known i d) (⋆ 𝓤 H (𝓖 .A) (Locals d i)) (λ known.
+    more i X within then = exE 𝓤 (λ (d : Loss). guard 𝓤 (Known i d) (⋆ 𝓤 H (𝓖 .A) (Locals d i))) (λ d. guardE 𝓤 (Known i d) (⋆ 𝓤 H (𝓖 .A) (Locals d i)) (λ known.
         qed W (Locals d i) ∵ exec ! (callsOf 𝓤 H 𝓜 𝓖 𝓡 code.env) (loopsOf 𝓤 H 𝓜 𝓖 𝓡 code.env) E mir.turn-1 (anyQ (afterTurn 𝓤 H X Left)) $
         -- [_3; _4; _6; _5; Own; the token; _1; _2; _0; …]
         assigns ! (bin ! (load ! (from ! (stop !)) (look ! 1 refl)) (load ! (from ! (stop !)) (look ! 7 refl)) tt) (from ! (stop !)) (init ! 2 refl (tt, tt)) $
@@ -88,11 +89,11 @@ module _ {M : Type 1} (𝓤 : URA M) (H : Heap 𝓤) (𝓜 : Model 𝓤 H) (𝓖
         (λ e. e ≡ getD (x .now) i noBlock) (λ e ws. id⊢ 𝓤 _) (LL.vals T.the-type T′.the-laws) (LL.tells T.the-type T′.the-laws) (λ e is-elem e-is.
         land ! (from ! (stop !)) (init ! 6 refl (LL.lawful T.the-type T′.the-laws 𝓤 H (𝓖 .A) W .typed e _ e-is .0)) $ drop ! $
         -- [the token; Own; _3; _4; _6; _5; _1; _2; _0; …]
-        calls-plain W one.ended (one.clauses 𝓤 H (𝓖 .A) (𝓜 .mem) (𝓡 .run)) ((tt, tt, tt, (d, (e, tt)), (vint w32 d ∷ [], (LL.vals T.the-type T′.the-laws e, tt))), tt) ! (framed 𝓤 H 𝓜 𝓖 𝓡 code.env) (cited 𝓤 H _ 𝓜 𝓡 code.env one-def.name one-def.routine code.calls-records·later-loss (one-thm.met 𝓤 H 𝓜 𝓖 𝓡)) (id⊢ 𝓤 _) (id⊢ 𝓤 _) (uint-makes 𝓤 H (𝓖 .A) W w32, (LL.makes T.the-type T′.the-plain 𝓤 H (𝓖 .A), tt)) ((refl, known .0), (e-is, tt))
-        (and-then ! (load ! (from ! (stop !)) (look ! 3 refl)) (and-then ! (load ! (from ! (stop !)) (look ! 6 refl)) (no-more !))) (λ r. r ≡ laterOf d e) (λ r ws. id⊢ 𝓤 _) (uint-vals w32) (uint-tells w32) (λ r is-later r-is. land ! (from ! (stop !)) (store ! 2 refl (uint-lawful 𝓤 H (𝓖 .A) W w32 .typed r _ r-is .0)) $
+        calls-plain W one.ended (one.clauses 𝓤 H (𝓖 .A) (𝓜 .mem) (𝓡 .run)) ((tt, tt, tt, (d, (e, tt)), (vint w32 (ofZ w32 d) ∷ [], (LL.vals T.the-type T′.the-laws e, tt))), tt) ! (framed 𝓤 H 𝓜 𝓖 𝓡 code.env) (cited 𝓤 H _ 𝓜 𝓡 code.env one-def.name one-def.routine code.calls-records·later-loss (one-thm.met 𝓤 H 𝓜 𝓖 𝓡)) (id⊢ 𝓤 _) (id⊢ 𝓤 _) (sint-makes 𝓤 H (𝓖 .A) W w32, (LL.makes T.the-type T′.the-plain 𝓤 H (𝓖 .A), tt)) ((refl, known .0), (e-is, tt))
+        (and-then ! (load ! (from ! (stop !)) (look ! 3 refl)) (and-then ! (load ! (from ! (stop !)) (look ! 6 refl)) (no-more !))) (λ r. r ≡ laterOf d e) (λ r ws. id⊢ 𝓤 _) (sint-vals w32) (sint-tells w32) (λ r is-later r-is. land ! (from ! (stop !)) (store ! 2 refl (sint-lawful 𝓤 H (𝓖 .A) W w32 .typed r _ r-is .0)) $
         assigns-last ! (bin ! (load ! (from ! (stop !)) (look ! 3 refl)) (lit ! tt) (record { fits = omega (arith, within, room .0) })) (from ! (stop !)) (store ! 3 refl (tt, record { fits = omega (arith, within, room .0) })) $
         forget ! 4 refl $ forget ! 5 refl $ move ! (2 ∷ 3 ∷ 4 ∷ 5 ∷ 1 ∷ 0 ∷ []) $
-        by ! (via 𝓤 (At (i + 1)) (into (i + 1) r (r-is .1, subst (λ (y : ℕ). testedOf y (behind (i + 1) (x .now)) ≡ testedOf 0 (x .now)) (sym (is-later ∙ ap (laterOf d) is-elem)) (loss-next (x .now) d (testedOf 0 (x .now)) i (known .1) within))) then)))))
+        by ! (via 𝓤 (At (i + 1)) (into (i + 1) r (r-is .1, subst (λ (y : Loss). testedOf y (behind (i + 1) (x .now)) ≡ testedOf noLoss (x .now)) (sym (is-later ∙ ap (laterOf d) is-elem)) (loss-next (x .now) d (testedOf noLoss (x .now)) i (known .1) within))) then)))))
       where
         fits : i < 2 ^ 64
         fits = omega (arith, within, room .0)
@@ -100,18 +101,18 @@ module _ {M : Type 1} (𝓤 : URA M) (H : Heap 𝓤) (𝓜 : Model 𝓤 H) (𝓖
     -- the turn that leaves the loop, and the rest of the body
     ends : (X : SProp 𝓤) → ent 𝓤 (At n) (Wp 𝓤 H (callsOf 𝓤 H 𝓜 𝓖 𝓡 code.env) (loopsOf 𝓤 H 𝓜 𝓖 𝓡 code.env) E mir.turn-1 (afterTurn 𝓤 H X Left))
     unfolding afterTurn
-    ends X = exE 𝓤 (λ (d : ℕ). guard 𝓤 (Known n d) (⋆ 𝓤 H (𝓖 .A) (Locals d n))) (λ d. guardE 𝓤 (Known n d) (⋆ 𝓤 H (𝓖 .A) (Locals d n)) (λ known.
+    ends X = exE 𝓤 (λ (d : Loss). guard 𝓤 (Known n d) (⋆ 𝓤 H (𝓖 .A) (Locals d n))) (λ d. guardE 𝓤 (Known n d) (⋆ 𝓤 H (𝓖 .A) (Locals d n)) (λ known.
         qed W (Locals d n) ∵ exec ! (callsOf 𝓤 H 𝓜 𝓖 𝓡 code.env) (loopsOf 𝓤 H 𝓜 𝓖 𝓡 code.env) E mir.turn-1 (anyQ (afterTurn 𝓤 H X Left)) $
         assigns ! (bin ! (load ! (from ! (stop !)) (look ! 1 refl)) (load ! (from ! (stop !)) (look ! 7 refl)) tt) (from ! (stop !)) (init ! 2 refl (tt, tt)) $
         rewrite ! 2 (λ (t : Bool). ‵ (fat fullShare tyBool l₆ 0 (vbool t))) (le-ltb n n (omega arith)) refl $ leaves-loop ! (load ! (from ! (stop !)) (look ! 2 refl)) $ exec ! (callsOf 𝓤 H 𝓜 𝓖 𝓡 code.env) (loopsOf 𝓤 H 𝓜 𝓖 𝓡 code.env) E mir.t-5 (atRet E Post) $
-        assigns ! (of-opd ! (load ! (from ! (stop !)) (look ! 0 refl))) (from ! (stop !)) (init ! 8 refl (tt, record { fits = known .0 })) $
+        assigns ! (of-opd ! (load ! (from ! (stop !)) (look ! 0 refl))) (from ! (stop !)) (init ! 8 refl (tt, ofZ-fits w32 d (record { sfits = known .0 }))) $
         returns ! (look ! 8 refl) $ forget ! 0 refl $ forget ! 1 refl $ forget ! 2 refl $ forget ! 6 refl $ forget ! 7 refl $ forget ! 8 refl $
         move ! (8 ∷ 9 ∷ []) $ free1 ! $ move ! (6 ∷ 8 ∷ []) $ free1 ! $ move ! (6 ∷ 7 ∷ []) $ free1 ! $ move ! (0 ∷ 6 ∷ []) $ free1 ! $ move ! (0 ∷ 5 ∷ []) $ free1 ! $ move ! (1 ∷ 4 ∷ []) $ free1 ! $ move ! (0 ∷ 3 ∷ []) $ free1 ! $ free0 ! $
-        move ! (1 ∷ 0 ∷ []) $ suffices ! _ (ends-at 𝓤 H (𝓖 .A) loss.ended stayed (loss.clauses 𝓤 H (𝓖 .A) (𝓜 .mem) (𝓡 .run)) W (((κ, tt), (q, tt), tt, (x, tt), (s ∷ [], tt)), tt) (vint w32 d) d (tt, tt) (tt, tt)) $ says ! (loss-done (x .now) d (testedOf 0 (x .now)) n (known .1) (omega arith)) $
-        frame ! $ nothing ! $ move ! (1 ∷ 0 ∷ []) $ fjoin ! $ frame ! $ owned ! u32 (Is u32) (uint-makes 𝓤 H (𝓖 .A) W w32) d _ (refl, known .0) $ done !))
+        move ! (1 ∷ 0 ∷ []) $ suffices ! _ (ends-at 𝓤 H (𝓖 .A) loss.ended stayed (loss.clauses 𝓤 H (𝓖 .A) (𝓜 .mem) (𝓡 .run)) W (((κ, tt), (q, tt), tt, (x, tt), (s ∷ [], tt)), tt) (vint w32 (ofZ w32 d)) d (tt, tt) (tt, tt)) $ says ! (loss-done (x .now) d (testedOf noLoss (x .now)) n (known .1) (omega arith)) $
+        frame ! $ nothing ! $ move ! (1 ∷ 0 ∷ []) $ fjoin ! $ frame ! $ owned ! i32 (Is i32) (sint-makes 𝓤 H (𝓖 .A) W w32) d _ (refl, known .0) $ done !))
 
-    loops : ent 𝓤 (⋆ 𝓤 H (𝓖 .A) (Locals 0 0)) (Wp 𝓤 H (callsOf 𝓤 H 𝓜 𝓖 𝓡 code.env) (loopsOf 𝓤 H 𝓜 𝓖 𝓡 code.env) E (loop mir.turn-1) Left)
-    loops = via 𝓤 (At 0) (into 0 0 (lit< tt, refl)) (counting 𝓤 H 𝓜 𝓖 𝓡 code.env E mir.turn-1 Left n At more ends)
+    loops : ent 𝓤 (⋆ 𝓤 H (𝓖 .A) (Locals noLoss 0)) (Wp 𝓤 H (callsOf 𝓤 H 𝓜 𝓖 𝓡 code.env) (loopsOf 𝓤 H 𝓜 𝓖 𝓡 code.env) E (loop mir.turn-1) Left)
+    loops = via 𝓤 (At 0) (into 0 noLoss (lit< tt, refl)) (counting 𝓤 H 𝓜 𝓖 𝓡 code.env E mir.turn-1 Left n At more ends)
 
   walk : ent 𝓤 (onEntry 𝓤 H (𝓖 .A) loss.signature (κ, tt) (q, tt) (x, tt) (s ∷ [], tt)) (WpFn 𝓤 H (callsOf 𝓤 H 𝓜 𝓖 𝓡 code.env) (loopsOf 𝓤 H 𝓜 𝓖 𝓡 code.env) code.function (s ∷ []) Post)
   walk =

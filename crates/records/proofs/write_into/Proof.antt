@@ -1,9 +1,10 @@
 -- `write_into` meets its contract: a walk of its MIR, by hand. `tested_loss` reads the blocks lent, `write_frame` answers and lays what stands around them, and `write_blocks_unchecked` lays them.
-use Rattle.by_hand.proofs.Walking.{_≡_, refl, _∙_, List, [], _∷_, ℕ, _-_, _*_, _<_, _≤_, _^_, length, LentAgain, lends-again, comes-back, contractOf, calls-with, calls-plain, calls-lent, callsOf, loopsOf, framed, meets, URA, fullShare, named, w32, w64, Val, vint, SProp, ent, via, fst∗, emp, id⊢, Lft, Share, Fml, ftrue, flft, GName, Heap, WpFn, givenOf, GhostRules, Running, Model, Given, Item, ‵, raw, some, later, _⊛_, ⋆, _$_, _∵_, !, qed, by, move, drop, use1, use2, split, join, pick, fsplit, fjoin, suffices, frame, await, done, keep, use3, feqL, whole, sub, look-in, agg, look, init, forget, stop, fld, from, load, of-opd, and-then, no-more, assigns, land, returns, enter, alloc1, alloc0, params1, pass1, pass0, free1, free0, store, hop, addr, owns, Is, uint-makes, uint-vals, uint-tells, uint-lawful, nothing-lawful, nothing-vals, nothing-tells, u32, u64, usize, u8, RefT, now, sliceVal, ShrSlice, Room, slice-vals, shr-slice-tells, shr-slice-copy, MutSlice, mut-slice-tells, plain, owned, nothing, onEntry, cited, says, Stays, stay-none-slice, stay-none, walkOf, goes-none-slice, goes-none, ends-at, walked, gave-slice, goes-gave-slice, yes, lft-new, lft-end}
+use Rattle.by_hand.proofs.Walking.{_≡_, refl, _∙_, List, [], _∷_, ℕ, _-_, _*_, _<_, _≤_, _^_, length, LentAgain, lends-again, comes-back, contractOf, calls-with, calls-plain, calls-lent, callsOf, loopsOf, framed, meets, URA, fullShare, named, w32, w64, Val, vint, ofZ, SProp, ent, via, fst∗, emp, id⊢, Lft, Share, Fml, ftrue, flft, GName, Heap, WpFn, givenOf, GhostRules, Running, Model, Given, Item, ‵, raw, some, later, _⊛_, ⋆, _$_, _∵_, !, qed, by, move, drop, use1, use2, split, join, pick, fsplit, fjoin, suffices, frame, await, done, keep, use3, feqL, whole, sub, look-in, agg, look, init, forget, stop, fld, from, load, of-opd, and-then, no-more, assigns, land, returns, enter, alloc1, alloc0, params1, pass1, pass0, free1, free0, store, hop, addr, owns, Is, uint-makes, sint-makes, uint-vals, sint-vals, uint-tells, sint-tells, uint-lawful, sint-lawful, nothing-lawful, nothing-vals, nothing-tells, i32, u64, usize, u8, RefT, now, sliceVal, ShrSlice, Room, slice-vals, shr-slice-tells, shr-slice-copy, MutSlice, mut-slice-tells, plain, owned, nothing, onEntry, cited, says, Stays, stay-none-slice, stay-none, walkOf, goes-none-slice, goes-none, ends-at, walked, gave-slice, goes-gave-slice, yes, lft-new, lft-end, mag}
 use lib.ListN.{take}
 use denote.Enum.Laws as EL
 use denote.Slice.{finally}
 use Rattle.rfc3550.specs.Bytes.{store as stored}
+use Rattle.rfc3550.specs.Loss.{Loss, noLoss}
 use Rattle.rfc3550.specs.Packet.{blocksBytes}
 use Rattle.rfc3550.specs.Write.{room as fitting, listsOf, giveReport, write as write-given}
 use Rattle.utils.specs.Writer.{writtenOf}
@@ -78,12 +79,12 @@ module _ {M : Type 1} (𝓤 : URA M) (H : Heap 𝓤) (𝓜 : Model 𝓤 H) (𝓖
   Post = walkOf 𝓤 H (𝓖 .A) write.ended stayed (write.clauses 𝓤 H (𝓖 .A) (𝓜 .mem) (𝓡 .run)) .post (((κ, (κ′, tt)), (q, (q′, tt)), tt, (y γ l, (p, (x, (k, tt)))), vals), tt)
 
   -- what the callees that are lent a slice are passed, and that the caller has what they ask
-  abbrev to-frame : ℕ → GName → ℕ → contractOf 𝓤 H (𝓖 .A) around.ended (around.clauses 𝓤 H (𝓖 .A) (𝓜 .mem) (𝓡 .run)) .Ghost
-  to-frame ν δ d = (((ν ∷ [], tt), (fullShare, tt), tt, (y δ l, (p, (length (x .now), (d, (k, tt))))), (s ∷ [], (v ∷ [], (vint w64 (length (x .now)) ∷ [], (vint w32 d ∷ [], (vint w64 k ∷ [], tt)))))), tt)
+  abbrev to-frame : ℕ → GName → Loss → contractOf 𝓤 H (𝓖 .A) around.ended (around.clauses 𝓤 H (𝓖 .A) (𝓜 .mem) (𝓡 .run)) .Ghost
+  to-frame ν δ d = (((ν ∷ [], tt), (fullShare, tt), tt, (y δ l, (p, (length (x .now), (d, (k, tt))))), (s ∷ [], (v ∷ [], (vint w64 (length (x .now)) ∷ [], (vint w32 (ofZ w32 d) ∷ [], (vint w64 k ∷ [], tt)))))), tt)
 
-  goes-frame : (ν : ℕ) (δ : GName) (d : ℕ) → d < 2 ^ 32 → ent 𝓤 (⋆ 𝓤 H (𝓖 .A) (‵ (flft (ν ∷ []) fullShare) ∷ ‵ (Lent ν δ) ∷ [])) (contractOf 𝓤 H (𝓖 .A) around.ended (around.clauses 𝓤 H (𝓖 .A) (𝓜 .mem) (𝓡 .run)) .pre (to-frame ν δ d))
+  goes-frame : (ν : ℕ) (δ : GName) (d : Loss) → mag d < 2 ^ 31 → ent 𝓤 (⋆ 𝓤 H (𝓖 .A) (‵ (flft (ν ∷ []) fullShare) ∷ ‵ (Lent ν δ) ∷ [])) (contractOf 𝓤 H (𝓖 .A) around.ended (around.clauses 𝓤 H (𝓖 .A) (𝓜 .mem) (𝓡 .run)) .pre (to-frame ν δ d))
   goes-frame ν δ d fits =
-      qed W (‵ (flft (ν ∷ []) fullShare) ∷ ‵ (Lent ν δ) ∷ []) ∵ nothing ! $ move ! (1 ∷ 0 ∷ []) $ join ! $ nothing ! $ owned ! u64 (Is u64) (uint-makes 𝓤 H (𝓖 .A) W w64) k _ (refl, k-fits) $ fjoin ! $ owned ! u32 (Is u32) (uint-makes 𝓤 H (𝓖 .A) W w32) d _ (refl, fits) $ fjoin ! $
+      qed W (‵ (flft (ν ∷ []) fullShare) ∷ ‵ (Lent ν δ) ∷ []) ∵ nothing ! $ move ! (1 ∷ 0 ∷ []) $ join ! $ nothing ! $ owned ! u64 (Is u64) (uint-makes 𝓤 H (𝓖 .A) W w64) k _ (refl, k-fits) $ fjoin ! $ owned ! i32 (Is i32) (sint-makes 𝓤 H (𝓖 .A) W w32) d _ (refl, fits) $ fjoin ! $
       owned ! usize (Is usize) (uint-makes 𝓤 H (𝓖 .A) W w64) (length (x .now)) _ (refl, room′ .0) $ fjoin ! $ owned ! P.the-row (Is P.the-row) (EL.makes P.the-type P′.the-plain 𝓤 H (𝓖 .A)) p _ p-is $ fjoin ! $ move ! (2 ∷ 0 ∷ []) $ fjoin ! $ move ! (1 ∷ 0 ∷ []) $ join ! $ frame ! $ done !
 
   abbrev to-blocks : List ℕ → ℕ → ℕ → contractOf 𝓤 H (𝓖 .A) blocks.ended (blocks.clauses 𝓤 H (𝓖 .A) (𝓜 .mem) (𝓡 .run)) .Ghost
@@ -94,7 +95,7 @@ module _ {M : Type 1} (𝓤 : URA M) (H : Heap 𝓤) (𝓜 : Model 𝓤 H) (𝓖
       qed W ((token ⊛ token′) ∷ ‵ (Buf zs) ∷ ‵ Own ∷ []) ∵ says ! (few, fits) $ frame ! $ nothing ! $ owned ! usize (Is usize) (uint-makes 𝓤 H (𝓖 .A) W w64) n _ (refl, n-fits) $ fjoin ! $ move ! (2 ∷ 0 ∷ []) $ fjoin ! $
       owned ! usize (Is usize) (uint-makes 𝓤 H (𝓖 .A) W w64) at _ (refl, at-fits) $ fjoin ! $ move ! (1 ∷ 0 ∷ []) $ fjoin ! $ done !
 
-  abbrev FrameSaid : ℕ → Written → List ℕ → Type 0
+  abbrev FrameSaid : Loss → Written → List ℕ → Type 0
   FrameSaid d z zs = (writtenOf z ≡ fitting (countedSize (leastOf p) (length (x .now)) d k) (length l)) × (zs ≡ laidFrame p (length (x .now)) k (writtenOf z) l)
 
   exits : (z : Written) (ws : List ℕ) → Is S.the-row z (EL.vals S.the-type S′.the-laws z) → (writtenOf z, ws) ≡ write-given (giveReport (reporterOf p) (listsOf (recordsOf (x .now))) k) l → length ws ≡ length l
@@ -113,8 +114,8 @@ module _ {M : Type 1} (𝓤 : URA M) (H : Heap 𝓤) (𝓜 : Model 𝓤 H) (𝓖
       move ! (31 ∷ []) $ fsplit ! $ move ! (1 ∷ []) $ fsplit ! $ drop ! $ fsplit ! $ move ! (1 ∷ []) $ drop ! $ move ! (32 ∷ []) $ split ! $ move ! (1 ∷ 2 ∷ []) $
       -- [the second token; Own; Buf's; Buf; the locals from the last to the first]
       calls-lent W loss.ended (loss.clauses 𝓤 H (𝓖 .A) (𝓜 .mem) (𝓡 .run)) (((κ′, tt), (q′, tt), tt, (x, tt), (t ∷ [], tt)), tt) ! (framed 𝓤 H 𝓜 𝓖 𝓡 code.env) (cited 𝓤 H _ 𝓜 𝓡 code.env loss-def.name loss-def.routine code.calls-records·tested-loss (loss-thm.met 𝓤 H 𝓜 𝓖 𝓡)) token′ (‵ Own) (shr-slice-copy 𝓤 H (𝓖 .A) W (named 1) κ′ T.the-row .twice x (t ∷ []))
-      (qed W (token′ ∷ ‵ Own ∷ []) ∵ nothing ! $ move ! (2 ∷ 0 ∷ []) $ fjoin ! $ move ! (1 ∷ 0 ∷ []) $ join ! $ frame ! $ done !) (id⊢ 𝓤 _) (and-then ! (load ! (from ! (stop !)) (look ! 26 refl)) (no-more !)) (λ d. d ≡ testedOf 0 (x .now)) (λ d ws. id⊢ 𝓤 _) (uint-vals w32) (uint-tells w32) (λ d got d-is.
-      land ! (from ! (stop !)) (init ! 23 refl (uint-lawful 𝓤 H (𝓖 .A) W w32 .typed d _ d-is .0)) $ drop ! $
+      (qed W (token′ ∷ ‵ Own ∷ []) ∵ nothing ! $ move ! (2 ∷ 0 ∷ []) $ fjoin ! $ move ! (1 ∷ 0 ∷ []) $ join ! $ frame ! $ done !) (id⊢ 𝓤 _) (and-then ! (load ! (from ! (stop !)) (look ! 26 refl)) (no-more !)) (λ d. d ≡ testedOf noLoss (x .now)) (λ d ws. id⊢ 𝓤 _) (sint-vals w32) (sint-tells w32) (λ d got d-is.
+      land ! (from ! (stop !)) (init ! 23 refl (sint-lawful 𝓤 H (𝓖 .A) W w32 .typed d _ d-is .0)) $ drop ! $
       assigns ! (addr ! (from ! (fld ! refl (hop ! (look-in ! 30 (sub ! 0 refl (whole !))) (stop !))))) (from ! (stop !)) (init ! 14 refl (tt, tt)) $
       assigns ! (agg ! (and-then ! (load ! (from ! (stop !)) (look ! 14 refl)) (and-then ! (load ! (from ! (fld ! refl (stop !))) (look-in ! 30 (sub ! 1 refl (whole !)))) (no-more !)))) (from ! (stop !)) (init ! 12 refl (tt, (tt, (record { fits = room .0 }, tt)))) $
       assigns ! (of-opd ! (load ! (from ! (fld ! refl (stop !))) (look-in ! 26 (sub ! 1 refl (whole !))))) (from ! (stop !)) (init ! 10 refl (tt, record { fits = room′ .0 })) $

@@ -6,10 +6,16 @@
 //! Every field, block, source, chunk and item read must be what was given, with a
 //! short APP name zero-filled, an empty reason read as none, a prefix kept on PRIV
 //! only, and the zeros after a reason and of the padding as docs/PROTOCOL.md has them.
-//! The bytes after what was written must be as they were. The exit status is 1
+//! The bytes after what was written must be as they were. The blocks of a report are
+//! read with it, each alone, and as lists. A report with a loss outside the range must
+//! be refused for the first such loss, with every byte as it was. The exit status is 1
 //! where something differs.
+//!
+//! Of COUNT that are written, it prints how many there are of each kind, and how many
+//! blocks were read back with each class of loss; those with a loss outside the range
+//! come on top.
 
-use compare::generate::{operation, Sort, STALE};
+use compare::generate::{operation, stale_lists, Sort, STALE};
 use compare::library::{about_library, watched, Library};
 use compare::operation::{Operation, Outcome};
 use compare::rng::Rng;
@@ -19,7 +25,20 @@ use compare::view::{Value, Verdict, View};
 use library::guard;
 use model::*;
 use std::collections::BTreeMap;
+use std::ops::RangeInclusive;
 use std::process::ExitCode;
+
+/// The classes of losses. What is in the first and the last is refused.
+const CLASSES: [RangeInclusive<i32>; 8] = [
+    i32::MIN..=LOSS_LEAST - 1,
+    LOSS_LEAST..=LOSS_LEAST,
+    LOSS_LEAST + 1..=-2,
+    -1..=-1,
+    0..=0,
+    1..=LOSS_MOST - 1,
+    LOSS_MOST..=LOSS_MOST,
+    LOSS_MOST + 1..=i32::MAX,
+];
 
 /// Differences printed in full.
 const SHOWN: usize = 20;
@@ -35,29 +54,110 @@ fn main() -> ExitCode {
         return ExitCode::SUCCESS;
     }
     let mut rng = Rng::new(seed);
-    let mut counts: BTreeMap<&str, usize> = BTreeMap::new();
-    let mut differences = 0;
-    for _ in 0..count {
-        let written = &*watched(valid(&mut rng));
-        for name in sorts(written) {
-            *counts.entry(name).or_default() += 1;
-        }
-        if let Err(difference) = read_back(written) {
-            differences += 1;
-            if differences <= SHOWN {
-                println!("difference: {}\n{difference}", inputs(written));
+    let mut counts = Counts::default();
+    while counts.written < count {
+        let operation = &*watched(drawn(&mut rng));
+        let outcome = match outside(operation) {
+            Some(loss) => {
+                counts.note_losses(&[loss]);
+                refused(operation, loss)
+            }
+            None => {
+                counts.note_written(operation);
+                read_back(operation)
+            }
+        };
+        if let Err(difference) = outcome {
+            counts.differences += 1;
+            if counts.differences <= SHOWN {
+                println!("difference: {}\n{difference}", inputs(operation));
             }
         }
     }
-    for (name, count) in counts {
-        println!("{name}: {count}");
-    }
-    println!("{count} written and read back, {differences} differ");
-    ExitCode::from(u8::from(differences > 0))
+    counts.print();
+    ExitCode::from(u8::from(counts.differences > 0))
 }
 
-/// A write that is not refused, into a buffer with room to spare.
-fn valid(rng: &mut Rng) -> Operation {
+#[derive(Default)]
+struct Counts {
+    written: usize,
+    sorts: BTreeMap<&'static str, usize>,
+    losses: [usize; CLASSES.len()],
+    differences: usize,
+}
+
+impl Counts {
+    fn note_written(&mut self, operation: &Operation) {
+        self.written += 1;
+        for name in sorts(operation) {
+            *self.sorts.entry(name).or_default() += 1;
+        }
+        if let Some(blocks) = blocks(operation) {
+            self.note_losses(&blocks.losses);
+        }
+    }
+
+    fn note_losses(&mut self, losses: &[i32]) {
+        for loss in losses {
+            let class = CLASSES.iter().position(|class| class.contains(loss));
+            self.losses[class.expect("every loss has a class")] += 1;
+        }
+    }
+
+    fn print(&self) {
+        for (name, count) in &self.sorts {
+            println!("{name}: {count}");
+        }
+        let [below, inside @ .., above] = &self.losses;
+        println!("loss below {LOSS_LEAST}, refused: {below}");
+        for (class, count) in CLASSES[1..].iter().zip(inside) {
+            match (class.start(), class.end()) {
+                (only, to) if only == to => println!("loss {only}: {count}"),
+                (from, to) => println!("loss from {from} to {to}: {count}"),
+            }
+        }
+        println!("loss above {LOSS_MOST}, refused: {above}");
+        let blocks: usize = inside.iter().sum();
+        println!("{blocks} blocks written and read back");
+        println!(
+            "{} written and read back, {} differ",
+            self.written, self.differences
+        );
+    }
+}
+
+/// The blocks of a report that is written.
+fn blocks(operation: &Operation) -> Option<&BlockLists> {
+    match operation {
+        Operation::Write(Given::Report { blocks, .. }, _) => Some(blocks),
+        _ => None,
+    }
+}
+
+/// The first loss of a report that is outside the range.
+fn outside(operation: &Operation) -> Option<i32> {
+    let mut losses = blocks(operation)?.losses.iter().copied();
+    losses.find(|loss| !(LOSS_LEAST..=LOSS_MOST).contains(loss))
+}
+
+/// The write is refused for that loss, and leaves the buffer as it was.
+fn refused(written: &Operation, loss: i32) -> Result<(), String> {
+    let Operation::Write(_, buffer) = written else {
+        return Err("a loss in a report only".to_string());
+    };
+    let refusal = Refusal::loss_too_large(loss);
+    let wanted = View::of(written, &Outcome::Written(Err(refusal), buffer.clone()));
+    let view = Library(guard::Side::End).view(written);
+    let view = view.ok_or("the library cannot write it")?;
+    if view != wanted {
+        return Err(format!("written: {view}\nwanted: {wanted}"));
+    }
+    Ok(())
+}
+
+/// A write that is not refused, into a buffer with room to spare, or a report with a
+/// loss outside the range, into a buffer that may be too short: 17 comes before 10.
+fn drawn(rng: &mut Rng) -> Operation {
     // Five of seven for the five kinds of packets.
     let sort = match rng.below(7) {
         0 => Sort::WriteChunk,
@@ -68,11 +168,11 @@ fn valid(rng: &mut Rng) -> Operation {
     loop {
         let buffer = |size: u64| vec![STALE; size as usize + after];
         match operation(rng, sort) {
-            Operation::Write(given, _) => {
-                if let Ok(size) = size(&given) {
-                    return Operation::Write(given, buffer(size));
-                }
-            }
+            Operation::Write(given, _) => match size(&given) {
+                Ok(size) => return Operation::Write(given, buffer(size)),
+                Err(Refusal { number: 17, .. }) => return Operation::Write(given, buffer(0)),
+                Err(_) => {}
+            },
             Operation::WriteChunk(lists, _) => {
                 if let Ok(size) = size_of_chunk(&lists) {
                     return Operation::WriteChunk(lists, buffer(size));
@@ -128,7 +228,52 @@ fn kept(item: &Item) -> Item {
     item
 }
 
-/// The reading of what was written, and what it must give.
+/// The blocks of a report, each alone and all as lists, with what they must give:
+/// what was given, and stale numbers after it.
+fn block_readings(kind: Kind, bytes: &[u8], given: &BlockLists) -> Vec<(Operation, Outcome)> {
+    let blocks = given.split().expect("the lists agree");
+    let alone = bytes[kind.least()..].chunks(24).zip(&blocks);
+    let mut readings: Vec<(Operation, Outcome)> = alone
+        .map(|(bytes, block)| {
+            let reading = Operation::ReadBlock(bytes.to_vec());
+            (reading, Outcome::Block(Ok(*block)))
+        })
+        .collect();
+    let lists = [
+        wide(&given.fractions),
+        wide(&given.losses),
+        wide(&given.words),
+    ];
+    let lengths = lists.each_ref().map(|list| list.len() + 2);
+    let before = stale_lists(Listing::Blocks(kind), &lengths);
+    let mut after = before.clone();
+    for (list, given) in after.iter_mut().zip(&lists) {
+        list[..given.len()].copy_from_slice(given);
+    }
+    readings.push((
+        Operation::List(Listing::Blocks(kind), bytes.to_vec(), before),
+        Outcome::Listed(Ok(blocks.len() as u64), after),
+    ));
+    readings
+}
+
+fn wide<T: Copy + Into<i128>>(numbers: &[T]) -> Vec<i128> {
+    numbers.iter().map(|number| (*number).into()).collect()
+}
+
+/// The readings of what was written, and what they must give.
+fn readings(written: &Operation, bytes: Vec<u8>) -> Vec<(Operation, Outcome)> {
+    let mut readings = match written {
+        Operation::Write(given @ Given::Report { blocks, .. }, _) => {
+            block_readings(given.kind(), &bytes, blocks)
+        }
+        _ => Vec::new(),
+    };
+    readings.push(reading(written, bytes));
+    readings
+}
+
+/// The reading of all that was written, and what it must give.
 fn reading(written: &Operation, bytes: Vec<u8>) -> (Operation, Outcome) {
     let used = bytes.len();
     match written {
@@ -172,17 +317,18 @@ fn read_back(written: &Operation) -> Result<(), String> {
         return Err(format!("written: {view}"));
     };
     let size = *size as usize;
-    if view.verdict != Verdict::Accepted || *told != Value::Number(size as u64) {
+    if view.verdict != Verdict::Accepted || *told != Value::Number(size as i128) {
         return Err(format!("written: {view}"));
     }
     if buffer.len() != lent(written) || buffer[size..].iter().any(|byte| *byte != STALE) {
         return Err(format!("bytes after it: {view}"));
     }
-    let (reading, wanted) = reading(written, buffer[..size].to_vec());
-    let wanted = View::of(&reading, &wanted);
-    let read = side.view(&reading).ok_or("the library cannot read it")?;
-    if read != wanted {
-        return Err(format!("read: {read}\nwanted: {wanted}"));
+    for (reading, wanted) in readings(written, buffer[..size].to_vec()) {
+        let wanted = View::of(&reading, &wanted);
+        let read = side.view(&reading).ok_or("the library cannot read it")?;
+        if read != wanted {
+            return Err(format!("read: {read}\nwanted: {wanted}"));
+        }
     }
     Ok(())
 }

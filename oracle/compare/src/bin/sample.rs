@@ -9,7 +9,8 @@
 //!
 //! A name that starts with `rust` says that the answer is the Rust's; what the
 //! Rust has no accessor for (extension, tail and padding bytes, the size of a lone
-//! chunk or item) is the model's.
+//! chunk or item) is the model's. A loss below zero is given to the Rust as its 24
+//! bits.
 //! A name that starts with `row` and numbers says that the Rust differs by these
 //! rows, and that the answer is the model's.
 //!

@@ -7,22 +7,22 @@ mod writings;
 use crate::operation::{Operation, Outcome};
 use crate::rng::Rng;
 use model::*;
-pub use packets::packet;
 use packets::*;
+pub use packets::{packet, LOSSES};
 use readings::*;
-pub use writings::sdes_lists;
 use writings::*;
+pub use writings::{sdes_lists, LOSSES_OUTSIDE};
 
 /// The byte that buffers and lists are filled with before a call.
 pub const STALE: u8 = 0x5A;
 
 /// Lists of stale numbers, each as wide as the listing's.
-pub fn stale_lists(listing: Listing, lengths: &[usize]) -> Vec<Vec<u64>> {
+pub fn stale_lists(listing: Listing, lengths: &[usize]) -> Vec<Vec<i128>> {
     let word = u32::from_be_bytes([STALE; 4]).into();
-    let numbers: &[u64] = match listing {
+    let numbers: &[i128] = match listing {
         Listing::Blocks(_) => &[STALE.into(), word, word],
         Listing::Items => &[word],
-        Listing::Packets => &[u64::from_be_bytes([STALE; 8])],
+        Listing::Packets => &[u64::from_be_bytes([STALE; 8]).into()],
     };
     let lists = numbers.iter().zip(lengths);
     lists.map(|(number, len)| vec![*number; *len]).collect()
@@ -271,10 +271,7 @@ pub fn operation(rng: &mut Rng, sort: Sort) -> Operation {
             let kind = kind(rng);
             Operation::ReadAs(kind, packet_bytes(rng, Some(kind)))
         }
-        Sort::ReadBlock => {
-            let length = rng.pick(&[0, 1, 23, 24, 24, 24, 24, 25, 48]);
-            Operation::ReadBlock(bytes(rng, length))
-        }
+        Sort::ReadBlock => Operation::ReadBlock(lone_block(rng)),
         Sort::ReadItem => Operation::ReadItem(lone_item(rng)),
         Sort::ReadPrefix => Operation::ReadPrefix(lone_item(rng)),
         Sort::ReadChunk => Operation::ReadChunk(lone_chunk(rng)),

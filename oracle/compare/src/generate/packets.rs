@@ -49,11 +49,38 @@ pub(super) fn length(rng: &mut Rng, limit: usize) -> usize {
 
 // ---- packets
 
+/// Losses at both ends of the range, and around 0.
+pub const LOSSES: [i32; 9] = [
+    0,
+    1,
+    2,
+    -1,
+    -2,
+    LOSS_LEAST,
+    LOSS_LEAST + 1,
+    LOSS_MOST - 1,
+    LOSS_MOST,
+];
+
+/// A loss that a block can have: an edge, a power of two or its negative, or any.
+pub(super) fn loss(rng: &mut Rng) -> i32 {
+    let bits = rng.below(1 << 24) as i32;
+    match rng.below(8) {
+        0 | 1 => rng.pick(&LOSSES),
+        2 => 1 << rng.below(23),
+        3 => -(1 << rng.below(24)),
+        4 => bits % 1000 - 500,
+        // The 24th bit is the sign.
+        5 => bits / 2 + LOSS_LEAST,
+        _ => bits + LOSS_LEAST,
+    }
+}
+
 pub(super) fn block(rng: &mut Rng) -> Block {
     Block {
         ssrc: word(rng),
         fraction_lost: byte(rng),
-        cumulative_lost: word(rng) & 0xFF_FFFF,
+        cumulative_lost: loss(rng),
         extended_sequence: word(rng),
         jitter: word(rng),
         last_sr: word(rng),

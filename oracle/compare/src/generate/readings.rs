@@ -125,6 +125,15 @@ pub fn packet_bytes(rng: &mut Rng, kind: Option<Kind>) -> Vec<u8> {
     }
 }
 
+pub(super) fn lone_block(rng: &mut Rng) -> Vec<u8> {
+    let length = rng.pick(&[0, 1, 23, 24, 24, 24, 24, 25, 48]);
+    let mut block = bytes(rng, length);
+    if let (Some(bits), true) = (block.get_mut(5..8), rng.once_in(2)) {
+        bits.copy_from_slice(&loss(rng).to_be_bytes()[1..]);
+    }
+    block
+}
+
 pub(super) fn lone_chunk(rng: &mut Rng) -> Vec<u8> {
     let whole = match rng.below(3) {
         0 => {

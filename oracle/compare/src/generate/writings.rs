@@ -101,7 +101,7 @@ fn disturb_blocks(rng: &mut Rng, lists: &mut BlockLists) {
         0 => drop(lists.fractions.pop()),
         1 => lists.fractions.push(1),
         2 => drop(lists.losses.pop()),
-        3 => lists.losses.push(u32::MAX),
+        3 => lists.losses.push(i32::MAX),
         4 => drop(lists.words.pop()),
         5 => lists.words.push(1),
         6 => lists.words.extend([1; 5]),
@@ -165,18 +165,54 @@ fn given_subtype(rng: &mut Rng) -> u64 {
     }
 }
 
+/// Losses beside the range, at the ends of 24 and of 32 bits.
+pub const LOSSES_OUTSIDE: [i32; 12] = [
+    LOSS_LEAST - 1,
+    LOSS_LEAST - 2,
+    LOSS_MOST + 1,
+    LOSS_MOST + 2,
+    0xFF_FFFF,
+    0x100_0000,
+    -0xFF_FFFF,
+    -0x100_0000,
+    i32::MIN,
+    i32::MIN + 1,
+    i32::MAX - 1,
+    i32::MAX,
+];
+
+/// A loss outside the range: an edge, a power of two or its negative, or any.
+fn loss_outside(rng: &mut Rng) -> i32 {
+    // As many are below the range as above it.
+    let past = rng.below((i32::MAX - LOSS_MOST) as usize) as i32;
+    match rng.below(8) {
+        0..=2 => rng.pick(&LOSSES_OUTSIDE),
+        3 => 1 << (23 + rng.below(8)),
+        4 => -1 << (24 + rng.below(8)),
+        // What 24 bits without a sign have.
+        5 => LOSS_MOST + 1 + past % (1 << 23),
+        6 => LOSS_MOST + 1 + past,
+        _ => LOSS_LEAST - 1 - past,
+    }
+}
+
+/// Blocks, at times with a loss outside the range in one of them or in two.
+fn given_blocks(rng: &mut Rng) -> Vec<Block> {
+    let count = given_count(rng);
+    let mut blocks = many(rng, count, block);
+    if count > 0 && rng.once_in(4) {
+        for _ in 0..1 + rng.below(2) {
+            blocks[rng.below(count)].cumulative_lost = loss_outside(rng);
+        }
+    }
+    blocks
+}
+
 pub fn given(rng: &mut Rng, kind: Kind) -> Given {
     let padding = given_padding(rng);
     match kind {
         Kind::Sr | Kind::Rr => {
-            let count = given_count(rng);
-            let mut blocks = many(rng, count, block);
-            if let Some(last) = blocks.last_mut() {
-                if rng.once_in(4) {
-                    last.cumulative_lost =
-                        rng.pick(&[0xFF_FFFF, 0x100_0000, 0xFFFF_FFFF, 0x8000_0000]);
-                }
-            }
+            let blocks = given_blocks(rng);
             Given::Report {
                 ssrc: word(rng),
                 sender: (kind == Kind::Sr).then(|| sender_info(rng)),

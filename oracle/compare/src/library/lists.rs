@@ -6,14 +6,14 @@ use library::*;
 use model::{Kind, Listing};
 
 /// What a call that fills lists answers, and the lists after it.
-type Filled = (RtcpWritten, Vec<Vec<u64>>);
+type Filled = (RtcpWritten, Vec<Vec<i128>>);
 
 impl Library {
     pub(super) fn listed(
         &self,
         listing: Listing,
         bytes: &[u8],
-        before: &[Vec<u64>],
+        before: &[Vec<i128>],
     ) -> Option<View> {
         let s = self.lend(bytes);
         let filled = match listing {
@@ -24,12 +24,12 @@ impl Library {
                 self.fill_blocks(before, |f, l, w| rtcp_rr_report_blocks(&s, f, l, w))?
             }
             Listing::Items => {
-                let mut rows = self.lend(&words(&before[0]));
+                let mut rows = self.lend(&narrow(&before[0]));
                 (rtcp_sdes_items(&s, &mut rows)?, vec![wide(&rows)])
             }
             Listing::Packets => {
-                let mut rows = self.lend(&before[0]);
-                (rtcp_compound_packets(&s, &mut rows)?, vec![rows.to_vec()])
+                let mut rows = self.lend(&narrow(&before[0]));
+                (rtcp_compound_packets(&s, &mut rows)?, vec![wide(&rows)])
             }
         };
         let (written, lists) = &filled;
@@ -48,7 +48,7 @@ impl Library {
 
     /// A report and its blocks in one call, as an answer of the call that fills the lists. One whose numbers are not those of the report by itself
     /// has no size that any list has.
-    fn read(&self, kind: Kind, s: &[u8], before: &[Vec<u64>]) -> Option<Filled> {
+    fn read(&self, kind: Kind, s: &[u8], before: &[Vec<i128>]) -> Option<Filled> {
         self.fill_blocks(before, |f, l, w| {
             let (written, is_parsed) = match kind {
                 Kind::Sr => {
@@ -72,23 +72,24 @@ impl Library {
     /// Lends the three lists of blocks.
     fn fill_blocks(
         &self,
-        before: &[Vec<u64>],
-        fill: impl FnOnce(&mut [u8], &mut [u32], &mut [u32]) -> Option<RtcpWritten>,
+        before: &[Vec<i128>],
+        fill: impl FnOnce(&mut [u8], &mut [i32], &mut [u32]) -> Option<RtcpWritten>,
     ) -> Option<Filled> {
-        let fractions: Vec<u8> = before[0].iter().map(|number| *number as u8).collect();
-        let mut fractions = self.lend(&fractions);
-        let mut losses = self.lend(&words(&before[1]));
-        let mut five = self.lend(&words(&before[2]));
-        let written = fill(&mut fractions, &mut losses, &mut five)?;
-        Some((written, vec![wide(&fractions), wide(&losses), wide(&five)]))
+        let mut fractions = self.lend(&narrow(&before[0]));
+        let mut losses = self.lend(&narrow(&before[1]));
+        let mut words = self.lend(&narrow(&before[2]));
+        let written = fill(&mut fractions, &mut losses, &mut words)?;
+        Some((written, vec![wide(&fractions), wide(&losses), wide(&words)]))
     }
 }
 
-fn words(numbers: &[u64]) -> Vec<u32> {
-    numbers.iter().map(|number| *number as u32).collect()
+/// The numbers of a list as wide as C has them.
+fn narrow<T: TryFrom<i128>>(numbers: &[i128]) -> Vec<T> {
+    let narrow = |number: &i128| T::try_from(*number).ok().expect("a number of that list");
+    numbers.iter().map(narrow).collect()
 }
 
-fn wide<T: Copy + Into<u64>>(numbers: &[T]) -> Vec<u64> {
+fn wide<T: Copy + Into<i128>>(numbers: &[T]) -> Vec<i128> {
     numbers.iter().map(|number| (*number).into()).collect()
 }
 

@@ -162,7 +162,7 @@ fn read_bye(s: &[u8]) -> Option<View> {
 
 fn source(s: &[u8], i: u64) -> Value {
     match rtcp_bye_source(s, i) {
-        Some(source) if source.number == 0 => Value::Number(source.ssrc),
+        Some(source) if source.number == 0 => Value::Number(source.ssrc.into()),
         Some(_) => Value::Panic,
         None => Value::Unseen,
     }

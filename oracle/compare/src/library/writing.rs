@@ -17,7 +17,7 @@ pub(super) struct LentItems {
 /// The lists of blocks in guarded memory.
 pub(super) struct LentBlocks {
     pub fractions: Guarded<u8>,
-    pub losses: Guarded<u32>,
+    pub losses: Guarded<i32>,
     pub words: Guarded<u32>,
 }
 
@@ -136,7 +136,7 @@ fn show_written(written: RtcpWritten, size: Option<RtcpWritten>, buf: &[u8]) -> 
     let mut view = shown(written, |view| view.number("written", written.size));
     let size = match size {
         None => Value::Unseen,
-        Some(size) if size.number == 0 => Value::Number(size.size),
+        Some(size) if size.number == 0 => Value::Number(size.size.into()),
         Some(size) => Value::Refused(Refusal::new(
             u8::try_from(size.number).unwrap_or(u8::MAX),
             size.first,

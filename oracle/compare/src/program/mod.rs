@@ -3,7 +3,8 @@
 //!
 //! A row is `FUNCTION NUMBER.. BYTES`: a C function without `rtcp_`, a part of a
 //! packet or of an item, `writer_set`, which sets the compound writer, or a form that
-//! lends records (`rr_records`) or holds its bytes (`held_step`). Bytes are
+//! lends records (`rr_records`) or holds its bytes (`held_step`). A number is
+//! decimal, and a loss below zero has its sign. Bytes are
 //! digits after an `x`, and `*N` is the last byte N times more. An answer is
 //! `NUMBER.. BYTES`: every field of a C result in its order; of a part its bytes; of
 //! a write what the size function and the write answer, and the buffer; of a call of
@@ -29,7 +30,7 @@ const SHOWN: usize = 8;
 #[derive(Clone, Debug, Default, PartialEq, Eq)]
 pub struct Row {
     pub function: String,
-    pub numbers: Vec<u64>,
+    pub numbers: Vec<i128>,
     pub bytes: Vec<u8>,
 }
 
@@ -37,7 +38,7 @@ impl Row {
     pub fn new(function: &str, numbers: &[u64], bytes: &[u8]) -> Row {
         Row {
             function: function.to_string(),
-            numbers: numbers.to_vec(),
+            numbers: numbers.iter().copied().map(i128::from).collect(),
             bytes: bytes.to_vec(),
         }
     }
@@ -59,24 +60,20 @@ impl Row {
         row
     }
 
-    /// The numbers from one place to another.
-    fn list(&self, from: u64, to: u64) -> &[u64] {
-        &self.numbers[from as usize..to as usize]
+    /// The number at a place, of that width.
+    pub fn number<T: TryFrom<i128>>(&self, at: usize) -> T {
+        let number = T::try_from(self.numbers[at]).ok();
+        number.expect("a number of that width")
     }
 
-    /// The numbers from one place to another, each of 32 bits.
-    fn words(&self, from: u64, to: u64) -> Vec<u32> {
-        let word = |n: &u64| u32::try_from(*n).expect("a number of 32 bits");
-        self.list(from, to).iter().map(word).collect()
-    }
-
-    fn word(&self, at: u64) -> u32 {
-        self.words(at, at + 1)[0]
+    /// The numbers from one place to another, each of that width.
+    fn list<T: TryFrom<i128>>(&self, from: usize, to: usize) -> Vec<T> {
+        (from..to).map(|at| self.number(at)).collect()
     }
 
     /// The bytes up to the place that a number gives, and the others.
-    fn split(&self, at: u64) -> (Vec<u8>, Vec<u8>) {
-        let (first, second) = self.bytes.split_at(self.numbers[at as usize] as usize);
+    fn split(&self, at: usize) -> (Vec<u8>, Vec<u8>) {
+        let (first, second) = self.bytes.split_at(self.number(at));
         (first.to_vec(), second.to_vec())
     }
 }
@@ -118,7 +115,7 @@ impl Program {
         }
         match read::part(&row.function, &row.bytes) {
             Some(part) => format!(" {}", run(&part)),
-            None => shown(&read::answer(row)),
+            None => read::answer(row),
         }
     }
 }
@@ -133,7 +130,7 @@ pub fn lines(input: &str) -> Vec<String> {
     input.lines().skip(1).map(line).collect()
 }
 
-pub fn shown(numbers: &[u64]) -> String {
+pub fn shown<T: Display>(numbers: &[T]) -> String {
     numbers.iter().map(|number| format!(" {number}")).collect()
 }
 

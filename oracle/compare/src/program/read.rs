@@ -1,33 +1,49 @@
 //! Rows that read. Places of parts are counted here, from the packet that the model
 //! reads and the layout of its kind.
 
-use super::Row;
+use super::{shown, Row};
 use model::*;
 
 /// Every field of the C function's result.
-pub(super) fn answer(row: &Row) -> Vec<u64> {
-    let (s, n) = (&row.bytes[..], &row.numbers[..]);
+pub(super) fn answer(row: &Row) -> String {
+    match block(row) {
+        Some(block) => shown(&result(7, block.map(|block| block.numbers().to_vec()))),
+        None => shown(&numbers(row)),
+    }
+}
+
+/// The block that a row reads; none where the function gives no block.
+fn block(row: &Row) -> Option<Answer<Block>> {
+    let s = &row.bytes[..];
+    Some(match row.function.as_str() {
+        "block_parse" => read_block(s),
+        "rr_report_block" => read_block_at(Kind::Rr, s, row.number(0)),
+        "sr_report_block" => read_block_at(Kind::Sr, s, row.number(0)),
+        _ => return None,
+    })
+}
+
+fn numbers(row: &Row) -> Vec<u64> {
+    let s = &row.bytes[..];
+    let n = |at| row.number::<u64>(at);
     match row.function.as_str() {
-        "block_parse" => result(7, read_block(s).map(block)),
-        "rr_report_block" => result(7, read_block_at(Kind::Rr, s, n[0]).map(block)),
-        "sr_report_block" => result(7, read_block_at(Kind::Sr, s, n[0]).map(block)),
         "rr_parse" => result(6, read_as(Kind::Rr, s).map(packet)),
         "sr_parse" => result(10, read_as(Kind::Sr, s).map(packet)),
         "app_parse" => result(8, read_as(Kind::App, s).map(packet)),
         "bye_parse" => result(8, read_as(Kind::Bye, s).map(packet)),
         "sdes_parse" => result(4, read_as(Kind::Sdes, s).map(packet)),
-        "bye_source" => result(1, read_source_at(s, n[0]).map(|ssrc| vec![ssrc.into()])),
+        "bye_source" => result(1, read_source_at(s, n(0)).map(|ssrc| vec![ssrc.into()])),
         "item_parse" => result(6, read_item(s).map(|(item, _)| item_fields(&item, 0))),
         "item_priv_prefix" => result(2, read_prefix(s).map(|p| vec![3, len(&p)])),
         "chunk_parse" => result(3, read_chunk(s).map(|(chunk, _)| chunk_fields(&chunk))),
         "held_open" | "chunk_walk_open" => result(2, open_sdes(s).map(|w| vec![w.position, w.end])),
-        "held_step" | "chunk_walk_step" => chunk_step(s, n[0], n[1]),
+        "held_step" | "chunk_walk_step" => chunk_step(s, n(0), n(1)),
         "item_walk_open" => result(1, open_items(s).map(|at| vec![at])),
-        "item_walk_step" => item_walk_step(s, n[0]),
+        "item_walk_step" => item_walk_step(s, n(0)),
         "compound_parse" => result(1, read_compound(s).map(|list| vec![list.len() as u64])),
         "walk_open" => result(1, open(s).map(|at| vec![at])),
-        "walk_step" => walk_step(s, n[0]),
-        "held_chunk" => held_chunk(s, n[0]),
+        "walk_step" => walk_step(s, n(0)),
+        "held_chunk" => held_chunk(s, n(0)),
         function => panic!("no such function: {function}"),
     }
 }
@@ -100,14 +116,19 @@ fn field_of(packet: Packet, field: &str) -> Vec<u8> {
 }
 
 /// The refusal or three zeros, then the fields, all 0 where it is refused.
-fn result(fields: usize, answer: Answer<Vec<u64>>) -> Vec<u64> {
-    match answer {
+fn result<T: Clone + TryFrom<u64>>(fields: usize, answer: Answer<Vec<T>>) -> Vec<T> {
+    let (head, fields) = match answer {
         Ok(given) => {
             assert_eq!(given.len(), fields);
-            [vec![0; 3], given].concat()
+            ([0; 3], given)
         }
-        Err(refusal) => [refused(&refusal).to_vec(), vec![0; fields]].concat(),
-    }
+        Err(refusal) => (refused(&refusal), vec![number(0); fields]),
+    };
+    [head.map(number).to_vec(), fields].concat()
+}
+
+fn number<T: TryFrom<u64>>(number: u64) -> T {
+    T::try_from(number).ok().expect("a number of that width")
 }
 
 pub(super) fn refused(refusal: &Refusal) -> [u64; 3] {
@@ -116,10 +137,6 @@ pub(super) fn refused(refusal: &Refusal) -> [u64; 3] {
 
 fn len(bytes: &[u8]) -> u64 {
     bytes.len() as u64
-}
-
-fn block(block: Block) -> Vec<u64> {
-    block.numbers().map(u64::from).to_vec()
 }
 
 /// The fields of a packet, each part as its place and its length.

@@ -36,7 +36,8 @@ pub fn input(operation: &Operation) -> Option<Row> {
         Operation::Write(given, buffer) => (given_row(given), buffer),
         Operation::WriteChunk(lists, buffer) => {
             let mut row = Row::new("chunk_write", &[0, lists.ssrc.into(), 0, 0, 0], &[]);
-            put_lists(&mut row, 2, &item_lists(&lists.items));
+            put_list(&mut row, 2, &lists.items.prefix_lengths);
+            put_list(&mut row, 3, &lists.items.value_lengths);
             put_bytes(&mut row, 4, &lists.items.types, &lists.items.bytes);
             (row, buffer)
         }
@@ -49,7 +50,7 @@ pub fn input(operation: &Operation) -> Option<Row> {
     };
     assert!(buffer.iter().all(|byte| *byte == STALE));
     let mut row = row;
-    row.numbers[0] = buffer.len() as u64;
+    row.numbers[0] = buffer.len() as i128;
     Some(row)
 }
 
@@ -75,24 +76,17 @@ fn given_row(given: &Given) -> Row {
                 }
             };
             let place = row.numbers.len() - 2;
-            let wide = |words: &[u32]| words.iter().copied().map(u64::from).collect();
-            put_lists(
-                &mut row,
-                place,
-                &[wide(&blocks.losses), wide(&blocks.words)],
-            );
+            put_list(&mut row, place, &blocks.losses);
+            put_list(&mut row, place + 1, &blocks.words);
             row.bytes = blocks.fractions.clone();
             row
         }
         Given::Sdes { lists, .. } => {
             let mut row = new("sdes_write", &[], 5);
-            let ssrcs = lists.ssrcs.iter().copied().map(u64::from).collect();
-            let [prefixes, values] = item_lists(&lists.items);
-            put_lists(
-                &mut row,
-                2,
-                &[ssrcs, lists.counts.clone(), prefixes, values],
-            );
+            put_list(&mut row, 2, &lists.ssrcs);
+            put_list(&mut row, 3, &lists.counts);
+            put_list(&mut row, 4, &lists.items.prefix_lengths);
+            put_list(&mut row, 5, &lists.items.value_lengths);
             put_bytes(&mut row, 6, &lists.items.types, &lists.items.bytes);
             row
         }
@@ -100,8 +94,7 @@ fn given_row(given: &Given) -> Row {
             sources, reason, ..
         } => {
             let mut row = new("bye_write", &[], 1);
-            let sources = sources.iter().copied().map(u64::from).collect();
-            put_lists(&mut row, 2, &[sources]);
+            put_list(&mut row, 2, sources);
             row.bytes = reason.clone();
             row
         }
@@ -119,31 +112,24 @@ fn given_row(given: &Given) -> Row {
     }
 }
 
-fn item_lists(items: &ItemLists) -> [Vec<u64>; 2] {
-    [items.prefix_lengths.clone(), items.value_lengths.clone()]
-}
-
-/// Puts lists after a row's numbers, and their ends from a place on.
-fn put_lists(row: &mut Row, place: usize, lists: &[Vec<u64>]) {
-    for (i, list) in lists.iter().enumerate() {
-        row.numbers.extend(list);
-        row.numbers[place + i] = row.numbers.len() as u64;
-    }
+/// Puts a list after a row's numbers, and its end at a place.
+fn put_list<T: Copy + Into<i128>>(row: &mut Row, place: usize, list: &[T]) {
+    row.numbers.extend(list.iter().map(|n| (*n).into()));
+    row.numbers[place] = row.numbers.len() as i128;
 }
 
 fn put_bytes(row: &mut Row, place: usize, first: &[u8], second: &[u8]) {
-    row.numbers[place] = first.len() as u64;
+    row.numbers[place] = first.len() as i128;
     row.bytes = [first, second].concat();
 }
 
 /// The operation of a row.
 pub fn operation(row: &Row) -> Operation {
-    let n = &row.numbers;
-    let buffer = vec![STALE; n[0] as usize];
+    let buffer = vec![STALE; row.number(0)];
     match row.function.as_str() {
         "chunk_write" => {
             let lists = ChunkLists {
-                ssrc: row.word(1),
+                ssrc: row.number(1),
                 items: items(row, 5, 2, 4),
             };
             Operation::WriteChunk(lists, buffer)
@@ -151,7 +137,7 @@ pub fn operation(row: &Row) -> Operation {
         "item_write" => {
             let (prefix, value) = row.split(2);
             let item = Item {
-                item_type: n[1].try_into().expect("a byte"),
+                item_type: row.number(1),
                 prefix,
                 value,
             };
@@ -166,44 +152,43 @@ pub fn operation(row: &Row) -> Operation {
 
 /// What a row gives of a kind.
 fn given(kind: &str, row: &Row) -> Given {
-    let n = &row.numbers;
-    let padding = n[1];
+    let padding = row.number(1);
     match kind {
         "rr" => Given::Report {
-            ssrc: row.word(2),
+            ssrc: row.number(2),
             sender: None,
             blocks: blocks(row, 5, 3),
             padding,
         },
         "sr" => Given::Report {
-            ssrc: row.word(2),
+            ssrc: row.number(2),
             sender: Some(SenderInfo {
-                ntp_time: n[3],
-                rtp_time: row.word(4),
-                packet_count: row.word(5),
-                octet_count: row.word(6),
+                ntp_time: row.number(3),
+                rtp_time: row.number(4),
+                packet_count: row.number(5),
+                octet_count: row.number(6),
             }),
             blocks: blocks(row, 9, 7),
             padding,
         },
         "sdes" => Given::Sdes {
             lists: SdesLists {
-                ssrcs: row.words(7, n[2]),
-                counts: row.list(n[2], n[3]).to_vec(),
-                items: items(row, n[3], 4, 6),
+                ssrcs: row.list(7, row.number(2)),
+                counts: row.list(row.number(2), row.number(3)),
+                items: items(row, row.number(3), 4, 6),
             },
             padding,
         },
         "bye" => Given::Bye {
-            sources: row.words(3, n[2]),
+            sources: row.list(3, row.number(2)),
             reason: row.bytes.clone(),
             padding,
         },
         "app" => {
             let (name, data) = row.split(4);
             Given::App {
-                subtype: n[2],
-                ssrc: row.word(3),
+                subtype: row.number(2),
+                ssrc: row.number(3),
                 name,
                 data,
                 padding,
@@ -214,24 +199,24 @@ fn given(kind: &str, row: &Row) -> Given {
 }
 
 /// Prefix lengths from a place on, value lengths after them, types and bytes.
-fn items(row: &Row, from: u64, ends: usize, types: u64) -> ItemLists {
-    let (prefixes, values) = (row.numbers[ends], row.numbers[ends + 1]);
+fn items(row: &Row, from: usize, ends: usize, types: usize) -> ItemLists {
+    let (prefixes, values) = (row.number(ends), row.number(ends + 1));
     let (types, bytes) = row.split(types);
     ItemLists {
         types,
-        prefix_lengths: row.list(from, prefixes).to_vec(),
-        value_lengths: row.list(prefixes, values).to_vec(),
+        prefix_lengths: row.list(from, prefixes),
+        value_lengths: row.list(prefixes, values),
         bytes,
     }
 }
 
 /// Losses from a place on, words after them; the bytes are the fractions.
-fn blocks(row: &Row, from: u64, ends: usize) -> BlockLists {
-    let (losses, words) = (row.numbers[ends], row.numbers[ends + 1]);
+fn blocks(row: &Row, from: usize, ends: usize) -> BlockLists {
+    let (losses, words) = (row.number(ends), row.number(ends + 1));
     BlockLists {
         fractions: row.bytes.clone(),
-        losses: row.words(from, losses),
-        words: row.words(losses, words),
+        losses: row.list(from, losses),
+        words: row.list(losses, words),
     }
 }
 
@@ -246,32 +231,33 @@ pub fn answer_of(view: &View) -> String {
         let field = view.fields.iter().find(|(name, _)| *name == wanted);
         &field.expect("a field of that name").1
     };
-    let number = |name| match value(name) {
-        Value::Number(number) => *number,
+    let done = |name| match value(name) {
+        Value::Number(number) => shown(&[0, 0, 0, *number]),
         other => panic!("a number, not {other}"),
     };
+    let not_done = |refusal| shown(&[&refused(refusal)[..], &[0]].concat());
     let size = match value("size") {
-        Value::Refused(refusal) => [&refused(refusal)[..], &[0]].concat(),
-        _ => vec![0, 0, 0, number("size")],
+        Value::Refused(refusal) => not_done(refusal),
+        _ => done("size"),
     };
     let write = match &view.verdict {
-        Verdict::Accepted => vec![0, 0, 0, number("written")],
-        Verdict::Refused(refusal) => [&refused(refusal)[..], &[0]].concat(),
+        Verdict::Accepted => done("written"),
+        Verdict::Refused(refusal) => not_done(refusal),
         Verdict::Panicked => panic!("an answer"),
     };
     let Value::Bytes(buffer) = value("buffer") else {
         panic!("a buffer");
     };
-    format!("{} {}", shown(&[size, write].concat()), run(buffer))
+    format!("{size}{write} {}", run(buffer))
 }
 
 impl Program {
     /// A call of the compound writer: its answer, the writer and the buffer after it.
     pub(super) fn call(&mut self, row: &Row) -> String {
-        let room = row.numbers[0] as usize;
+        let room = row.number(0);
         match row.function.as_str() {
             "writer_set" => {
-                self.writer.copy_from_slice(row.list(1, 5));
+                self.writer.copy_from_slice(&row.list(1, 5));
                 self.shown(&[], room)
             }
             "writer_new" => {
@@ -292,7 +278,7 @@ impl Program {
         let mut lists = row.clone();
         if !function.starts_with("writer_") {
             lists.function = format!("{function}_write");
-            self.space[..row.numbers[0] as usize].fill(STALE);
+            self.space[..row.number(0)].fill(STALE);
             return expected(&lists);
         }
         lists.function = function.to_string();

@@ -126,7 +126,7 @@ fn drawn(ssrc: u32, source: &Source, time: &Clock) -> String {
             5.0,
             line(|it| f64::from(it.fraction) / 2.56),
         ),
-        ("lost in all, packets", 5.0, line(|it| it.lost as f64)),
+        ("lost in all, packets", 5.0, line(|it| f64::from(it.lost))),
         (
             "jitter, RTP timestamp units",
             10.0,

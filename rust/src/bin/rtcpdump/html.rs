@@ -108,7 +108,8 @@ fn participants(summary: &Summary, only: Option<u32>) -> String {
         false => "",
     };
     let note = "<p class=\"note\">Fraction lost, loss, jitter (in units of the RTP timestamp) and \
-                round trip are the last that were reported.</p>\n";
+                round trip are the last that were reported. A loss is below zero where more \
+                duplicates came than packets were lost.</p>\n";
     format!("{PARTICIPANTS}{rows}</table></div>\n{note}{cut}")
 }
 

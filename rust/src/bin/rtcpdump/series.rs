@@ -11,7 +11,7 @@ pub struct Point {
     /// Seconds from the capture's first datagram on.
     pub seconds: Option<f64>,
     pub fraction: u8,
-    pub lost: i64,
+    pub lost: i32,
     pub jitter: u32,
 }
 

@@ -40,7 +40,7 @@ pub struct Source {
 pub struct Reported {
     pub blocks: u64,
     pub fraction: u8,
-    pub lost: i64,
+    pub lost: i32,
     pub jitter: u32,
     /// Seconds.
     pub round_trip: Option<f64>,
@@ -116,7 +116,7 @@ impl Sources {
                 number: datagram.number,
                 seconds,
                 fraction: block.fraction_lost(),
-                lost: block.cumulative_lost().into(),
+                lost: block.cumulative_lost(),
                 jitter: block.interarrival_jitter(),
             };
             let has_room = self.pairs < MOST;

@@ -88,7 +88,7 @@ fn y(span: Span, value: f64) -> f64 {
 }
 
 /// A drawing with its title, which must be free of HTML's marks. Its height is
-/// from 0 to at least so much.
+/// from 0, or from the lowest value below it, to at least so much.
 pub fn drawing(title: &str, axis: &Axis, least: f64, lines: &[Line]) -> String {
     let values = lines.iter().flat_map(|line| &line.points);
     let span = Span::of(values.map(|point| point.1).chain([0.0, least]));
@@ -122,9 +122,11 @@ fn grid(svg: &mut String, axis: &Axis, span: Span) {
     let (right, bottom) = (WIDTH - RIGHT, HEIGHT - BOTTOM);
     for tick in span.ticks() {
         let y = y(span, tick);
+        // At 0 the line is as dark as the axis, and is seen where values are below it.
+        let class = if tick == 0.0 { "axis" } else { "grid" };
         let _ = write!(
             svg,
-            "<line class=\"grid\" x1=\"{LEFT}\" x2=\"{right}\" y1=\"{y:.1}\" y2=\"{y:.1}\"/>\
+            "<line class=\"{class}\" x1=\"{LEFT}\" x2=\"{right}\" y1=\"{y:.1}\" y2=\"{y:.1}\"/>\
              <text class=\"tick\" text-anchor=\"end\" x=\"{}\" y=\"{:.1}\">{}</text>",
             LEFT - 6.0,
             y + 4.0,

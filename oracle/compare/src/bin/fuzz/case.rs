@@ -1,6 +1,6 @@
 //! A case, and what is asked of it.
 
-use compare::generate::STALE;
+use compare::generate::{LOSSES, LOSSES_OUTSIDE, STALE};
 use compare::limits::lists;
 use compare::operation::Operation;
 use model::*;
@@ -99,14 +99,24 @@ impl Draw<'_> {
         }
     }
 
+    /// Mostly of 24 bits, at times an edge, a power of two, its negative or any.
+    fn loss(&mut self) -> i32 {
+        match self.byte() % 32 {
+            0 | 1 => LOSSES[self.below(LOSSES.len())],
+            2 => LOSSES_OUTSIDE[self.below(LOSSES_OUTSIDE.len())],
+            3 => 1 << (self.byte() % 31),
+            4 => -1 << (self.byte() % 32),
+            5 => self.word() as i32,
+            // The 24th bit is the sign.
+            _ => (self.word() as i32) << 8 >> 8,
+        }
+    }
+
     fn block(&mut self) -> Block {
         Block {
             ssrc: self.word(),
             fraction_lost: self.byte(),
-            cumulative_lost: match self.byte() % 16 {
-                7 => self.word(),
-                _ => self.word() & 0xFF_FFFF,
-            },
+            cumulative_lost: self.loss(),
             extended_sequence: self.word(),
             jitter: self.word(),
             last_sr: self.word(),
@@ -119,7 +129,7 @@ impl Draw<'_> {
         let mut blocks = BlockLists::of(&self.many(34, Self::block));
         match self.byte() % 16 {
             1 => blocks.fractions = self.run(34),
-            2 => blocks.losses = self.many(34, Self::word),
+            2 => blocks.losses = self.many(34, Self::loss),
             3 => blocks.words = self.many(170, Self::word),
             _ => {}
         }

@@ -34,7 +34,7 @@ use std::time::{Duration, Instant};
 const ENOUGH: usize = 20;
 
 /// Fields that no rule looks at: all their values are one class.
-const OPAQUE: [&str; 15] = [
+const OPAQUE: [&str; 14] = [
     "ssrc",
     "ntp_time",
     "rtp_time",
@@ -42,7 +42,6 @@ const OPAQUE: [&str; 15] = [
     "octet_count",
     "block_ssrc",
     "fraction_lost",
-    "cumulative_lost",
     "extended_sequence",
     "jitter",
     "last_sr",
@@ -205,18 +204,18 @@ impl Fuzz {
         counts.runs += 1;
         if let Verdict::Refused(refusal) = view.verdict {
             *counts.refusals.entry(refusal.number).or_default() += 1;
-            let classes = (class(refusal.first), class(refusal.second));
+            let classes = (class(refusal.first.into()), class(refusal.second.into()));
             self.see((name, refusal.number, classes));
         }
         for (field, value) in &view.fields {
             match value {
                 _ if OPAQUE.contains(field) => self.see((name, field)),
                 Value::Number(number) => self.see((name, field, class(*number))),
-                Value::Bytes(bytes) => self.see((name, field, class(bytes.len() as u64))),
+                Value::Bytes(bytes) => self.see((name, field, class(bytes.len() as i128))),
                 _ => self.see((name, field)),
             }
         }
-        self.see((name, class(view.fields.len() as u64)));
+        self.see((name, class(view.fields.len() as i128)));
     }
 
     fn see(&mut self, what: impl Hash) {
@@ -250,10 +249,10 @@ impl Fuzz {
     }
 }
 
-/// Small numbers each by themselves, larger ones by size and remainder.
-fn class(number: u64) -> (u32, u64) {
+/// Small numbers each by themselves, others by sign, size and remainder.
+fn class(number: i128) -> (i128, u32, i128) {
     match number {
-        0..=40 => (0, number),
-        _ => (u64::BITS - number.leading_zeros(), number % 4),
+        0..=40 => (0, 0, number),
+        _ => (number.signum(), number.unsigned_abs().ilog2(), number % 4),
     }
 }

@@ -8,7 +8,7 @@ use Rattle.compound_write.proofs.writer.Writer.add_sr.Tie as tie
 
 returns : tie.Need-returns
 returns c =
-    let a = c .before .before .before .before .before .before .before .before .before .before .before .before .before .args in
+    let a = c .before .before .before .before .before .before .before .before .before .before .before .before .args in
     add-refused (giveReport (senderOf (a .info)) (blockLists (a .fractions .now) (a .losses .now) (a .words .now)) (a .padding)) _ _ 200 _ _ refl (report-number _ _ _ _ _ (c .before .before .before .before .before .before .before .before .size-of .ensures) refl) (c .before .before .before .before .before .before .before .admit .ensures) _ _ _ _ _ (not-true _ (c .before .before .before .before .before .before .if1 .taken)) (report-reason _ _ _ _ _ (c .before .before .why-size .ensures)) (report-again _ _ _ _ _) (c .before .why .ensures) (c .refuse .ensures)
 
 pub add-sr-spec : {M : Type 1} → Rattle.compound_write.proofs.writer.Writer.add_sr.Statement.statement M
