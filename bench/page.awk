@@ -147,7 +147,7 @@ END {
     print "  compiled so by default, and the best peer below is taken without it. It refuses an SDES packet with padding, so it has no such row."
     print "- 'walk' reads the same fields by the calls of the walks, one for each packet, block, chunk and item. The walk over the datagram, or over the lone SDES, is"
     print "  opened, which checks all of it; walks over what a step hands over are not, as rtcp.h says; the program ends at the length or the body instead of asking"
-    print "  for 25, and reads a block by its place. With every walk opened and asked to its 25, and blocks by their index, the same functions take 1,656 and 9,847:"
+    print "  for 25, and reads a block by its place. With every walk opened and asked to its 25, and blocks by their index, the same functions take 1,659 and 9,847:"
     print "  more than rtcp-types for RR+SDES. No row counts `rtcp_item_walk_open` and `rtcp_rr_report_block`. Beside it stands what rtcp-types takes to read the"
     print "  same fields, which goes over them one by one too."
     print "- Our crate runs the same program as rtcp-types: the same calls of the same names, its builders made before the loop or in it. Its compound builder"

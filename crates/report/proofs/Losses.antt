@@ -94,9 +94,15 @@ module _ (z : ℤ) (f : SFits w32 z) where
   pub masked-is : natAbs (toZ w32 (bitAnd (ofZ w32 z) 16777215)) ≡ lossBits z
   masked-is = rw masked-from
 
--- ---- the number that 24 bits are read as
+-- ---- the number that the low 24 bits of a word are read as
 
-module _ (n : ℕ) (h : n < 16777216) where
+module _ (word : ℕ) where
+  abbrev n : ℕ
+  n = word % 16777216
+
+  h : n < 16777216
+  h = omega arith
+
   abbrev raised : ℕ
   raised = (n + 8388608) % 16777216
 

@@ -1,6 +1,6 @@
 // Cumulative lost: its limits, its 24 bits, and the number that they are read as.
 ghost use mathlib.Core.Path.{_≡_};
-ghost use Prim.Native.Nat.{_<_};
+ghost use Prim.Native.Nat.{_%_, _<_};
 ghost use lib.Signed.{mag};
 ghost use Rattle.rfc3550.specs.Loss.{lossBits, lossOf, lossIn, lossShown};
 
@@ -31,12 +31,11 @@ pub fn loss_bits(loss: i32) -> u32
     (loss & 16777215) as u32
 }
 
-// The loss that 24 bits are read as, without a branch.
-pub fn loss_of(bits: u32) -> i32
-    requires { ⌜ bits < 16777216 ⌝ }
-    ensures { λ r. ⌜ r ≡ lossOf bits ⌝ }
+// The loss that the low 24 bits of a word are read as, without a branch.
+pub fn loss_of(word: u32) -> i32
+    ensures { λ r. ⌜ r ≡ lossOf (word % 16777216) ⌝ }
 {
-    ((bits + 8388608) % 16777216) as i32 - 8388608
+    ((word % 16777216 + 8388608) % 16777216) as i32 - 8388608
 }
 
 // The low 32 bits of a loss, which refusal 17 shows.

@@ -63,7 +63,7 @@ pub fn parse_block_unchecked(s: &[u8], at: usize) -> ReportBlock
     ReportBlock {
         ssrc: u32_from_be_bytes(s, at),
         fraction_lost: (lost / 16777216) as u8,
-        cumulative_lost: loss_of(lost % 16777216),
+        cumulative_lost: loss_of(lost),
         extended_sequence_number: u32_from_be_bytes(s, at + 8),
         interarrival_jitter: u32_from_be_bytes(s, at + 12),
         last_sender_report_timestamp: u32_from_be_bytes(s, at + 16),

@@ -17,7 +17,7 @@ use Rattle.rfc3550.specs.Packet.{item, priv, receiver, sender, no-reason
 use Rattle.rfc3550.specs.Read.{SR, RR, SDES, BYE, APP, kindOf, versionIn, padded, lowIn, typeIn, stated, paddingCount, paddingFits, checkHeader, readBlocks, readReport, itemOf, readItem, readFill, readItems, readChunk, readChunks, readLeaving, readContent, readAs, readBlock, readBlockAt, readSourceAt, readPrefix}
 use Rattle.rfc3550.specs.Compound.{readPacket, readPackets, readCompound}
 use Rattle.rfc3550.specs.Walk.{openWalk, step, openSdes, sdesStep, openItems, itemStep}
-use Rattle.rfc3550.specs.Write.{giveReport, giveSdes, giveBye, giveApp, lentItems, lentChunks, itemsGiven, chunksGiven, lossTests, itemTests, itemsTests, ownTests, tests, calculateSize, itemSize, chunkSize, room, write, writeItem, writeChunk}
+use Rattle.rfc3550.specs.Write.{giveReport, giveSdes, giveBye, giveApp, lentBlocks, lentItems, lentChunks, itemsGiven, chunksGiven, lossTests, itemTests, itemsTests, ownTests, tests, calculateSize, itemSize, chunkSize, room, write, writeItem, writeChunk}
 use Rattle.rfc3550.specs.Writer.{add, close, addTests, closeTests, call}
 use Rattle.rfc3550.specs.Book.{firstFault, turn}
 ";

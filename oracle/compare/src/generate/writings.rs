@@ -211,15 +211,12 @@ fn given_blocks(rng: &mut Rng) -> Vec<Block> {
 pub fn given(rng: &mut Rng, kind: Kind) -> Given {
     let padding = given_padding(rng);
     match kind {
-        Kind::Sr | Kind::Rr => {
-            let blocks = given_blocks(rng);
-            Given::Report {
-                ssrc: word(rng),
-                sender: (kind == Kind::Sr).then(|| sender_info(rng)),
-                blocks: BlockLists::of(&blocks),
-                padding,
-            }
-        }
+        Kind::Sr | Kind::Rr => Given::Report {
+            blocks: BlockLists::of(&given_blocks(rng)),
+            ssrc: word(rng),
+            sender: (kind == Kind::Sr).then(|| sender_info(rng)),
+            padding,
+        },
         Kind::Sdes => Given::Sdes {
             lists: given_sdes_lists(rng),
             padding,
