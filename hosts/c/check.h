@@ -37,6 +37,20 @@ static inline void compare_block(const char *file, const char *name, const struc
         compare_block(__FILE__, #call, &got, &want);           \
     } while (0)
 
+/* An RR and an SR of two blocks that differ from each other in the 24 bits of their losses alone. */
+static inline void two_blocks(uint8_t rr[56], uint8_t sr[76], const uint8_t *bits, const uint8_t *others) {
+    static const uint8_t block[] = {1, 2, 3, 4, 5, 6, 7, 8, 9, 10, 11, 12, 13, 14, 15, 16, 17, 18, 19, 20, 21, 22, 23, 24};
+    static const uint8_t rr_head[] = {0x82, 0xC9, 0x00, 0x0D, 0, 0, 0, 1};
+    static const uint8_t sr_head[] = {0x82, 0xC8, 0x00, 0x12, 0, 0, 0, 1, 0, 0, 0, 2, 0, 0, 0, 3, 0, 0, 0, 4, 0, 0, 0, 5, 0, 0, 0, 6};
+    memcpy(rr, rr_head, 8);
+    memcpy(rr + 8, block, 24);
+    memcpy(rr + 13, bits, 3);
+    memcpy(rr + 32, block, 24);
+    memcpy(rr + 37, others, 3);
+    memcpy(sr, sr_head, 28);
+    memcpy(sr + 28, rr + 8, 48);
+}
+
 /* A line where nothing differs; the exit status. */
 static inline int finish(const char *file) {
     if (!failed) printf("%s: as docs/PROTOCOL.md says\n", file);

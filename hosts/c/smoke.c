@@ -69,16 +69,12 @@ static void block_lists(void) {
 
 /* 24 bits of a block, and the loss that each call reads them as, in the second of two blocks; the first one's is -2. */
 static void loss_is(uint8_t high, uint8_t middle, uint8_t low, int32_t loss) {
-    uint8_t rr2[56] = {0x82, 0xC9, 0x00, 0x0D, 0, 0, 0, 1}, sr2[76] = {0x82, 0xC8, 0x00, 0x12, 0, 0, 0, 1};
     const uint8_t two_less[] = {0xFF, 0xFF, 0xFE}, bits[] = {high, middle, low};
+    uint8_t rr2[56], sr2[76];
     uint8_t fractions[2];
     int32_t losses[2];
     uint32_t words[10];
-    memcpy(rr2 + 8, block, 24);
-    memcpy(rr2 + 13, two_less, 3);
-    memcpy(rr2 + 32, block, 24);
-    memcpy(rr2 + 37, bits, 3);
-    memcpy(sr2 + 28, rr2 + 8, 48);
+    two_blocks(rr2, sr2, two_less, bits);
     CHECK_BLOCK(rtcp_block_parse(rr2 + 32, 24), 0, 0, 0, 0x01020304, 5, loss, 0x090A0B0C, 0x0D0E0F10, 0x11121314, 0x15161718);
     CHECK_BLOCK(rtcp_rr_report_block(rr2, sizeof rr2, 0), 0, 0, 0, 0x01020304, 5, -2, 0x090A0B0C, 0x0D0E0F10, 0x11121314, 0x15161718);
     CHECK_BLOCK(rtcp_rr_report_block(rr2, sizeof rr2, 1), 0, 0, 0, 0x01020304, 5, loss, 0x090A0B0C, 0x0D0E0F10, 0x11121314, 0x15161718);

@@ -81,16 +81,10 @@ static void read_back(const char *name, struct RtcpWritten got, const int32_t *r
 
 /* The losses written in an RR and an SR, whose 24 bits are these, and read back from both; a size for both. */
 static void loss_bits(const int32_t *given, const uint8_t *bits, const uint8_t *others) {
-    uint8_t rr[56] = {0x82, 0xC9, 0x00, 0x0D, 0, 0, 0, 1}, sr[76] = {0x82, 0xC8, 0x00, 0x12, 0, 0, 0, 1, 0, 0, 0, 2, 0, 0, 0, 3, 0, 0, 0, 4, 0, 0, 0, 5, 0, 0, 0, 6};
-    static const uint8_t block[] = {1, 2, 3, 4, 5, 0, 0, 0, 9, 10, 11, 12, 13, 14, 15, 16, 17, 18, 19, 20, 21, 22, 23, 24};
-    uint8_t fractions[2];
+    uint8_t rr[56], sr[76], fractions[2];
     int32_t losses[2];
     uint32_t words[10];
-    memcpy(rr + 8, block, 24);
-    memcpy(rr + 13, bits, 3);
-    memcpy(rr + 32, block, 24);
-    memcpy(rr + 37, others, 3);
-    memcpy(sr + 28, rr + 8, 48);
+    two_blocks(rr, sr, bits, others);
     SIZES(56, rtcp_rr_size(TWO(given), 0));
     SIZES(76, rtcp_sr_size(TWO(given), 0));
     WRITES(rr, rtcp_rr_write(buf, sizeof buf, 1, TWO(given), 0));

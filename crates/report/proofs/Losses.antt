@@ -6,9 +6,9 @@ use lib.Bits.{bitAnd, and-mask}
 use mir.Syntax.{w32}
 use mir.Val.{toZ, ofZ, Fits, SFits}
 use mir.ValLaws.{toZ-pos, toZ-ofZ}
-use Rattle.rfc3550.proofs.Prelude.{needs, ℕ, suc, _+_, _-_, _%_, _<_, _^_, _≡_, refl, sym, ap, _∙_, subst, Bool, true, false, T, leb, ltb, lt-ltb, le-ltb, ltb-true, ltb-false, arith}
-use Rattle.rfc3550.specs.Loss.{LossFits, lossBits, lossOf, lossIn, lossShown}
-use Rattle.rfc3550.proofs.Losses.{lossBits-lt, lossOf-low, lossOf-high, lossOf-fits}
+use Rattle.rfc3550.proofs.Prelude.{needs, ℕ, zero, suc, _+_, _-_, _%_, _<_, _^_, _≡_, refl, sym, ap, _∙_, subst, Bool, true, false, T, leb, ltb, lt-ltb, le-ltb, ltb-true, ltb-false, arith}
+use Rattle.rfc3550.specs.Loss.{lossBits, lossOf, lossIn, lossShown}
+use Rattle.rfc3550.proofs.Losses.{lossBits-lt, lossOf-low, lossOf-high}
 
 -- the loss that its bits are
 pub bits-back : (z : ℤ) → mag z < 2147483648 → toZ w32 (ofZ w32 z) ≡ z
@@ -31,6 +31,18 @@ module _ (x : ℤ) (m : ℕ) (e : x ≡ pos m) (h : m < 2147483648) where
 
   pub bits-are : natAbs (toZ w32 (ofZ w32 x)) ≡ m
   bits-are = rw from-bits
+
+-- 24 bits less such a number
+less-fits : (m k : ℕ) → m < 2147483648 → k < 2147483648 → SFits w32 (pos m -ℤ pos k)
+less-fits m zero h g = record { sfits = omega arith }
+less-fits m (suc j) h g = go (ltb m (suc j)) refl
+  where
+    go : (t : Bool) → ltb m (suc j) ≡ t → SFits w32 (pos m -ℤ pos (suc j))
+    go true e = rw e (record { sfits = omega arith })
+    go false e = rw e (record { sfits = omega arith })
+
+pub difference-fits : (x k : ℕ) → k < 2147483648 → SFits w32 (toZ w32 (x % 16777216) -ℤ toZ w32 k)
+difference-fits x k h = rw (toZ-pos w32 (x % 16777216) (omega arith), toZ-pos w32 k h) (less-fits (x % 16777216) k (omega arith) h)
 
 -- ---- the magnitude
 
@@ -122,15 +134,8 @@ module _ (word : ℕ) where
   pub raised-fits : SFits w32 (pos raised)
   raised-fits = record { sfits = omega arith }
 
-  pub lowered-fits : SFits w32 (toZ w32 raised -ℤ pos 8388608)
-  lowered-fits = rw lowered (go (lossOf n) (lossOf-fits n h))
-    where
-      go : (z : ℤ) → LossFits z → SFits w32 z
-      go (pos n) h = record { sfits = omega arith }
-      go (negsuc n) h = record { sfits = omega arith }
-
   pub read-is : toZ w32 (ofZ w32 (toZ w32 raised -ℤ pos 8388608)) ≡ lossOf n
-  read-is = toZ-ofZ w32 _ lowered-fits ∙ lowered
+  read-is = toZ-ofZ w32 _ (difference-fits (n + 8388608) 8388608 (omega arith)) ∙ lowered
 
 -- ---- the low 32 bits
 
@@ -151,4 +156,4 @@ module _ (z : ℤ) (f : SFits w32 z) (m : ℕ) (e : m ≡ mag (toZ w32 (ofZ w32 
   pub shown-above : ltZ (toZ w32 (ofZ w32 z)) (pos 0) ≡ false → m ≡ lossShown z
   shown-above h = e ∙ ap mag (toZ-ofZ w32 z f) ∙ low-above z f (subst (λ (x : ℤ). ltZ x (pos 0) ≡ false) (toZ-ofZ w32 z f) h)
 
-pub ruleset losses = (needs, bits-sign, bits-fit, bits-below, bits-are, turned, turned-fits, same, magnitude-fits, magnitude-tested, masked-sign, masked-fits, masked-is, lossBits-lt, raised-fits, lowered-fits, read-is, shown-below, shown-above)
+pub ruleset losses = (needs, bits-sign, bits-fit, bits-below, bits-are, turned, turned-fits, same, magnitude-fits, magnitude-tested, masked-sign, masked-fits, masked-is, lossBits-lt, raised-fits, difference-fits, read-is, shown-below, shown-above)

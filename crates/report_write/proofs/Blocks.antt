@@ -22,13 +22,15 @@ use Rattle.report_write.specs.Report.{blockLists, blockGiven, laterLoss,
 -- ---- the loss that decides
 
 module _ (x y : Loss) (f : mag x < 2147483648) (t : Bool) (e : t ≡ lossIn (toZ w32 (ofZ w32 x))) where
-  pub later-next : mag y < 2147483648 → t ≡ true → toZ w32 (ofZ w32 y) ≡ laterLoss x y
+  decided : (b : Bool) → t ≡ b → pick b y x ≡ laterLoss x y
   unfolding laterLoss
-  later-next g q = bits-back y g ∙ sym (ap (λ (b : Bool). pick b y x) (ap lossIn (sym (bits-back x f)) ∙ sym e ∙ q))
+  decided b q = ap (λ (b : Bool). pick b y x) (sym q ∙ e ∙ ap lossIn (bits-back x f))
+
+  pub later-next : mag y < 2147483648 → t ≡ true → toZ w32 (ofZ w32 y) ≡ laterLoss x y
+  later-next g q = bits-back y g ∙ decided true q
 
   pub later-kept : t ≡ false → toZ w32 (ofZ w32 x) ≡ laterLoss x y
-  unfolding laterLoss
-  later-kept q = bits-back x f ∙ sym (ap (λ (b : Bool). pick b y x) (ap lossIn (sym (bits-back x f)) ∙ sym e ∙ q))
+  later-kept q = bits-back x f ∙ decided false q
 
 module _ (xs : List Loss) where
   pub tested-start : testedLoss (toZ w32 0) (drop 0 xs) ≡ testedLoss noLoss xs
