@@ -63,7 +63,8 @@ enum RtcpRefusal {
     RTCP_FIRST_PACKET_NO_REPORT = 27,
     RTCP_NO_CNAME = 28,
     RTCP_ALREADY_PADDED = 29,
-    RTCP_NOT_PRIV = 30
+    RTCP_NOT_PRIV = 30,
+    RTCP_ANSWERS_TOO_SHORT = 31
 };
 
 enum RtcpPacketType { RTCP_SR = 200, RTCP_RR = 201, RTCP_SDES = 202, RTCP_BYE = 203, RTCP_APP = 204 };
@@ -88,7 +89,9 @@ enum {
     RTCP_BLOCK_SIZE = 24,      /* bytes of a report block */
     RTCP_BLOCK_WORDS = 5,      /* words of a block: see rtcp_rr_report_blocks */
     RTCP_ITEM_ROW = 5,         /* numbers of an item: see rtcp_sdes_items */
-    RTCP_PACKET_ROW = 3        /* numbers of a packet: see rtcp_compound_packets */
+    RTCP_PACKET_ROW = 3,       /* numbers of a packet: see rtcp_compound_packets */
+    RTCP_CHUNK_INDEX = 31,     /* the bits of an answer that are a chunk's index: see rtcp_sdes_lookup */
+    RTCP_NO_CHUNK = 255        /* the answer where there is no such chunk */
 };
 
 /* The least and the most that a cumulative loss can be: 24 bits with a sign. */
@@ -315,6 +318,12 @@ struct RtcpItemStep {
     uint64_t at;
 };
 
+/* What a lookup answers besides the list that it fills. */
+struct RtcpLookup {
+    uint64_t number, first, second;
+    uint64_t visits;
+};
+
 /* An SDES packet. Refusals: the steps of reading, then those of its chunks, then 3 where bytes follow the last chunk.
      struct RtcpSdes sdes = rtcp_sdes_parse(packet, len); */
 struct RtcpSdes rtcp_sdes_parse(const uint8_t *s, size_t len);
@@ -376,6 +385,16 @@ struct RtcpItemStep rtcp_item_walk_step(const uint8_t *s, size_t len, uint64_t a
      for (uint64_t i = 0; i < w.size; i += 5)
          if (rows[i + 1] != 0) use(rows[i], rows[i + 1], packet + rows[i + 2], rows[i + 4]); */
 struct RtcpWritten rtcp_sdes_items(const uint8_t *s, size_t len, uint32_t *rows, size_t rows_len);
+
+/* The names of many sources in one pass: for each SSRC of a list, which chunk of the packet names it. answers[i] is RTCP_NO_CHUNK where no chunk has
+   ssrcs[i] and a CNAME in it; else its bits RTCP_CHUNK_INDEX are the index, from 0, of the first chunk that has both. An SSRC that is listed twice is
+   answered twice. Answers past the list stay as they were. visits is the number of chunks that the pass looked at, at most the packet's chunks.
+   Refusals: 31 where there are more SSRCs than answers, before the packet is looked at; then those of rtcp_sdes_parse.
+     uint8_t answers[30];
+     struct RtcpLookup l = rtcp_sdes_lookup(packet, len, ssrcs, 30, answers, 30);
+     for (size_t i = 0; l.number == 0 && i < 30; i++)
+         if (answers[i] != RTCP_NO_CHUNK) use(ssrcs[i], answers[i] & RTCP_CHUNK_INDEX); */
+struct RtcpLookup rtcp_sdes_lookup(const uint8_t *s, size_t len, const uint32_t *ssrcs, size_t ssrcs_len, uint8_t *answers, size_t answers_len);
 
 /* ---- datagrams ---- */
 
@@ -712,6 +731,7 @@ static inline const char *rtcp_refusal_text(uint64_t number) {
         "no CNAME is in the datagram yet",
         "a padded packet is in already, and must be the last",
         "the item is not PRIV, so it has no prefix",
+        "more SSRCs than the list of answers has room for",
     };
     return number < sizeof texts / sizeof texts[0] ? texts[number] : "no such refusal";
 }
@@ -750,6 +770,7 @@ static inline const char *rtcp_refusal_name(uint64_t number) {
         "RTCP_NO_CNAME",
         "RTCP_ALREADY_PADDED",
         "RTCP_NOT_PRIV",
+        "RTCP_ANSWERS_TOO_SHORT",
     };
     return number < sizeof names / sizeof names[0] ? names[number] : "no such refusal";
 }

@@ -36,6 +36,7 @@ results! {
     RtcpItemStep {
         type_: u64, length: u64, prefix: u64, prefix_len: u64, value: u64, value_len: u64, at: u64
     }
+    RtcpLookup { visits: u64 }
     RtcpCompound { n_packets: u64 }
     RtcpWalk { at: u64 }
     RtcpStep {
@@ -88,6 +89,9 @@ functions! {
     "rtcp_item_walk_open" rtcp_item_walk_open(s: &[u8]) -> RtcpItemWalk;
     "rtcp_item_walk_step" rtcp_item_walk_step(s: &[u8], at: u64) -> RtcpItemStep;
     "rtcp_sdes_items" rtcp_sdes_items(s: &[u8], rows: &mut [u32]) -> RtcpWritten;
+    "rtcp_sdes_lookup" rtcp_sdes_lookup(
+        s: &[u8], ssrcs: &[u32], answers: &mut [u8]
+    ) -> RtcpLookup;
     "rtcp_compound_parse" rtcp_compound_parse(s: &[u8]) -> RtcpCompound;
     "rtcp_compound_packets" rtcp_compound_packets(s: &[u8], packets: &mut [u64]) -> RtcpWritten;
     "rtcp_walk_open" rtcp_walk_open(s: &[u8]) -> RtcpWalk;
