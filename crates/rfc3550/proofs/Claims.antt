@@ -1,12 +1,13 @@
 -- What is promised to the buyer, each claim stated whole. Demand 3 comes last.
-use Rattle.rfc3550.proofs.Prelude.{ℕ, _<_, _≡_, refl, _↔_, true, List, [], map}
-use Rattle.rfc3550.specs.Answer.{Refusal, ok, refused}
+use Rattle.rfc3550.proofs.Prelude.{ℕ, _<_, _≤_, _≡_, refl, _↔_, Bool, true, List, [], map, length, take, drop}
+use Rattle.rfc3550.specs.Answer.{Refusal, ok, refused, refuse, mapOk}
 use Rattle.rfc3550.specs.Bytes.{Bytes}
 use Rattle.rfc3550.specs.Loss.{Loss, LossFits, lossBits, lossOf, lossIn}
 use Rattle.rfc3550.specs.Packet.{Chunk, Packet, layout, layouts, chunksOf, All, Valid, Compound}
 use Rattle.rfc3550.specs.Read.{Kind, SDES, kindFor, nth, readChunk, readAs}
 use Rattle.rfc3550.specs.Compound.{readCompound}
 use Rattle.rfc3550.specs.Walk.{openWalk, step, SdesWalk, openSdes, sdesStep, openItems, itemStep, gave, walked}
+use Rattle.rfc3550.specs.Lookup.{none, at, first, names, foundIn, lookup, lookupWith, decoded}
 use Rattle.rfc3550.specs.Write.{Given, Typed, packetGiven, write}
 use Rattle.rfc3550.specs.Writer.{Writer, fresh, Request, add, close, call}
 use Rattle.rfc3550.specs.Book.{empty}
@@ -15,6 +16,8 @@ use Rattle.rfc3550.proofs.Losses as Losses
 use Rattle.rfc3550.proofs.Packets
 use Rattle.rfc3550.proofs.Compounds as C
 use Rattle.rfc3550.proofs.Walks as W
+use Rattle.rfc3550.proofs.Lookups.{Passes, Fails}
+use Rattle.rfc3550.proofs.Lookups as Lookups
 use Rattle.rfc3550.proofs.Writes.{Wrote}
 use Rattle.rfc3550.proofs.Writes as Writes
 use Rattle.rfc3550.proofs.Calls as Calls
@@ -80,6 +83,39 @@ walking-chunks s p h e = W.sdes-walk-gives s p h e
 pub walking-items : (s : List ℕ) (x : Chunk × List ℕ) → Bytes s → readChunk s ≡ ok x
     → (openItems s ≡ ok 4) × ((i : ℕ) → gave (itemStep s (walked (itemStep s) 4 i)) ≡ nth i (x .0 .items))
 walking-items s x h e = W.item-walk-gives s x h e
+
+-- ---- document 02, order 2: for each SSRC of a list the first chunk with that SSRC and a CNAME in it, or none
+
+pub looked-up : (cs : List Chunk) (ssrcs : List ℕ) (i : ℕ) → nth i (foundIn cs ssrcs) ≡ mapOk (λ (ssrc : ℕ). first (names ssrc) cs) (nth i ssrcs)
+unfolding foundIn
+looked-up cs ssrcs i = Lookups.nth-map _ ssrcs i
+
+-- the first: it passes, and none before it does; none: no chunk passes
+pub first-found : {A : Type 0} (test : A → Bool) (xs : List A) (i : ℕ) → (first test xs ≡ at i) ↔ (Passes test xs i × ((j : ℕ) → j < i → Fails test xs j))
+first-found test xs i = (Lookups.found test xs i, λ p. Lookups.found-only test xs i (p .0) (p .1))
+
+pub none-found : {A : Type 0} (test : A → Bool) (xs : List A) → (first test xs ≡ none) ↔ ((i : ℕ) → Fails test xs i)
+none-found test xs = (Lookups.unfound test xs, Lookups.unfound-only test xs)
+
+-- 31 whatever the packet; else the packet's own steps
+pub lookup-short : (room : ℕ) (s ssrcs : List ℕ) → room < length ssrcs → lookup room s ssrcs ≡ refuse 31 0 0
+lookup-short room s ssrcs h = Lookups.lookup-short room s ssrcs h
+
+pub lookup-packet : (room : ℕ) (s ssrcs : List ℕ) → length ssrcs ≤ room → lookup room s ssrcs ≡ mapOk (λ (p : Packet). foundIn (chunksOf (p .content)) ssrcs) (readAs SDES s)
+lookup-packet room s ssrcs h = Lookups.lookup-packet room s ssrcs h
+
+-- a refusal writes no answer, entries past the list stay, and the answers can be told from the buffer
+pub refused-lookup : (visits : ℕ) (s ssrcs l : List ℕ) (r : Refusal) → lookupWith visits s ssrcs l .0 ≡ refused r → lookupWith visits s ssrcs l .1 ≡ l
+refused-lookup visits s ssrcs l r e = Lookups.lookup-refused visits s ssrcs l r e
+
+pub entries-past : (visits : ℕ) (s ssrcs l : List ℕ) → drop (length ssrcs) (lookupWith visits s ssrcs l .1) ≡ drop (length ssrcs) l
+entries-past visits s ssrcs l = Lookups.lookup-stays visits s ssrcs l
+
+pub answers-told : (visits : ℕ) (s ssrcs l : List ℕ) (n : ℕ) → Bytes s → lookupWith visits s ssrcs l .0 ≡ ok n
+    → (p : Packet) × (readAs SDES s ≡ ok p) × (n ≡ visits) × (map decoded (take (length ssrcs) (lookupWith visits s ssrcs l .1)) ≡ foundIn (chunksOf (p .content)) ssrcs)
+answers-told visits s ssrcs l n h e = Lookups.lookup-told visits s ssrcs l h e
+
+-- ---- demand 3, the writer
 
 -- for every list of the writer's calls from a fresh writer, refused ones included: each answer is the book's, after it the datagram so far is
 -- the book's packets laid end to end, and once closed it is accepted and read as exactly these

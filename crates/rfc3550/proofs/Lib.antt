@@ -9,6 +9,7 @@ pub mod Contents
 pub mod Packets
 pub mod Compounds
 pub mod Walks
+pub mod Lookups
 pub mod Writes
 pub mod Books
 pub mod Calls

@@ -1,23 +1,26 @@
--- Document 01's trial rows marked ★ and row 10 by document 02, order 1, as one list by one theorem.
+-- Document 01's trial rows marked ★, row 10 by document 02, order 1, and rows of order 2, as one list by one theorem.
 use lib.IntN.{pos, negsuc}
 use Rattle.rfc3550.proofs.Prelude.{ℕ, _≡_, refl, List, [], _∷_, _++_, replicate}
-use Rattle.rfc3550.specs.Answer.{Answer, ok, refuse, need, _>>_, _>>=_}
+use Rattle.rfc3550.specs.Answer.{Answer, ok, refuse, need, _>>_, _>>=_, mapOk}
 use Rattle.rfc3550.specs.Bytes.{be, val, put, get, sum, store}
 use Rattle.rfc3550.specs.Loss.{Loss, lossBits, lossIn, lossShown}
 use Rattle.rfc3550.specs.Packet.{item, receiver, Content, report, sdes, Packet, All, blocksBytes, itemsBytes, chunkBytes, chunksBytes, contentBytes, layout}
 use Rattle.rfc3550.specs.Read.{Kind, RR, SDES, kindOf, versionIn, padded, lowIn, typeIn, stated, paddingCount, paddingFits, checkHeader, readBlocks, readReport, itemOf, readItem, readFill, readItems, readChunk, readChunks, readContent, readAs}
 use Rattle.rfc3550.specs.Write.{Given, giveReport, giveBye, lentBlocks, lossTests, ownTests, tests, calculateSize, room, write}
+use Rattle.rfc3550.specs.Lookup.{first, foundIn, lookup, lookupWith}
 use Rattle.rfc3550.specs.Compound.{readPacket, readPackets, readCompound}
 
 pub data Row : Type 0 where
   reads : Kind → List ℕ → Answer Packet → Row
   compound : List ℕ → Answer (List Packet) → Row
   writes : Given → List ℕ → Answer ℕ × List ℕ → Row
+  looks-up : List ℕ → List ℕ → List ℕ → Answer ℕ × List ℕ → Row
 
 abbrev Holds : Row → Type 0
 Holds (reads k s a) = readAs k s ≡ a
 Holds (compound s a) = readCompound s ≡ a
 Holds (writes g l a) = write g l ≡ a
+Holds (looks-up s ssrcs l a) = lookupWith 0 s ssrcs l ≡ a
 
 abbrev row1 : List ℕ
 row1 = 0x80 ∷ 0xC9 ∷ 0x00 ∷ 0x01 ∷ 0x11 ∷ 0x22 ∷ 0x33 ∷ 0x44 ∷ []
@@ -44,6 +47,12 @@ row10 a b c = 0x81 ∷ 0xC9 ∷ 0 ∷ 7 ∷ 0x11 ∷ 0x22 ∷ 0x33 ∷ 0x44 ∷ 
 abbrev space : List ℕ
 space = replicate 32 0xEE
 
+-- order 2: SSRC 1 without an item, SSRC 0 with a CNAME, SSRC 1 with NAME and CNAME, SSRC 0 with a CNAME again
+abbrev stage : List ℕ
+stage =
+    0x84 ∷ 0xCA ∷ 0 ∷ 9 ∷ 0 ∷ 0 ∷ 0 ∷ 1 ∷ 0 ∷ 0 ∷ 0 ∷ 0 ∷ 0 ∷ 0 ∷ 0 ∷ 0 ∷ 1 ∷ 1 ∷ 0x61 ∷ 0
+    ∷ 0 ∷ 0 ∷ 0 ∷ 1 ∷ 2 ∷ 0 ∷ 1 ∷ 1 ∷ 0x62 ∷ 0 ∷ 0 ∷ 0 ∷ 0 ∷ 0 ∷ 0 ∷ 0 ∷ 1 ∷ 0 ∷ 0 ∷ 0 ∷ []
+
 abbrev rows : List Row
 rows =
     reads RR row1 (ok rr)
@@ -69,8 +78,13 @@ rows =
     ∷ writes (lost (pos 0)) space (ok 32, row10 0 0 0)
     ∷ writes (lost (pos 8388608)) space (refuse 17 8388608 8388607, space)
     ∷ writes (lost (negsuc 8388608)) space (refuse 17 4286578687 8388607, space)
+    ∷ looks-up stage (0 ∷ 1 ∷ 2 ∷ 1 ∷ []) (7 ∷ 7 ∷ 7 ∷ 7 ∷ 7 ∷ []) (ok 0, 1 ∷ 2 ∷ 255 ∷ 2 ∷ 7 ∷ [])
+    ∷ looks-up stage [] [] (ok 0, [])
+    ∷ looks-up [] (1 ∷ 2 ∷ []) (7 ∷ []) (refuse 31 0 0, 7 ∷ [])
+    ∷ looks-up [] [] (7 ∷ []) (refuse 2 4 0, 7 ∷ [])
+    ∷ looks-up (0x80 ∷ 0xCA ∷ 0 ∷ 0 ∷ []) (0 ∷ []) (7 ∷ 7 ∷ []) (ok 0, 255 ∷ 7 ∷ [])
     ∷ []
 
 pub rows-hold : All Holds rows
-unfolding be val put get sum store lossBits lossIn lossShown lentBlocks lossTests blocksBytes itemsBytes chunkBytes chunksBytes contentBytes layout kindOf versionIn padded lowIn typeIn stated paddingCount paddingFits checkHeader readBlocks readReport itemOf readItem readFill readItems readChunk readChunks readContent readAs ownTests tests calculateSize room write readPacket readPackets readCompound need _>>_ _>>=_
-rows-hold = (refl, (refl, (refl, (refl, (refl, (refl, (refl, (refl, (refl, (refl, (refl, (refl, (refl, (refl, (refl, (refl, (refl, (refl, tt))))))))))))))))))
+unfolding be val put get sum store lossBits lossIn lossShown lentBlocks lossTests blocksBytes itemsBytes chunkBytes chunksBytes contentBytes layout kindOf versionIn padded lowIn typeIn stated paddingCount paddingFits checkHeader readBlocks readReport itemOf readItem readFill readItems readChunk readChunks readContent readAs ownTests tests calculateSize room write readPacket readPackets readCompound first foundIn lookup lookupWith mapOk need _>>_ _>>=_
+rows-hold = (refl, (refl, (refl, (refl, (refl, (refl, (refl, (refl, (refl, (refl, (refl, (refl, (refl, (refl, (refl, (refl, (refl, (refl, (refl, (refl, (refl, (refl, (refl, tt)))))))))))))))))))))))

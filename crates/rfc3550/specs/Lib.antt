@@ -7,6 +7,7 @@ pub mod Read
 pub mod Write
 pub mod Compound
 pub mod Walk
+pub mod Lookup
 pub mod Writer
 pub mod Book
 pub mod Calls

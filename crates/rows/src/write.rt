@@ -15,6 +15,7 @@ use super::print::written;
 use super::text;
 use records::Reporter;
 use report_write::sender::SenderInfo;
+use rtcp::read_lookup;
 use rtcp::write_app;
 use rtcp::write_bye;
 use rtcp::write_compound;
@@ -275,7 +276,22 @@ fn report(
     }
 }
 
-// 37 chunk_write, 38 item_write; rr, sr, sdes, bye, app: from 39 on written, from 47 on added; 44, 45 and 52, 53 reports of records.
+// How many chunks a packet counts.
+fn count(s: &[u8]) -> u64 {
+    if s.len() == 0 {
+        return 0;
+    }
+    lists::wide(s[0]) % 32
+}
+
+// `ROOM SSRCS`, then these. Of the visits it says whether they are at most the packet's count: no more of them is fixed.
+fn lookup(buf: &mut [u8], n: &Numbers, w: &Words, s: &[u8]) {
+    let r = read_lookup::rtcp_sdes_lookup(s, lists::words(w, 2, at(n, 1)), buf);
+    let bounded = if r.visits <= count(s) { 1 } else { 0 };
+    four(r.number, r.first, r.second, bounded);
+}
+
+// 37 chunk_write, 38 item_write; rr, sr, sdes, bye, app: from 39 on written, from 47 on added; 44, 45 and 52, 53 reports of records; 56 sdes_lookup.
 fn run(
     op: usize,
     state: &mut [u64; 4],
@@ -292,13 +308,17 @@ fn run(
         42 | 50 => bye(op, state, buf, n, w, s),
         43 | 51 => app(op, state, buf, n, w, s),
         46 | 54 | 55 => writer(op, state, n),
+        56 => lookup(buf, n, w, s),
         _ => report(op, state, buf, n, w, l, s),
     }
 }
 
 // How many bytes are stale before a call: none where it adds to what is there.
 fn stale(op: usize) -> u64 {
-    if op < 47 { 262400 } else { 0 }
+    match op {
+        47..=55 => 0,
+        _ => 262400,
+    }
 }
 
 pub fn row(

@@ -20,6 +20,7 @@ use Rattle.rtcp.specs.Report.{blockResult, rrResult, srResult}
 use Rattle.rtcp.specs.App.{appResult}
 use Rattle.rtcp.specs.Bye.{byeResult, sourceResult}
 use Rattle.rtcp.specs.Sdes.{sdesResult, itemResult, prefixResult, chunkResult, chunkWalkResult, chunkStepResult, itemWalkResult, itemStepResult}
+use Rattle.rtcp.specs.Lookup.{lookupResult}
 use Rattle.rtcp.specs.Compound.{compoundResult, walkResult, stepResult}
 use Rattle.rtcp.specs.WriteResult.{writtenResult}
 use Rattle.rtcp.specs.WriteCompound.{writerIn, writerOut, callResult}
@@ -119,6 +120,9 @@ pub itemStepResult-injective : (at : ℕ) → Injective (itemStepResult at)
 itemStepResult-injective at =
     by-fields (itemStepResult at) (λ r. (record { «type_» = r .«type_»; length = r .length; «prefix_len» = r .«prefix_len» }, record { at = r .at }))
     (λ r. (r .number, r .first, r .second)) (λ a. refl) (λ x. refl)
+
+pub lookupResult-injective : Injective lookupResult
+lookupResult-injective = by-fields lookupResult (λ r. r .visits) (λ r. (r .number, r .first, r .second)) (λ a. refl) (λ x. refl)
 
 pub compoundResult-injective : Injective compoundResult
 compoundResult-injective = by-fields compoundResult (λ r. record { «n_packets» = r .«n_packets» }) (λ r. (r .number, r .first, r .second)) (λ a. refl) (λ x. refl)

@@ -9,6 +9,7 @@ pub mod WriteResults
 pub mod WriteReports
 pub mod WriteCalls
 pub mod Nonzero
+pub mod Lookups
 pub mod Returned
 pub mod Handed
 pub mod Places

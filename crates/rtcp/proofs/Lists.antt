@@ -14,7 +14,7 @@ use Rattle.compound.proofs.Rows as datagrams
 use Rattle.rtcp.specs.WriteResult.{writtenWithBuffer}
 use Rattle.rtcp.specs.declared.write_result.RtcpWritten.{RtcpWritten}
 use Rattle.rtcp.proofs.Injective.{Nonzero}
-use Rattle.rtcp.proofs.Nonzero.{read-nonzero, compound-nonzero}
+use Rattle.rtcp.proofs.Nonzero.{map-nonzero, read-nonzero, compound-nonzero}
 
 listed-nonzero : (b : Bool) (xs l : List ℕ) → Nonzero (layIf b xs l .0)
 listed-nonzero true xs l = tt
@@ -24,11 +24,6 @@ filled-nonzero : (a : Answer (List ℕ)) (l : List ℕ) → Nonzero a → Nonzer
 unfolding layList
 filled-nonzero (ok xs) l n = listed-nonzero (leb (length xs) (length l)) xs l
 filled-nonzero (refused r) l n = n
-
-pub map-nonzero : {A B : Type 0} (f : A → B) (a : Answer A) → Nonzero a → Nonzero (mapOk f a)
-unfolding mapOk
-map-nonzero f (ok x) n = n
-map-nonzero f (refused r) n = n
 
 -- number 0 says that the list is filled, with as many numbers as the size says
 filled-out : (x : Answer ℕ × List ℕ) (r : RtcpWritten) (l₁ : List ℕ) → Nonzero (x .0) → (r, l₁) ≡ writtenWithBuffer x → r .number ≡ 0 → (ok (r .size), l₁) ≡ x

@@ -4,6 +4,7 @@ use Rattle.rfc3550.specs.Answer.{Answer, ok, refused, need, _>>_, _>>=_, mapOk}
 use Rattle.rfc3550.specs.Loss.{Loss}
 use Rattle.rfc3550.specs.Packet.{itemBytes}
 use Rattle.rfc3550.specs.Read.{Kind, SR, RR, SDES, BYE, APP, UNKNOWN, stated, checkHeader, itemOf, readItem, readFill, readItems, readChunk, readChunks, readLeaving, readReport, readContent, readAs}
+use Rattle.rfc3550.specs.Lookup.{lookup, lookupWith}
 use Rattle.rfc3550.specs.Compound.{readPacket, readPackets, readCompound}
 use Rattle.rfc3550.specs.Write.{LentItem, Given, giveReport, giveSdes, giveBye, giveApp, lossTests, itemTests, itemsTests, ownTests, tests}
 use Rattle.rfc3550.specs.Writer.{Writer, Request, add, close, addTests, closeTests, call}
@@ -55,6 +56,11 @@ call-nonzero (add g) w l =
 call-nonzero close w l = then _ _ (test _ 26 _ _ (omega arith)) (test _ 28 _ _ (omega arith))
 
 -- ---- reading: every refusal has a number above 0 too
+
+pub map-nonzero : {A B : Type 0} (f : A → B) (a : Answer A) → Nonzero a → Nonzero (mapOk f a)
+unfolding mapOk
+map-nonzero f (ok x) n = n
+map-nonzero f (refused r) n = n
 
 bind : {A B : Type 0} (a : Answer A) (f : A → Answer B) → Nonzero a → ((x : A) → Nonzero (f x)) → Nonzero (a >>= f)
 unfolding _>>=_
@@ -121,6 +127,10 @@ content UNKNOWN n t s = tt
 pub read-nonzero : (k : Kind) (s : List ℕ) → Nonzero (readAs k s)
 unfolding readAs
 read-nonzero k s = bind _ _ (header _ _ _ s) (λ body. bind _ _ (content k _ _ _) (λ c. tt))
+
+pub lookup-nonzero : (visits : ℕ) (s ssrcs l : List ℕ) → Nonzero (lookupWith visits s ssrcs l .0)
+unfolding lookup lookupWith
+lookup-nonzero visits s ssrcs l = map-nonzero _ _ (then _ _ (test _ 31 _ _ (omega arith)) (bind _ _ (read-nonzero SDES s) (λ p. tt)))
 
 packet : (first : Bool) (s : List ℕ) → Nonzero (readPacket first s)
 unfolding readPacket

@@ -3,6 +3,7 @@ pub mod Report
 pub mod App
 pub mod Bye
 pub mod Sdes
+pub mod Lookup
 pub mod Compound
 pub mod WriteResult
 pub mod WriteCompound

@@ -3,6 +3,7 @@ pub mod read_app;
 pub mod read_bye;
 pub mod read_compound;
 pub mod read_items;
+pub mod read_lookup;
 pub mod read_report;
 pub mod read_sdes;
 pub mod result;

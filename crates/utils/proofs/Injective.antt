@@ -34,7 +34,8 @@ parseError (refusal n a b) =
     (pick (eqb n 8) parse.NoCname
     (pick (eqb n 9) parse.NonLastCompoundPacketPadding
     (pick (eqb n 25) parse.NothingLeft
-    (parse.NotPriv a))))))))))
+    (pick (eqb n 30) (parse.NotPriv a)
+    parse.AnswersTooShort))))))))))
 
 pub parseRefusal-back : (e : RtcpParseError) → parseError (parseRefusal e) ≡ e
 parseRefusal-back (parse.UnsupportedVersion version) = refl
@@ -48,6 +49,7 @@ parseRefusal-back parse.NoCname = refl
 parseRefusal-back parse.NonLastCompoundPacketPadding = refl
 parseRefusal-back parse.NothingLeft = refl
 parseRefusal-back (parse.NotPriv t) = refl
+parseRefusal-back parse.AnswersTooShort = refl
 
 pub parseRefusal-injective : (e f : RtcpParseError) → parseRefusal e ≡ parseRefusal f → e ≡ f
 parseRefusal-injective = injective parseRefusal parseError parseRefusal-back

@@ -19,6 +19,7 @@ parseRefusal parse.NoCname = refusal 8 0 0
 parseRefusal parse.NonLastCompoundPacketPadding = refusal 9 0 0
 parseRefusal parse.NothingLeft = refusal 25 0 0
 parseRefusal (parse.NotPriv t) = refusal 30 t 0
+parseRefusal parse.AnswersTooShort = refusal 31 0 0
 
 abbrev pub writeRefusal : RtcpWriteError → Refusal
 writeRefusal (write.OutputTooSmall size) = refusal 10 size 0

@@ -3,7 +3,7 @@ ghost use mathlib.Core.Path.{_≡_};
 ghost use Rattle.rfc3550.specs.Answer.{refusal};
 ghost use Rattle.utils.specs.Error.{parseRefusal, writeRefusal, codeRefusal};
 
-// From the input, reading (1 to 6) and compound reading (7 to 9); from the state (25, 30).
+// From the input, reading (1 to 6) and compound reading (7 to 9); from the state (25, 30); from the list lent to a lookup (31).
 pub enum RtcpParseError {
     UnsupportedVersion(u8),
     Truncated { expected: usize, actual: usize },
@@ -16,6 +16,7 @@ pub enum RtcpParseError {
     NonLastCompoundPacketPadding,
     NothingLeft,
     NotPriv(u8),
+    AnswersTooShort,
 }
 
 // From the input, writing (10 to 24); from the state of a writer (26 to 29).
@@ -82,6 +83,7 @@ impl RtcpParseError {
             Self::NonLastCompoundPacketPadding => coded(9, 0, 0),
             Self::NothingLeft => coded(25, 0, 0),
             Self::NotPriv(type_) => coded(30, type_ as u64, 0),
+            Self::AnswersTooShort => coded(31, 0, 0),
         }
     }
 }
