@@ -1,5 +1,5 @@
 -- The turns of marking and of the pass over the chunks, and the call.
-use Rattle.rfc3550.proofs.Prelude.{ℕ, zero, suc, _+_, _-_, _^_, _<_, _≤_, _≡_, refl, sym, ap, _∙_, subst, Bool, true, false, _&&_, _||_, List, [], _∷_, _++_, append-assoc, map, add-one, arith, needs, eq-eqb, ne-eqb, lt-ltb, eqb, ltb, length, getD, set, take, drop, replicate, length-append, length-drop, length-replicate, length-set, length-map, length-take-le, replicate-append-replicate, drop-of-length-le, drop-cons, drop-drop, set-at, take-append-drop}
+use Rattle.rfc3550.proofs.Prelude.{ℕ, zero, suc, _+_, _-_, _^_, _<_, _≤_, _≡_, refl, sym, ap, _∙_, subst, Bool, true, false, _&&_, _||_, List, [], _∷_, _++_, append-assoc, map, add-one, arith, needs, eq-eqb, ne-eqb, lt-ltb, eqb, ltb, length, getD, set, take, drop, replicate, length-append, length-drop, length-replicate, length-set, length-map, length-take-le, replicate-append-replicate, drop-of-length-le, drop-cons, drop-drop, drop-at, set-at, take-append-drop}
 use lib.Seq.{take-suc, take-suc-set, drop-set-lt}
 use Rattle.rfc3550.specs.Answer.{Refusal, Answer, ok, refused, refuse, mapOk, pick, _>>=_}
 use Rattle.rfc3550.specs.Bytes.{store}
@@ -20,9 +20,9 @@ use Rattle.sdes_chunk.proofs.Readings.{chunk-in, chunks-in}
 use Rattle.sdes.specs.declared.sdes.Sdes.{Sdes}
 use Rattle.sdes.specs.Sdes.{sdesView, noSdes}
 use Rattle.sdes.proofs.Packets.{sdes-body, content-chunks}
-use Rattle.sdes_lookup.specs.Lookup.{marked, openIn, Answered}
+use Rattle.sdes_lookup.specs.Lookup.{marked, unansweredIn, Answered}
 
--- ---- no answer yet
+-- ---- no answer at all
 
 pub record Blanking (n : ℕ) (l₀ : List ℕ) (i : ℕ) (l : List ℕ) : Type 0 where
   pub within : i ≤ n
@@ -50,14 +50,14 @@ module _ (n : ℕ) (l₀ : List ℕ) (i : ℕ) (l : List ℕ) (g : Blanking n l�
   pub blank-done : n ≤ i → l ≡ replicate n 255 ++ drop n l₀
   blank-done h = let e : i ≡ n = omega (arith, g .within) in rw e at (g .is)
 
--- ---- how many are open
+-- ---- how many have no answer yet
 
-open-set : (n i k : ℕ) (l : List ℕ) → i < n → i < length l → getD l i 0 ≡ 255 → (k ≡ 255 → ⊥) → openIn n l ≡ suc (openIn n (set l i k))
-unfolding openIn
-open-set zero i k l h m e z = absurd (omega arith)
-open-set (suc n) i k [] h m e z = absurd (omega arith)
-open-set (suc n) zero k (a ∷ l) h m e z = rw (eq-eqb a 255 e, ne-eqb k 255 z) (omega arith)
-open-set (suc n) (suc i) k (a ∷ l) h m e z = omega (arith, open-set n i k l (omega arith) (omega arith) e z)
+unanswered-set : (n i k : ℕ) (l : List ℕ) → i < n → i < length l → getD l i 0 ≡ 255 → (k ≡ 255 → ⊥) → unansweredIn n l ≡ suc (unansweredIn n (set l i k))
+unfolding unansweredIn
+unanswered-set zero i k l h m e z = absurd (omega arith)
+unanswered-set (suc n) i k [] h m e z = absurd (omega arith)
+unanswered-set (suc n) zero k (a ∷ l) h m e z = rw (eq-eqb a 255 e, ne-eqb k 255 z) (omega arith)
+unanswered-set (suc n) (suc i) k (a ∷ l) h m e z = omega (arith, unanswered-set n i k l (omega arith) (omega arith) e z)
 
 -- ---- marking
 
@@ -67,18 +67,18 @@ pub record Marking (k ssrc : ℕ) (ssrcs l₀ : List ℕ) (i left : ℕ) (l : Li
   pub long : length l ≡ length l₀
   pub low : k < 255
   pub same : marked k ssrc ssrcs l₀ ≡ take i l ++ marked k ssrc (drop i ssrcs) (drop i l)
-  pub open : left ≡ openIn (length ssrcs) l
+  pub counted : left ≡ unansweredIn (length ssrcs) l
 
-pub mark-start : (k ssrc open : ℕ) (ssrcs l : List ℕ) → length ssrcs ≤ length l → k < 255 → open ≡ openIn (length ssrcs) l → Marking k ssrc ssrcs l 0 open l
-mark-start k ssrc open ssrcs l h m e = record { within = omega arith; fits = h; long = refl; low = m; same = refl; open = e }
+pub mark-start : (k ssrc left : ℕ) (ssrcs l : List ℕ) → length ssrcs ≤ length l → k < 255 → left ≡ unansweredIn (length ssrcs) l → Marking k ssrc ssrcs l 0 left l
+mark-start k ssrc left ssrcs l h m e = record { within = omega arith; fits = h; long = refl; low = m; same = refl; counted = e }
 
 module _ (k ssrc : ℕ) (ssrcs l₀ : List ℕ) (i left : ℕ) (l : List ℕ) (g : Marking k ssrc ssrcs l₀ i left l) where
   pub mark-long : length l ≡ length l₀
   mark-long = g .long
 
-  pub mark-done : length ssrcs ≤ i → (l ≡ marked k ssrc ssrcs l₀) × (left ≡ openIn (length ssrcs) l)
+  pub mark-done : length ssrcs ≤ i → (l ≡ marked k ssrc ssrcs l₀) × (left ≡ unansweredIn (length ssrcs) l)
   unfolding marked
-  mark-done h = (sym (g .same ∙ rw (drop-of-length-le ssrcs {i = i} h) (take-append-drop i l)), g .open)
+  mark-done h = (sym (g .same ∙ rw (drop-of-length-le ssrcs {i = i} h) (take-append-drop i l)), g .counted)
 
   module _ (h : i < length ssrcs) where
     pub mark-room : i < length l
@@ -91,39 +91,47 @@ module _ (k ssrc : ℕ) (ssrcs l₀ : List ℕ) (i left : ℕ) (l : List ℕ) (g
         g .same
         ∙ rw (drop-cons ssrcs i 0 h, drop-cons l i 0 mark-room, ← q, t, d) (sym (append-assoc (take i l) (x ∷ []) (marked k ssrc (drop (suc i) ssrcs) (drop (suc i) l))))
 
-    -- the answer stays as it is
-    stays : getD l i 0 ≡ pick (eqb ssrc (getD ssrcs i 0) && eqb (getD l i 0) 255) k (getD l i 0) → Marking k ssrc ssrcs l₀ (i + 1) left l
-    stays q = record {
+    module _ (left₁ : ℕ) (l₁ : List ℕ) where
+      -- the answer stays as it is
+      stays : getD l i 0 ≡ pick (eqb ssrc (getD ssrcs i 0) && eqb (getD l i 0) 255) k (getD l i 0) → l₁ ≡ l → left₁ ≡ left → Marking k ssrc ssrcs l₀ (i + 1) left₁ l₁
+      stays q e f = rw (e, f) (record {
         within = omega arith;
         fits = g .fits;
         long = g .long;
         low = g .low;
         same = rw add-one (turn (getD l i 0) l q (take-suc l i 0 mark-room) refl);
-        open = g .open;
-      }
+        counted = g .counted;
+      })
 
-    pub mark-other : (getD ssrcs i 0 ≡ ssrc → ⊥) → Marking k ssrc ssrcs l₀ (i + 1) left l
-    mark-other z = stays (rw (ne-eqb ssrc (getD ssrcs i 0) (λ e. z (sym e))))
+      pub mark-other : (getD ssrcs i 0 ≡ ssrc → ⊥) → l₁ ≡ l → left₁ ≡ left → Marking k ssrc ssrcs l₀ (i + 1) left₁ l₁
+      mark-other z = stays (rw (ne-eqb ssrc (getD ssrcs i 0) (λ e. z (sym e))))
 
-    pub mark-stands : getD ssrcs i 0 ≡ ssrc → (getD l i 0 ≡ 255 → ⊥) → Marking k ssrc ssrcs l₀ (i + 1) left l
-    mark-stands e z = stays (rw (eq-eqb ssrc (getD ssrcs i 0) (sym e), ne-eqb (getD l i 0) 255 z))
+      pub mark-stands : getD ssrcs i 0 ≡ ssrc → (getD l i 0 ≡ 255 → ⊥) → l₁ ≡ l → left₁ ≡ left → Marking k ssrc ssrcs l₀ (i + 1) left₁ l₁
+      mark-stands e z = stays (rw (eq-eqb ssrc (getD ssrcs i 0) (sym e), ne-eqb (getD l i 0) 255 z))
 
     module _ (z : getD l i 0 ≡ 255) where
-      fewer : openIn (length ssrcs) l ≡ suc (openIn (length ssrcs) (set l i k))
-      fewer = open-set (length ssrcs) i k l h mark-room z (λ e. omega (arith, g .low))
+      fewer : unansweredIn (length ssrcs) l ≡ suc (unansweredIn (length ssrcs) (set l i k))
+      fewer = unanswered-set (length ssrcs) i k l h mark-room z (λ e. omega (arith, g .low))
 
       pub mark-some : 1 ≤ left
-      mark-some = omega (arith, fewer, g .open)
+      mark-some = omega (arith, fewer, g .counted)
 
-      pub mark-new : getD ssrcs i 0 ≡ ssrc → Marking k ssrc ssrcs l₀ (i + 1) (left - 1) (set l i k)
-      mark-new e = record {
-          within = omega arith;
-          fits = simp length-set (g .fits);
-          long = simp length-set (g .long);
-          low = g .low;
-          same = rw add-one (turn k (set l i k) (rw (eq-eqb ssrc (getD ssrcs i 0) (sym e), eq-eqb (getD l i 0) 255 z)) (take-suc-set l i k mark-room) (drop-set-lt (suc i) l i k (omega arith)));
-          open = omega (arith, fewer, g .open);
-        }
+      pub mark-new : (left₁ : ℕ) (l₁ : List ℕ) → getD ssrcs i 0 ≡ ssrc → l₁ ≡ set l i k → left₁ ≡ left - 1 → Marking k ssrc ssrcs l₀ (i + 1) left₁ l₁
+      mark-new left₁ l₁ e q f = rw (q, f) (record {
+        within = omega arith;
+        fits = simp length-set (g .fits);
+        long = simp length-set (g .long);
+        low = g .low;
+        same = rw add-one (turn k (set l i k) (rw (eq-eqb ssrc (getD ssrcs i 0) (sym e), eq-eqb (getD l i 0) 255 z)) (take-suc-set l i k mark-room) (drop-set-lt (suc i) l i k (omega arith)));
+        counted = omega (arith, fewer, g .counted);
+      })
+
+module _ (k : ℕ) (c : SdesChunk) (ssrcs l : List ℕ) where
+  pub visit-passes : c .cname ≡ 0 → l ≡ pick (ltb 0 (c .cname)) (marked k (c .ssrc) ssrcs l) l
+  visit-passes e = rw e
+
+  pub visit-answers : (l₁ : List ℕ) → (c .cname ≡ 0 → ⊥) → l₁ ≡ marked k (c .ssrc) ssrcs l → l₁ ≡ pick (ltb 0 (c .cname)) (marked k (c .ssrc) ssrcs l) l
+  visit-answers l₁ z e = rw (lt-ltb 0 (c .cname) (omega arith)) e
 
 -- ---- the answers of a pass, as they stand in the buffer
 
@@ -139,27 +147,27 @@ one-or : (a : Bool) (n : ℕ) → pick a 1 0 + n ≡ 0 → (a ≡ false) × (n �
 one-or true n e = absurd (omega arith)
 one-or false n e = (refl, omega arith)
 
-pub none-open : (k : ℕ) (fs : List Found) (r : List ℕ) → k ≤ 255 → Below k fs → openIn (length fs) (map coded fs ++ r) ≡ 0 → some missing fs ≡ false
-unfolding openIn
-none-open k [] r h b e = refl
-none-open k (f ∷ fs) r h b e =
-    let w = one-or (eqb (coded f) 255) (openIn (length fs) (map coded fs ++ r)) e in
-    rw (sym (code-missing f k h (b .0)) ∙ w .0, none-open k fs r h (b .1) (w .1))
+pub none-unanswered : (k : ℕ) (fs : List Found) (r : List ℕ) → k ≤ 255 → Below k fs → unansweredIn (length fs) (map coded fs ++ r) ≡ 0 → some missing fs ≡ false
+unfolding unansweredIn
+none-unanswered k [] r h b e = refl
+none-unanswered k (f ∷ fs) r h b e =
+    let w = one-or (eqb (coded f) 255) (unansweredIn (length fs) (map coded fs ++ r)) e in
+    rw (sym (code-missing f k h (b .0)) ∙ w .0, none-unanswered k fs r h (b .1) (w .1))
 
 some-or : (a b : Bool) (n : ℕ) → (pick a 1 0 + n ≡ 0 → ⊥) → ((n ≡ 0 → ⊥) → b ≡ true) → (a || b) ≡ true
 some-or true b n z f = refl
 some-or false b n z f = f (λ e. z (omega arith))
 
-pub some-open : (k : ℕ) (fs : List Found) (r : List ℕ) → k ≤ 255 → Below k fs → (openIn (length fs) (map coded fs ++ r) ≡ 0 → ⊥) → some missing fs ≡ true
-unfolding openIn
-some-open k [] r h b z = absurd (z refl)
-some-open k (f ∷ fs) r h b z =
-    rw (← code-missing f k h (b .0)) (some-or (eqb (coded f) 255) (some missing fs) (openIn (length fs) (map coded fs ++ r)) z (some-open k fs r h (b .1)))
+pub some-unanswered : (k : ℕ) (fs : List Found) (r : List ℕ) → k ≤ 255 → Below k fs → (unansweredIn (length fs) (map coded fs ++ r) ≡ 0 → ⊥) → some missing fs ≡ true
+unfolding unansweredIn
+some-unanswered k [] r h b z = absurd (z refl)
+some-unanswered k (f ∷ fs) r h b z =
+    rw (← code-missing f k h (b .0)) (some-or (eqb (coded f) 255) (some missing fs) (unansweredIn (length fs) (map coded fs ++ r)) z (some-unanswered k fs r h (b .1)))
 
-open-nones : (ssrcs r : List ℕ) → openIn (length ssrcs) (map coded (nones ssrcs) ++ r) ≡ length ssrcs
-unfolding openIn
-open-nones [] r = refl
-open-nones (s ∷ ssrcs) r = omega (arith, open-nones ssrcs r)
+unanswered-nones : (ssrcs r : List ℕ) → unansweredIn (length ssrcs) (map coded (nones ssrcs) ++ r) ≡ length ssrcs
+unfolding unansweredIn
+unanswered-nones [] r = refl
+unanswered-nones (s ∷ ssrcs) r = omega (arith, unanswered-nones ssrcs r)
 
 -- a chunk without a CNAME answers nothing
 visit-none : (k : ℕ) (c : Chunk) (ssrcs : List ℕ) (fs : List Found) → chunkHasCname c ≡ false → visit k c ssrcs fs ≡ fs
@@ -193,7 +201,7 @@ visit-marks m k c (s ∷ ssrcs) (at i ∷ fs) r e h b l = cc (one (eqb (c .ssrc)
 
 -- ---- the pass
 
-pub record Passing (n : ℕ) (body ssrcs l₀ : List ℕ) (open place k : ℕ) (l : List ℕ) : Type 0 where
+pub record Passing (n : ℕ) (body ssrcs l₀ : List ℕ) (unanswered place k : ℕ) (l : List ℕ) : Type 0 where
   pub chunks : List Chunk
   pub read : readChunks n (length body) (drop 4 body) ≡ ok chunks
   pub left : List Chunk
@@ -207,64 +215,70 @@ pub record Passing (n : ℕ) (body ssrcs l₀ : List ℕ) (open place k : ℕ) (
   pub low : n < 32
   pub inside : place ≤ length body
   pub fits : length ssrcs ≤ length l
-  pub counted : open ≡ openIn (length ssrcs) l
+  pub counted : unanswered ≡ unansweredIn (length ssrcs) l
   -- the exact number of visits goes with the answers
   pub same : pass 0 chunks ssrcs (nones ssrcs) ≡ pass k left ssrcs found
 
-pub pass-start : (n : ℕ) (body ssrcs l l₁ : List ℕ) → n < 32 → length ssrcs ≤ length l → ((cs : List Chunk) × (readChunks n (length body) (drop 4 body) ≡ ok cs)) → 4 ≤ length body
-    → l₁ ≡ replicate (length ssrcs) 255 ++ drop (length ssrcs) l → length l₁ ≡ length l → Passing n body ssrcs l (length ssrcs) 4 0 l₁
-pass-start n body ssrcs l l₁ m h c b e s =
-    let z : n - 0 ≡ n = omega arith in
-    let w : l₁ ≡ map coded (nones ssrcs) ++ drop (length ssrcs) l = e ∙ ap (λ (x : List ℕ). x ++ drop (length ssrcs) l) (sym (coded-nones ssrcs)) in
-    record {
-      chunks = c .0;
-      read = c .1;
-      left = c .0;
-      rest = rw z (c .1);
-      found = nones ssrcs;
-      below = nones-below ssrcs;
-      count = length-map ssrcs _;
-      is = w;
-      long = s;
-      within = omega arith;
-      low = m;
-      inside = b;
-      fits = omega arith;
-      counted = sym (ap (openIn (length ssrcs)) w ∙ open-nones ssrcs (drop (length ssrcs) l));
-      same = refl;
-    }
+module _ (ssrcs l l₁ : List ℕ) (e : l₁ ≡ replicate (length ssrcs) 255 ++ drop (length ssrcs) l) where
+  blank-rest : drop (length ssrcs) l₁ ≡ drop (length ssrcs) l
+  blank-rest = ap (drop (length ssrcs)) e ∙ drop-at (replicate (length ssrcs) 255) (drop (length ssrcs) l) (length ssrcs) (length-replicate (length ssrcs) 255)
 
-module _ (n : ℕ) (body ssrcs l₀ : List ℕ) (open place k : ℕ) (l : List ℕ) (g : Passing n body ssrcs l₀ open place k l) where
+  pub pass-start : (n : ℕ) (body : List ℕ) → n < 32 → length ssrcs ≤ length l → 4 ≤ length body → ((cs : List Chunk) × (readChunks n (length body) (drop 4 body) ≡ ok cs)) → length l₁ ≡ length l
+      → Passing n body ssrcs l₁ (length ssrcs) 4 0 l₁
+  pass-start n body m h b c s =
+      let z : n - 0 ≡ n = omega arith in
+      let w : l₁ ≡ map coded (nones ssrcs) ++ drop (length ssrcs) l₁ = cc (e, coded-nones ssrcs, blank-rest) in
+      record {
+        chunks = c .0;
+        read = c .1;
+        left = c .0;
+        rest = rw z (c .1);
+        found = nones ssrcs;
+        below = nones-below ssrcs;
+        count = length-map ssrcs _;
+        is = w;
+        long = refl;
+        within = omega arith;
+        low = m;
+        inside = b;
+        fits = omega arith;
+        counted = sym (ap (unansweredIn (length ssrcs)) w ∙ unanswered-nones ssrcs (drop (length ssrcs) l₁));
+        same = refl;
+      }
+
+module _ (n : ℕ) (body ssrcs l₀ : List ℕ) (unanswered place k : ℕ) (l : List ℕ) (g : Passing n body ssrcs l₀ unanswered place k l) where
   pub pass-long : length l ≡ length l₀
   pass-long = g .long
 
   pub pass-inside : place ≤ length body
   pass-inside = g .inside
 
-  opened : openIn (length (g .found)) (map coded (g .found) ++ drop (length ssrcs) l₀) ≡ open
+  opened : unansweredIn (length (g .found)) (map coded (g .found) ++ drop (length ssrcs) l₀) ≡ unanswered
   opened = rw (g .count, ← g .is) (sym (g .counted))
 
   -- the answers so far are all, where the pass ends here
-  ends : pass k (g .left) ssrcs (g .found) ≡ (g .found, k) → Answered n body ssrcs l₀ k l
-  ends e =
+  ends : (lent : List ℕ) → l₀ ≡ replicate (length ssrcs) 255 ++ drop (length ssrcs) lent → pass k (g .left) ssrcs (g .found) ≡ (g .found, k) → Answered n body ssrcs lent k l
+  ends lent b e =
       let w : pass 0 (g .chunks) ssrcs (nones ssrcs) ≡ (g .found, k) = g .same ∙ e in
       let f : g .found ≡ foundIn (g .chunks) ssrcs = sym (ap (λ (x : List Found × ℕ). x .0) w) ∙ pass-finds (g .chunks) ssrcs in
       record {
         chunks = g .chunks;
         read = g .read;
         most = g .within;
-        laid = g .is ∙ rw f (sym (store-front (map coded (foundIn (g .chunks) ssrcs)) l₀ ∙ rw (found-length (g .chunks) ssrcs)));
+        laid =
+            g .is ∙ ap (λ (r : List ℕ). map coded (g .found) ++ r) (blank-rest ssrcs lent l₀ b) ∙ ap (λ (fs : List Found). map coded fs ++ drop (length ssrcs) lent) f
+            ∙ sym (store-front (map coded (foundIn (g .chunks) ssrcs)) lent ∙ rw (found-length (g .chunks) ssrcs));
       }
 
-  pub pass-answered : open ≡ 0 → Answered n body ssrcs l₀ k l
-  pass-answered e =
-      ends (pass-done k (g .left) ssrcs (g .found) (none-open k (g .found) (drop (length ssrcs) l₀) (omega (arith, g .within, g .low)) (g .below) (opened ∙ e)))
+  pub pass-answered : (lent : List ℕ) → l₀ ≡ replicate (length ssrcs) 255 ++ drop (length ssrcs) lent → unanswered ≡ 0 → Answered n body ssrcs lent k l
+  pass-answered lent b e =
+      ends lent b (pass-done k (g .left) ssrcs (g .found) (none-unanswered k (g .found) (drop (length ssrcs) l₀) (omega (arith, g .within, g .low)) (g .below) (opened ∙ e)))
 
-  pub pass-ended : n ≤ k → Answered n body ssrcs l₀ k l
+  pub pass-ended : (lent : List ℕ) → l₀ ≡ replicate (length ssrcs) 255 ++ drop (length ssrcs) lent → n ≤ k → Answered n body ssrcs lent k l
   unfolding readChunks pass
-  pass-ended h =
+  pass-ended lent b h =
       let z : n - k ≡ 0 = omega arith in
-      ends (go (drop place body) (g .left) (rw z at (g .rest)))
+      ends lent b (go (drop place body) (g .left) (rw z at (g .rest)))
     where
       go : (s : List ℕ) (cs : List Chunk) → readChunks 0 (length body) s ≡ ok cs → pass k cs ssrcs (g .found) ≡ (g .found, k)
       go [] cs e = rw (sym (ok-injective e))
@@ -310,17 +324,17 @@ module _ (n : ℕ) (body ssrcs l₀ : List ℕ) (open place k : ℕ) (l : List �
       pub pass-fits : length body < 2 ^ 64 → place + c .length < 2 ^ 64
       pass-fits b = omega (arith, size-here, here .inside)
 
-      pub pass-again : (open ≡ 0 → ⊥) → (o : ℕ) (l₁ : List ℕ) → l₁ ≡ pick (ltb 0 (c .cname)) (marked k (c .ssrc) ssrcs l) l → o ≡ openIn (length ssrcs) l₁ → length l₁ ≡ length l
+      pub pass-again : (unanswered ≡ 0 → ⊥) → (o : ℕ) (l₁ : List ℕ) → l₁ ≡ pick (ltb 0 (c .cname)) (marked k (c .ssrc) ssrcs l) l → o ≡ unansweredIn (length ssrcs) l₁ → length l₁ ≡ length l
           → Passing n body ssrcs l₀ o (place + c .length) (k + 1) l₁
       pass-again y o l₁ e q s =
-          let m : some missing (g .found) ≡ true = some-open k (g .found) (drop (length ssrcs) l₀) (omega (arith, g .low)) (g .below) (λ z. y (sym opened ∙ z)) in
-                    record {
+          let m : some missing (g .found) ≡ true = some-unanswered k (g .found) (drop (length ssrcs) l₀) (omega (arith, g .low)) (g .below) (λ z. y (sym opened ∙ z)) in
+          record {
             chunks = g .chunks;
             read = g .read;
             left = here .others;
             rest = rw size-here (here .rest);
             found = visit k (here .chunk) ssrcs (g .found);
-            below = rw add-one (visit-below k (here .chunk) ssrcs (g .found) (g .below));
+            below = subst (λ (m : ℕ). Below m (visit k (here .chunk) ssrcs (g .found))) (sym (add-one k)) (visit-below k (here .chunk) ssrcs (g .found) (g .below));
             count = visit-length k (here .chunk) ssrcs (g .found) (g .count);
             is = laid (chunkHasCname (here .chunk)) refl;
             long = s ∙ g .long;
@@ -329,7 +343,9 @@ module _ (n : ℕ) (body ssrcs l₀ : List ℕ) (open place k : ℕ) (l : List �
             inside = rw size-here (here .inside);
             fits = omega (arith, g .fits);
             counted = q;
-            same = g .same ∙ rw (here .are, add-one) (pass-more k (here .chunk) (here .others) ssrcs (g .found) m);
+            same =
+                g .same ∙ ap (λ (cs : List Chunk). pass k cs ssrcs (g .found)) (here .are) ∙ pass-more k (here .chunk) (here .others) ssrcs (g .found) m
+                ∙ ap (λ (m : ℕ). pass m (here .others) ssrcs (visit k (here .chunk) ssrcs (g .found))) (sym (add-one k));
           }
         where
           named : ltb 0 (c .cname) ≡ chunkHasCname (here .chunk)
@@ -395,12 +411,12 @@ module _ (s : List ℕ) (o : Sdes) (e : o ≡ valueOr noSdes sdesView (readAs SD
   pub call-within : o .body ≤ length s
   call-within = opens .within
 
+  pub call-body : o .body ≡ length (take (o .body) s)
+  call-body = sym (length-take-le (o .body) s (opens .within))
+
   pub call-count : o .«n_chunks» < 32
-  call-count = let w = opens in rw (w .count) (low (getD s 0 0))
-    where
-      low : (b : ℕ) → lowIn s < 32
-      unfolding lowIn
-      low b = omega arith
+  unfolding lowIn
+  call-count = omega (arith, opens .count)
 
   pub call-chunks : (cs : List Chunk) × (readChunks (o .«n_chunks») (length (take (o .body) s)) (drop 4 (take (o .body) s)) ≡ ok cs)
   call-chunks = (chunksOf (opens .packet .content), opens .read)
@@ -415,4 +431,4 @@ module _ (s : List ℕ) (o : Sdes) (e : o ≡ valueOr noSdes sdesView (readAs SD
       let c : a .chunks ≡ chunksOf (w .packet .content) = ok-injective (sym (a .read) ∙ w .read) in
       (v, rw (← w .count) (a .most), rw (lookup-packet (length l) s ssrcs h, w .accepted, ← c) (ap (λ (x : List ℕ). (ok v, x)) (a .laid)))
 
-pub ruleset lookups = (needs, blank-start, blank-room, blank-again, blank-done, mark-start, mark-long, mark-done, mark-room, mark-other, mark-stands, mark-some, mark-new, pass-start, pass-long, pass-inside, pass-answered, pass-ended, pass-low, pass-fits, pass-again, call-short, call-refused, call-within, call-count, call-chunks, call-least, call-done)
+pub ruleset lookups = (needs, blank-start, blank-room, blank-again, blank-done, mark-start, mark-long, mark-done, mark-room, mark-other, mark-stands, mark-some, mark-new, visit-passes, visit-answers, pass-start, pass-long, pass-inside, pass-answered, pass-ended, pass-low, pass-fits, pass-again, call-short, call-refused, call-within, call-body, call-count, call-chunks, call-least, call-done)

@@ -25,10 +25,10 @@ marked k ssrc (s ∷ ssrcs) [] = []
 marked k ssrc (s ∷ ssrcs) (a ∷ l) = pick (eqb ssrc s && eqb a 255) k a ∷ marked k ssrc ssrcs l
 
 -- how many of the first n have no answer yet
-unfoldable pub openIn : ℕ → List ℕ → ℕ
-openIn zero l = 0
-openIn (suc n) [] = 0
-openIn (suc n) (a ∷ l) = pick (eqb a 255) 1 0 + openIn n l
+unfoldable pub unansweredIn : ℕ → List ℕ → ℕ
+unansweredIn zero l = 0
+unansweredIn (suc n) [] = 0
+unansweredIn (suc n) (a ∷ l) = pick (eqb a 255) 1 0 + unansweredIn n l
 
 -- the answers for the n chunks of a body, and the visits
 pub record Answered (n : ℕ) (body ssrcs l : List ℕ) (visits : ℕ) (l₁ : List ℕ) : Type 0 where
