@@ -11,8 +11,7 @@ use Rattle.report.specs.Report.{reportBlocks}
 use Rattle.rtcp.specs.Report.{blocksOut}
 use Rattle.rtcp.specs.declared.write_result.RtcpWritten.{RtcpWritten}
 use Rattle.rtcp.proofs.Injective.{Nonzero}
-use Rattle.rtcp.proofs.Nonzero.{read-nonzero}
-use Rattle.rtcp.proofs.Lists.{map-nonzero}
+use Rattle.rtcp.proofs.Nonzero.{map-nonzero, read-nonzero}
 
 -- ---- the three lists are the blocks' own
 

@@ -1,3 +1,5 @@
-pub mod Lookups
+pub mod Marks
+pub mod Passes
+pub mod Calls
 pub mod Returned
 pub mod Injective

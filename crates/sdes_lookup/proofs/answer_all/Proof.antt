@@ -1,5 +1,5 @@
 use Rattle.rfc3550.proofs.Prelude.{_-_}
-use Rattle.sdes_lookup.proofs.Lookups.{lookups, Passing}
+use Rattle.sdes_lookup.proofs.Passes.{passes, Passing}
 use Rattle.sdes_lookup.proofs.answer_all.Tie as tie
 
 abbrev Inv-loop : tie.InvT-loop
@@ -10,7 +10,6 @@ abbrev μ-loop : tie.MeasureT-loop
 
 pub answer-all-spec : {M : Type 1} → Rattle.sdes_lookup.proofs.answer_all.Statement.statement M
 answer-all-spec {M} =
-    let answers = tie.spec {M = M} Inv-loop μ-loop (λ c κs. search lookups) (λ c. search lookups) (λ c. search lookups) (λ c. search lookups)
-    (λ c. search lookups) (λ c. search lookups) (λ c. search lookups) (λ c κs. search lookups) (λ c. search lookups) (λ c κs. search lookups)
-    (λ c. search lookups) (λ c. search lookups) (λ c. search lookups) (λ c. search lookups) (λ c. search lookups) (λ c. search lookups) in tie.close
-    answers
+    let answers = tie.spec {M = M} Inv-loop μ-loop (λ c κs. search passes) (λ c. search passes) (λ c. search passes) (λ c. search passes)
+    (λ c. search passes) (λ c. search passes) (λ c. search passes) (λ c κs. search passes) (λ c. search passes) (λ c κs. search passes)
+    (λ c. search passes) (λ c. search passes) (λ c. search passes) (λ c. search passes) (λ c. search passes) (λ c. search passes) in tie.close answers

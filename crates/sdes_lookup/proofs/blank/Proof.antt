@@ -1,5 +1,5 @@
 use Rattle.rfc3550.proofs.Prelude.{_-_}
-use Rattle.sdes_lookup.proofs.Lookups.{lookups, Blanking}
+use Rattle.sdes_lookup.proofs.Marks.{marks, Blanking}
 use Rattle.sdes_lookup.proofs.blank.Tie as tie
 
 abbrev Inv-loop : tie.InvT-loop
@@ -10,5 +10,5 @@ abbrev μ-loop : tie.MeasureT-loop
 
 pub blank-spec : {M : Type 1} → Rattle.sdes_lookup.proofs.blank.Statement.statement M
 blank-spec {M} =
-    let answers = tie.spec {M = M} Inv-loop μ-loop (λ c. search lookups) (λ c. search lookups) (λ c. search lookups) (λ c. search lookups)
-    (λ c. search lookups) (λ c. search lookups) (λ c. search lookups) in tie.close answers
+    let answers = tie.spec {M = M} Inv-loop μ-loop (λ c. search marks) (λ c. search marks) (λ c. search marks) (λ c. search marks) (λ c. search marks)
+    (λ c. search marks) (λ c. search marks) in tie.close answers

@@ -1,4 +1,4 @@
-use Rattle.sdes_lookup.proofs.Lookups.{lookups, call-short, call-refused, call-count, call-least, call-chunks, call-done}
+use Rattle.sdes_lookup.proofs.Calls.{calls, call-short, call-refused, call-count, call-least, call-chunks, call-done}
 use Rattle.sdes_lookup.proofs.lookup.Tie as tie
 
 returns : tie.Need-returns
@@ -24,5 +24,5 @@ returns-3 c =
 
 pub lookup-spec : {M : Type 1} → Rattle.sdes_lookup.proofs.lookup.Statement.statement M
 lookup-spec {M} =
-    let answers = tie.spec {M = M} returns (λ c κs. search lookups) (λ c. search lookups) (λ c. search lookups) (λ c. search lookups)
-    (λ c κs. search lookups) returns-2 (λ c. search lookups) answer-all-requires (λ c. search lookups) returns-3 in tie.close answers
+    let answers = tie.spec {M = M} returns (λ c κs. search calls) (λ c. search calls) (λ c. search calls) (λ c. search calls) (λ c κs. search calls)
+    returns-2 (λ c. search calls) answer-all-requires (λ c. search calls) returns-3 in tie.close answers

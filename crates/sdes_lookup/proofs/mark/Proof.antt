@@ -1,5 +1,5 @@
 use Rattle.rfc3550.proofs.Prelude.{_-_, length, ⊎-elim}
-use Rattle.sdes_lookup.proofs.Lookups.{lookups, Marking, mark-new, mark-stands, mark-other, mark-done}
+use Rattle.sdes_lookup.proofs.Marks.{marks, Marking, mark-new, mark-stands, mark-other, mark-done}
 use Rattle.sdes_lookup.proofs.mark.Tie as tie
 
 abbrev Inv-loop : tie.InvT-loop
@@ -21,6 +21,5 @@ returns c = mark-done _ _ _ _ _ _ _ (c .before .loop .inv) (c .loop-test .left)
 
 pub mark-spec : {M : Type 1} → Rattle.sdes_lookup.proofs.mark.Statement.statement M
 mark-spec {M} =
-    let answers = tie.spec {M = M} Inv-loop μ-loop (λ c. search lookups) (λ c. search lookups) (λ c. search lookups) (λ c. search lookups)
-    (λ c. search lookups) (λ c. search lookups) (λ c. search lookups) (λ c. search lookups) loop-again (λ c. search lookups) returns in tie.close
-    answers
+    let answers = tie.spec {M = M} Inv-loop μ-loop (λ c. search marks) (λ c. search marks) (λ c. search marks) (λ c. search marks) (λ c. search marks)
+    (λ c. search marks) (λ c. search marks) (λ c. search marks) loop-again (λ c. search marks) returns in tie.close answers

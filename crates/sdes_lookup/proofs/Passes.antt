@@ -1,139 +1,19 @@
--- The turns of marking and of the pass over the chunks, and the call.
-use Rattle.rfc3550.proofs.Prelude.{ℕ, zero, suc, _+_, _-_, _^_, _<_, _≤_, _≡_, refl, sym, ap, _∙_, subst, Bool, true, false, _&&_, _||_, List, [], _∷_, _++_, append-assoc, map, add-one, arith, needs, eq-eqb, ne-eqb, lt-ltb, eqb, ltb, length, getD, set, take, drop, replicate, length-append, length-drop, length-replicate, length-set, length-map, length-take-le, replicate-append-replicate, drop-of-length-le, drop-cons, drop-drop, drop-at, set-at, take-append-drop}
-use lib.Seq.{take-suc, take-suc-set, drop-set-lt}
-use Rattle.rfc3550.specs.Answer.{Refusal, Answer, ok, refused, refuse, mapOk, pick, _>>=_}
-use Rattle.rfc3550.specs.Bytes.{store}
-use Rattle.rfc3550.specs.Packet.{Chunk, chunkBytes, chunkHasCname, Packet, chunksOf, sdes, some}
-use Rattle.rfc3550.specs.Read.{SDES, lowIn, readChunk, readChunks, readAs}
-use Rattle.rfc3550.specs.Lookup.{Found, none, at, names, foundIn, lookup, Visited, coded, answersAfter, lookupWith}
-use Rattle.rfc3550.proofs.Answers.{true≢false, bind-elim, ok-injective, refused≢ok, mapOk-inv}
+-- The turns of the pass over the chunks of a body.
+use Rattle.rfc3550.proofs.Prelude.{ℕ, suc, _+_, _-_, _^_, _<_, _≤_, _≡_, refl, sym, ap, _∙_, subst, Bool, true, false, _&&_, _||_, List, [], _∷_, _++_, map, add-one, arith, needs, ne-eqb, eqb, ltb, length, take, drop, replicate, length-drop, length-replicate, length-map, drop-drop, drop-at}
+use Rattle.rfc3550.specs.Answer.{ok, refused, pick}
+use Rattle.rfc3550.specs.Packet.{Chunk, chunkBytes, chunkHasCname, some}
+use Rattle.rfc3550.specs.Read.{readChunk, readChunks}
+use Rattle.rfc3550.specs.Lookup.{Found, none, at, foundIn, coded}
+use Rattle.rfc3550.proofs.Answers.{bind-elim, ok-injective, refused≢ok}
 use Rattle.rfc3550.proofs.Bytes.{store-front}
-use Rattle.rfc3550.proofs.Lookups.{reach, Below, missing, nones, visit, pass, pass-done, pass-more, visit-length, visit-below, nones-below, pass-finds, pass-most, lookup-short, lookup-packet, found-length}
-use Rattle.utils.specs.Error.{refusalIn, valueOr}
-use Rattle.utils.proofs.Values.{value-came, none-came}
-use Rattle.utils.proofs.Reading.{Got, got}
+use Rattle.rfc3550.proofs.Lookups.{reach, Below, missing, nones, visit, pass, pass-done, pass-more, visit-length, visit-below, nones-below, pass-finds, found-length}
+use Rattle.utils.specs.Error.{valueOr}
 use Rattle.sdes_chunk.specs.declared.chunk.SdesChunk.{SdesChunk}
 use Rattle.sdes_chunk.specs.Chunk.{chunkView, chunkFirst, noChunk}
 use Rattle.sdes_chunk.proofs.Answers.{rest-is}
 use Rattle.sdes_chunk.proofs.Chunks.{chunk-cname}
-use Rattle.sdes_chunk.proofs.Readings.{chunk-in, chunks-in}
-use Rattle.sdes.specs.declared.sdes.Sdes.{Sdes}
-use Rattle.sdes.specs.Sdes.{sdesView, noSdes}
-use Rattle.sdes.proofs.Packets.{sdes-body, content-chunks}
+use Rattle.sdes_chunk.proofs.Readings.{chunk-in}
 use Rattle.sdes_lookup.specs.Lookup.{marked, unansweredIn, Answered}
-
--- ---- no answer at all
-
-pub record Blanking (n : ℕ) (l₀ : List ℕ) (i : ℕ) (l : List ℕ) : Type 0 where
-  pub within : i ≤ n
-  pub long : length l ≡ length l₀
-  pub is : l ≡ replicate i 255 ++ drop i l₀
-
-pub blank-start : (n : ℕ) (l : List ℕ) → Blanking n l 0 l
-blank-start n l = record { within = omega arith; long = refl; is = refl }
-
-module _ (n : ℕ) (l₀ : List ℕ) (i : ℕ) (l : List ℕ) (g : Blanking n l₀ i l) where
-  pub blank-room : n ≤ length l₀ → i < n → i < length l
-  blank-room h m = omega (arith, g .long)
-
-  pub blank-again : n ≤ length l₀ → i < n → Blanking n l₀ (i + 1) (set l i 255)
-  blank-again h m =
-      let e : set l i 255 ≡ replicate i 255 ++ (255 ∷ drop (suc i) l₀) =
-      ap (λ (x : List ℕ). set x i 255) (g .is ∙ ap (λ (x : List ℕ). replicate i 255 ++ x) (drop-cons l₀ i 0 (omega arith)))
-      ∙ set-at (replicate i 255) (getD l₀ i 0) (drop (suc i) l₀) 255 i (length-replicate i 255) in
-      record {
-        within = omega arith;
-        long = simp length-set (g .long);
-        is = e ∙ sym (append-assoc (replicate i 255) (255 ∷ []) (drop (suc i) l₀)) ∙ rw (replicate-append-replicate {A = ℕ} i 1 255, add-one);
-      }
-
-  pub blank-done : n ≤ i → l ≡ replicate n 255 ++ drop n l₀
-  blank-done h = let e : i ≡ n = omega (arith, g .within) in rw e at (g .is)
-
--- ---- how many have no answer yet
-
-unanswered-set : (n i k : ℕ) (l : List ℕ) → i < n → i < length l → getD l i 0 ≡ 255 → (k ≡ 255 → ⊥) → unansweredIn n l ≡ suc (unansweredIn n (set l i k))
-unfolding unansweredIn
-unanswered-set zero i k l h m e z = absurd (omega arith)
-unanswered-set (suc n) i k [] h m e z = absurd (omega arith)
-unanswered-set (suc n) zero k (a ∷ l) h m e z = rw (eq-eqb a 255 e, ne-eqb k 255 z) (omega arith)
-unanswered-set (suc n) (suc i) k (a ∷ l) h m e z = omega (arith, unanswered-set n i k l (omega arith) (omega arith) e z)
-
--- ---- marking
-
-pub record Marking (k ssrc : ℕ) (ssrcs l₀ : List ℕ) (i left : ℕ) (l : List ℕ) : Type 0 where
-  pub within : i ≤ length ssrcs
-  pub fits : length ssrcs ≤ length l
-  pub long : length l ≡ length l₀
-  pub low : k < 255
-  pub same : marked k ssrc ssrcs l₀ ≡ take i l ++ marked k ssrc (drop i ssrcs) (drop i l)
-  pub counted : left ≡ unansweredIn (length ssrcs) l
-
-pub mark-start : (k ssrc left : ℕ) (ssrcs l : List ℕ) → length ssrcs ≤ length l → k < 255 → left ≡ unansweredIn (length ssrcs) l → Marking k ssrc ssrcs l 0 left l
-mark-start k ssrc left ssrcs l h m e = record { within = omega arith; fits = h; long = refl; low = m; same = refl; counted = e }
-
-module _ (k ssrc : ℕ) (ssrcs l₀ : List ℕ) (i left : ℕ) (l : List ℕ) (g : Marking k ssrc ssrcs l₀ i left l) where
-  pub mark-long : length l ≡ length l₀
-  mark-long = g .long
-
-  pub mark-done : length ssrcs ≤ i → (l ≡ marked k ssrc ssrcs l₀) × (left ≡ unansweredIn (length ssrcs) l)
-  unfolding marked
-  mark-done h = (sym (g .same ∙ rw (drop-of-length-le ssrcs {i = i} h) (take-append-drop i l)), g .counted)
-
-  module _ (h : i < length ssrcs) where
-    pub mark-room : i < length l
-    mark-room = omega (arith, g .fits)
-
-    turn : (x : ℕ) (l₁ : List ℕ) → x ≡ pick (eqb ssrc (getD ssrcs i 0) && eqb (getD l i 0) 255) k (getD l i 0) → take (suc i) l₁ ≡ take i l ++ (x ∷ []) → drop (suc i) l₁ ≡ drop (suc i) l
-        → marked k ssrc ssrcs l₀ ≡ take (suc i) l₁ ++ marked k ssrc (drop (suc i) ssrcs) (drop (suc i) l₁)
-    unfolding marked
-    turn x l₁ q t d =
-        g .same
-        ∙ rw (drop-cons ssrcs i 0 h, drop-cons l i 0 mark-room, ← q, t, d) (sym (append-assoc (take i l) (x ∷ []) (marked k ssrc (drop (suc i) ssrcs) (drop (suc i) l))))
-
-    module _ (left₁ : ℕ) (l₁ : List ℕ) where
-      -- the answer stays as it is
-      stays : getD l i 0 ≡ pick (eqb ssrc (getD ssrcs i 0) && eqb (getD l i 0) 255) k (getD l i 0) → l₁ ≡ l → left₁ ≡ left → Marking k ssrc ssrcs l₀ (i + 1) left₁ l₁
-      stays q e f = rw (e, f) (record {
-        within = omega arith;
-        fits = g .fits;
-        long = g .long;
-        low = g .low;
-        same = rw add-one (turn (getD l i 0) l q (take-suc l i 0 mark-room) refl);
-        counted = g .counted;
-      })
-
-      pub mark-other : (getD ssrcs i 0 ≡ ssrc → ⊥) → l₁ ≡ l → left₁ ≡ left → Marking k ssrc ssrcs l₀ (i + 1) left₁ l₁
-      mark-other z = stays (rw (ne-eqb ssrc (getD ssrcs i 0) (λ e. z (sym e))))
-
-      pub mark-stands : getD ssrcs i 0 ≡ ssrc → (getD l i 0 ≡ 255 → ⊥) → l₁ ≡ l → left₁ ≡ left → Marking k ssrc ssrcs l₀ (i + 1) left₁ l₁
-      mark-stands e z = stays (rw (eq-eqb ssrc (getD ssrcs i 0) (sym e), ne-eqb (getD l i 0) 255 z))
-
-    module _ (z : getD l i 0 ≡ 255) where
-      fewer : unansweredIn (length ssrcs) l ≡ suc (unansweredIn (length ssrcs) (set l i k))
-      fewer = unanswered-set (length ssrcs) i k l h mark-room z (λ e. omega (arith, g .low))
-
-      pub mark-some : 1 ≤ left
-      mark-some = omega (arith, fewer, g .counted)
-
-      pub mark-new : (left₁ : ℕ) (l₁ : List ℕ) → getD ssrcs i 0 ≡ ssrc → l₁ ≡ set l i k → left₁ ≡ left - 1 → Marking k ssrc ssrcs l₀ (i + 1) left₁ l₁
-      mark-new left₁ l₁ e q f = rw (q, f) (record {
-        within = omega arith;
-        fits = simp length-set (g .fits);
-        long = simp length-set (g .long);
-        low = g .low;
-        same = rw add-one (turn k (set l i k) (rw (eq-eqb ssrc (getD ssrcs i 0) (sym e), eq-eqb (getD l i 0) 255 z)) (take-suc-set l i k mark-room) (drop-set-lt (suc i) l i k (omega arith)));
-        counted = omega (arith, fewer, g .counted);
-      })
-
-module _ (k : ℕ) (c : SdesChunk) (ssrcs l : List ℕ) where
-  pub visit-passes : c .cname ≡ 0 → l ≡ pick (ltb 0 (c .cname)) (marked k (c .ssrc) ssrcs l) l
-  visit-passes e = rw e
-
-  pub visit-answers : (l₁ : List ℕ) → (c .cname ≡ 0 → ⊥) → l₁ ≡ marked k (c .ssrc) ssrcs l → l₁ ≡ pick (ltb 0 (c .cname)) (marked k (c .ssrc) ssrcs l) l
-  visit-answers l₁ z e = rw (lt-ltb 0 (c .cname) (omega arith)) e
-
--- ---- the answers of a pass, as they stand in the buffer
 
 coded-nones : (ssrcs : List ℕ) → map coded (nones ssrcs) ≡ replicate (length ssrcs) 255
 coded-nones [] = refl
@@ -360,75 +240,4 @@ module _ (n : ℕ) (body ssrcs l₀ : List ℕ) (unanswered place k : ℕ) (l : 
               e ∙ ap (λ (b : Bool). pick b (marked k (c .ssrc) ssrcs l) l) (named ∙ x)
               ∙ g .is ∙ ap (λ (fs : List Found). map coded fs ++ drop (length ssrcs) l₀) (sym (visit-none k (here .chunk) ssrcs (g .found) x))
 
--- ---- the call
-
-module _ (s ssrcs l : List ℕ) where
-  abbrev Called : Answer ℕ → List ℕ → Type 0
-  Called a l₁ = (visits : ℕ) × Visited s ssrcs visits × ((a, l₁) ≡ lookupWith visits s ssrcs l)
-
-  pub call-short : length l < length ssrcs → Called (refuse 31 0 0) l
-  unfolding lookupWith mapOk
-  call-short h = (0, omega arith, rw (lookup-short (length l) s ssrcs h))
-
-  module _ (h : length ssrcs ≤ length l) (o : Sdes) (e : o ≡ valueOr noSdes sdesView (readAs SDES s)) where
-    pub call-refused : (k : Refusal) → o .body ≡ 0 → k ≡ refusalIn (readAs SDES (take (length s - 0) (drop 0 s))) → Called (refused k) l
-    unfolding lookupWith mapOk
-    call-refused k z q =
-        let w = none-came noSdes sdesView (λ o. o .body) refl (λ p. omega arith) (readAs SDES s) o e z in
-        let y : refusalIn (readAs SDES s) ≡ k = sym (q ∙ ap (λ (s : List ℕ). refusalIn (readAs SDES s)) (rest-is s 0)) in
-        (0, omega arith, rw (lookup-packet (length l) s ssrcs h, w, y))
-
--- what an accepted packet says of its body
-pub record Opened (s : List ℕ) (o : Sdes) : Type 0 where
-  pub packet : Packet
-  pub accepted : readAs SDES s ≡ ok packet
-  pub read : readChunks (o .«n_chunks») (length (take (o .body) s)) (drop 4 (take (o .body) s)) ≡ ok (chunksOf (packet .content))
-  pub count : o .«n_chunks» ≡ lowIn s
-  pub least : 4 ≤ o .body
-  pub within : o .body ≤ length s
-
-module _ (s : List ℕ) (o : Sdes) (e : o ≡ valueOr noSdes sdesView (readAs SDES s)) (z : o .body ≡ 0 → ⊥) where
-  pub opens : Opened s o
-  opens =
-      let v = value-came noSdes sdesView (λ o. o .body) refl (readAs SDES s) o e z in
-      go (v .0) (v .1) (v .2) (got SDES s (v .0) (v .1))
-    where
-      go : (p : Packet) → readAs SDES s ≡ ok p → sdesView p ≡ o → Got SDES s p → Opened s o
-      go p r m g =
-          let b : g .body ≡ o .body = sym (sdes-body s p g) ∙ ap (λ (o : Sdes). o .body) m in
-          let w = mapOk-inv sdes (readChunks (lowIn s) (length (take (g .body) s)) (drop 4 (take (g .body) s))) (sym (content-chunks s (g .body) (g .enough) (g .within)) ∙ g .content) in
-          let c : w .0 ≡ chunksOf (p .content) = ap chunksOf (w .2) in
-          let n : o .«n_chunks» ≡ lowIn s = sym (ap (λ (o : Sdes). o .«n_chunks») m) ∙ ap length (sym c) ∙ chunks-in (lowIn s) (length (take (g .body) s)) (drop 4 (take (g .body) s)) (w .1) .0 in
-          record {
-            packet = p;
-            accepted = r;
-            read = rw (n, ← b, ← c) (w .1);
-            count = n;
-            least = rw (← b) (g .enough);
-            within = rw (← b) (g .within);
-          }
-
-  pub call-within : o .body ≤ length s
-  call-within = opens .within
-
-  pub call-body : o .body ≡ length (take (o .body) s)
-  call-body = sym (length-take-le (o .body) s (opens .within))
-
-  pub call-count : o .«n_chunks» < 32
-  unfolding lowIn
-  call-count = omega (arith, opens .count)
-
-  pub call-chunks : (cs : List Chunk) × (readChunks (o .«n_chunks») (length (take (o .body) s)) (drop 4 (take (o .body) s)) ≡ ok cs)
-  call-chunks = (chunksOf (opens .packet .content), opens .read)
-
-  pub call-least : 4 ≤ length (take (o .body) s)
-  call-least = rw (length-take-le (o .body) s (opens .within)) (opens .least)
-
-  pub call-done : (ssrcs l : List ℕ) → length ssrcs ≤ length l → (v : ℕ) (l₁ : List ℕ) → Answered (o .«n_chunks») (take (o .body) s) ssrcs l v l₁ → Called s ssrcs l (ok v) l₁
-  unfolding lookupWith mapOk
-  call-done ssrcs l h v l₁ a =
-      let w = opens in
-      let c : a .chunks ≡ chunksOf (w .packet .content) = ok-injective (sym (a .read) ∙ w .read) in
-      (v, rw (← w .count) (a .most), rw (lookup-packet (length l) s ssrcs h, w .accepted, ← c) (ap (λ (x : List ℕ). (ok v, x)) (a .laid)))
-
-pub ruleset lookups = (needs, blank-start, blank-room, blank-again, blank-done, mark-start, mark-long, mark-done, mark-room, mark-other, mark-stands, mark-some, mark-new, visit-passes, visit-answers, pass-start, pass-long, pass-inside, pass-answered, pass-ended, pass-low, pass-fits, pass-again, call-short, call-refused, call-within, call-body, call-count, call-chunks, call-least, call-done)
+pub ruleset passes = (needs, pass-start, pass-long, pass-inside, pass-answered, pass-ended, pass-low, pass-fits, pass-again)
