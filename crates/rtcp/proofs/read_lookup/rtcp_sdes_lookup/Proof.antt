@@ -3,7 +3,9 @@ use Rattle.rtcp.proofs.Lookups.{lookup-out}
 use Rattle.rtcp.proofs.read_lookup.rtcp_sdes_lookup.Tie as tie
 
 returns : tie.Need-returns
-returns c = lookup-out _ _ _ _ _ _ (c .from-looked-up .ensures) (c .before .before .before .lookup .ensures)
+returns c =
+    let found = c .before .before .before .lookup in
+    lookup-out _ _ _ _ (found .result) _ (c .from-looked-up .ensures) (found .ensures)
 
 pub rtcp-sdes-lookup-spec : {M : Type 1} → Rattle.rtcp.proofs.read_lookup.rtcp_sdes_lookup.Statement.statement M
 rtcp-sdes-lookup-spec {M} =
