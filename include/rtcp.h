@@ -388,8 +388,8 @@ struct RtcpWritten rtcp_sdes_items(const uint8_t *s, size_t len, uint32_t *rows,
 
 /* The names of many sources in one pass: for each SSRC of a list, which chunk of the packet names it. answers[i] is RTCP_NO_CHUNK where no chunk has
    ssrcs[i] and a CNAME in it; else its bits RTCP_CHUNK_INDEX are the index, from 0, of the first chunk that has both. An SSRC that is listed twice is
-   answered twice. Answers past the list stay as they were. visits is the number of chunks that the pass looked at, at most the packet's chunks.
-   Refusals: 31 where there are more SSRCs than answers, before the packet is looked at; then those of rtcp_sdes_parse.
+   answered twice. Answers past the list stay as they were. visits is the number of chunks that the pass looked at: at most the packet's chunks, and no
+   more is promised of it. Refusals: 31 where there are more SSRCs than answers, before the packet is looked at; then those of rtcp_sdes_parse.
      uint8_t answers[30];
      struct RtcpLookup l = rtcp_sdes_lookup(packet, len, ssrcs, 30, answers, 30);
      for (size_t i = 0; l.number == 0 && i < 30; i++)

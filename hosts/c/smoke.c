@@ -135,6 +135,77 @@ static void item_lists(void) {
     CHECK(RtcpWritten, rtcp_sdes_items(NULL, 0, NULL, 0), 2, 4, 0, 0);
 }
 
+/* A lookup that is done: the index that each SSRC is answered, -1 for none. The answers are 31 before, which is no index, and one past the list
+   stays. The visits are at most the chunks. */
+static void finds(const char *name, const uint8_t *packet, size_t len, const uint32_t *ssrcs, size_t n, const int *indices) {
+    uint8_t answers[32];
+    memset(answers, 31, sizeof answers);
+    struct RtcpLookup l = rtcp_sdes_lookup(packet, len, ssrcs, n, answers, n + 1);
+    if (l.number != 0 || l.first != 0 || l.second != 0 || l.visits > (packet[0] & 31)) compare(__FILE__, name, "", "x", 1);
+    for (size_t i = 0; i < n; i++) {
+        int index = answers[i] == RTCP_NO_CHUNK ? -1 : answers[i] & RTCP_CHUNK_INDEX;
+        compare(__FILE__, name, &index, &indices[i], sizeof index);
+    }
+    if (answers[n] != 31) compare(__FILE__, "the answer past the list", "", "x", 1);
+}
+
+#define FINDS(packet, list, ...)                                                                              \
+    finds("the lookup of " #list " in " #packet, packet, sizeof packet, list, sizeof list / sizeof list[0],   \
+          (const int[]){__VA_ARGS__})
+
+static void lookups(void) {
+    static const uint8_t five[] = {
+        0xA5, 0xCA, 0x00, 0x0D,
+        0, 0, 0, 7, 1, 1, 'a', 0,                /* a CNAME */
+        0, 0, 0, 8, 7, 1, 'a', 0,                /* a NOTE */
+        0, 0, 0, 8, 1, 1, 'a', 0,                /* a CNAME of the same source */
+        0, 0, 0, 8, 1, 1, 'b', 0,                /* and another */
+        0, 0, 0, 0, 2, 1, 'a', 1, 1, 'b', 0, 0,  /* a NAME, then a CNAME, of SSRC 0 */
+        0, 0, 0, 9, 1, 1, 'a', 8};               /* padding that starts as a chunk of 9 */
+    static const uint32_t none_and_first[] = {9, 7}, first_of_two[] = {8}, twice[] = {8, 0, 8, 9, 7, 8, 9, 0};
+    FINDS(five, none_and_first, -1, 0);
+    FINDS(five, first_of_two, 2);
+    FINDS(five, twice, 2, 4, 2, -1, 0, 2, -1, 4);
+    FINDS(two, twice, -1, -1, -1, -1, -1, -1, -1, -1);
+    FINDS(cname, none_and_first, -1, -1);
+    finds("the lookup of no SSRC", five, sizeof five, NULL, 0, NULL);
+}
+
+/* 31 chunks: the last, then all of them from the last to the first. */
+static void lookups_of_31(void) {
+    uint8_t packet[4 + 31 * 8] = {0x9F, 0xCA, 0x00, 0x3E};
+    uint32_t last[] = {31}, all[31];
+    int indices[31];
+    for (int i = 0; i < 31; i++) {
+        const uint8_t chunk[] = {0, 0, 0, (uint8_t)(i + 1), 1, 1, 'a', 0};
+        memcpy(packet + 4 + 8 * i, chunk, sizeof chunk);
+        all[30 - i] = (uint32_t)i + 1;
+        indices[30 - i] = i;
+    }
+    FINDS(packet, last, 30);
+    finds("the lookup of all 31 chunks", packet, sizeof packet, all, 31, indices);
+}
+
+/* Nothing lent, 31 before the packet is looked at, then its refusals; no answer is written. */
+static void refused_lookups(void) {
+    static const uint8_t none[] = {0x80, 0xCA, 0x00, 0x00};
+    static const uint32_t ssrcs[] = {0x11223344, 1};
+    uint8_t answers[] = {7, 7};
+    CHECK(RtcpLookup, rtcp_sdes_lookup(none, sizeof none, NULL, 0, NULL, 0), 0, 0, 0, 0);
+    CHECK(RtcpLookup, rtcp_sdes_lookup(NULL, 0, NULL, 0, NULL, 0), 2, 4, 0, 0);
+    CHECK(RtcpLookup, rtcp_sdes_lookup(prefix, sizeof prefix, NULL, 0, NULL, 0), 5, 5, 0, 0);
+    CHECK(RtcpLookup, rtcp_sdes_lookup(NULL, 0, ssrcs, 1, NULL, 0), 31, 0, 0, 0);
+    CHECK(RtcpLookup, rtcp_sdes_lookup(NULL, 0, ssrcs, 2, answers, 1), 31, 0, 0, 0);
+    CHECK(RtcpLookup, rtcp_sdes_lookup(cname, sizeof cname, ssrcs, 2, answers, 1), 31, 0, 0, 0);
+    CHECK(RtcpLookup, rtcp_sdes_lookup(prefix, sizeof prefix, ssrcs, 2, answers, 1), 31, 0, 0, 0);
+    CHECK(RtcpLookup, rtcp_sdes_lookup(NULL, 0, ssrcs, 2, answers, 2), 2, 4, 0, 0);
+    CHECK(RtcpLookup, rtcp_sdes_lookup(rr, sizeof rr, ssrcs, 2, answers, 2), 6, 201, 202, 0);
+    CHECK(RtcpLookup, rtcp_sdes_lookup(padded, sizeof padded, ssrcs, 2, answers, 2), 4, 0, 0, 0);
+    CHECK(RtcpLookup, rtcp_sdes_lookup(prefix, sizeof prefix, ssrcs, 2, answers, 2), 5, 5, 0, 0);
+    CHECK(RtcpLookup, rtcp_sdes_lookup(cut, sizeof cut, ssrcs, 2, answers, 2), 2, 8, 4, 0);
+    compare(__FILE__, "the answers of a refused lookup", answers, "\7\7", 2);
+}
+
 static void others(void) {
     CHECK(RtcpBye, rtcp_bye_parse(bye, sizeof bye), 0, 0, 0, 1, 1, 9, 2, 11, 1, 12, 4);
     CHECK(RtcpSource, rtcp_bye_source(bye, sizeof bye, 0), 0, 0, 0, 0x11223344);
@@ -149,6 +220,9 @@ int main(void) {
     losses_of_24_bits();
     descriptions();
     item_lists();
+    lookups();
+    lookups_of_31();
+    refused_lookups();
     others();
     return finish(__FILE__);
 }
