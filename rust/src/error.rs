@@ -157,6 +157,8 @@ error! {
         25 NothingLeft,
         /// 30: the item of this type is not PRIV, and has no prefix.
         30 NotPriv(detail: u8),
+        /// 31: there are more SSRCs to look up than answers lent for them.
+        31 AnswersTooShort,
     }
 }
 
@@ -258,7 +260,7 @@ error! {
 }
 
 /// For each number from 1 on, what came in, and the names of its details.
-const SENTENCES: [(&str, &[&str]); 30] = [
+const SENTENCES: [(&str, &[&str]); 31] = [
     ("a packet whose first two bits are not 2", &["version"]),
     (
         "a packet, report, chunk, item or reason that says it is longer than the bytes",
@@ -331,6 +333,10 @@ const SENTENCES: [(&str, &[&str]); 30] = [
     ("a datagram to write without a CNAME", &[]),
     ("a packet after one that is padded", &[]),
     ("the prefix of an item that has none", &["type"]),
+    (
+        "a list of SSRCs that is longer than the buffer for its answers",
+        &[],
+    ),
 ];
 
 impl Refusal {
@@ -366,7 +372,8 @@ impl Refusal {
 mod tests {
     use super::*;
 
-    const PARSE: [u64; 11] = [1, 2, 3, 4, 5, 6, 7, 8, 9, 25, 30];
+    const PARSE: [u64; 12] = [1, 2, 3, 4, 5, 6, 7, 8, 9, 25, 30, 31];
+    const LAST: u64 = SENTENCES.len() as u64;
 
     fn details(number: u64) -> usize {
         SENTENCES[number as usize - 1].1.len()
@@ -392,7 +399,7 @@ mod tests {
 
     #[test]
     fn every_number_has_a_case_that_keeps_its_details() {
-        for number in 1..=30 {
+        for number in 1..=LAST {
             let refusal = small(number);
             if PARSE.contains(&number) {
                 let error = RtcpParseError::from(refusal);
@@ -439,7 +446,7 @@ mod tests {
             let Some(number) = cells.get(1).and_then(|cell| cell.parse().ok()) else {
                 continue;
             };
-            if number > 30 {
+            if number > LAST {
                 continue;
             }
             let refusal = small(number);
@@ -461,12 +468,12 @@ mod tests {
             assert_eq!(text(refusal), want + ")");
             seen.push(number);
         }
-        assert_eq!(seen, (1..=30).collect::<Vec<u64>>());
+        assert_eq!(seen, (1..=LAST).collect::<Vec<u64>>());
     }
 
     #[test]
     fn a_number_without_a_sentence_is_named() {
-        for number in [0, 31, u64::MAX] {
+        for number in [0, LAST + 1, u64::MAX] {
             let refusal = Refusal {
                 number,
                 first: 1,

@@ -3,6 +3,7 @@
 
 #![allow(dead_code)]
 
+use crate::sdes::LookupAnswer;
 use std::ffi::{c_char, CStr};
 
 /// Why a call is refused: a number and two details.
@@ -95,6 +96,15 @@ pub fn proved_from() -> &'static str {
     // SAFETY: it is a string of C, and nobody writes it.
     let text = unsafe { CStr::from_ptr(std::ptr::addr_of!(PROVED_FROM)) };
     text.to_str().unwrap_or_default()
+}
+
+/// Answers of a lookup as the bytes that the library writes.
+#[inline]
+pub fn answer_bytes(answers: &mut [LookupAnswer]) -> &mut [u8] {
+    let (bytes, len) = (answers.as_mut_ptr().cast(), answers.len());
+    // SAFETY: an answer is `repr(transparent)` over a byte, and may be any byte.
+    // The answers are lent for as long as the bytes are.
+    unsafe { std::slice::from_raw_parts_mut(bytes, len) }
 }
 
 /// A part of the lent bytes.

@@ -104,7 +104,8 @@ pub use report::{
     SenderReport, SenderReportBuilder,
 };
 pub use sdes::{
-    Chunks, Items, Sdes, SdesBuilder, SdesChunk, SdesChunkBuilder, SdesItem, SdesItemBuilder,
+    Chunks, Items, LookupAnswer, Sdes, SdesBuilder, SdesChunk, SdesChunkBuilder, SdesItem,
+    SdesItemBuilder,
 };
 pub use writer::{CompoundBuilder, CompoundWriter, PacketBuilder};
 

@@ -1,8 +1,9 @@
-use crate::ffi::{self, between, part};
+use crate::ffi::{self, answer_bytes, between, part};
 use crate::{
     header, padding_count, size, RtcpPacket, RtcpPacketParser, RtcpParseError, RtcpWriteError,
 };
 use std::borrow::Cow;
+use std::fmt;
 use std::iter::FusedIterator;
 use std::marker::PhantomData;
 use std::string::FromUtf8Error;
@@ -86,9 +87,81 @@ impl<'a> Sdes<'a> {
         }
     }
 
+    /// Looks up many sources in one pass: for each SSRC of the list, the first
+    /// chunk that has it and a CNAME, if there is one. `answers[i]` is about
+    /// `ssrcs[i]`; answers past the list stay as they are, on a refusal all do.
+    /// 31 where there are more SSRCs than answers.
+    ///
+    /// The number is that of the chunks looked at. It is at most
+    /// [`n_chunks`](Self::n_chunks), and no more is promised of it.
+    ///
+    /// ```
+    /// use bokyjave::{prelude::*, LookupAnswer, Sdes, SdesChunk, SdesItem};
+    ///
+    /// // A note about source 7, then its name, and a name of source 8.
+    /// let chunk = |ssrc, type_| {
+    ///     SdesChunk::builder(ssrc).add_item(SdesItem::builder(type_, "a@b"))
+    /// };
+    /// let mut buf = [0; 40];
+    /// Sdes::builder()
+    ///     .add_chunk(chunk(7, SdesItem::NOTE))
+    ///     .add_chunk(chunk(7, SdesItem::CNAME))
+    ///     .add_chunk(chunk(8, SdesItem::CNAME))
+    ///     .write_into(&mut buf)?;
+    ///
+    /// let sdes = Sdes::parse(&buf)?;
+    /// let mut answers = [LookupAnswer::NONE; 3];
+    /// sdes.lookup(&[8, 7, 9], &mut answers)?;
+    /// assert_eq!(answers.map(|answer| answer.chunk()), [Some(2), Some(1), None]);
+    /// # Ok::<(), Box<dyn std::error::Error>>(())
+    /// ```
+    #[inline]
+    pub fn lookup(
+        &self,
+        ssrcs: &[u32],
+        answers: &mut [LookupAnswer],
+    ) -> Result<usize, RtcpParseError> {
+        let lookup = ffi::rtcp_sdes_lookup(self.data, ssrcs, answer_bytes(answers)).done()?;
+        Ok(lookup.visits as usize)
+    }
+
     /// A builder for an SDES packet.
     pub fn builder() -> SdesBuilder<'a> {
         SdesBuilder::default()
+    }
+}
+
+/// What [`Sdes::lookup`] answers about an SSRC: a chunk, or none. It is one byte,
+/// so a list of answers is lent to the library as it stands.
+#[derive(Clone, Copy, PartialEq, Eq)]
+#[repr(transparent)]
+pub struct LookupAnswer(u8);
+
+impl LookupAnswer {
+    /// No chunk.
+    pub const NONE: Self = LookupAnswer(255);
+    /// The bits of an answer that are a chunk's index.
+    const INDEX: u8 = 0x1f;
+
+    /// The index of the chunk, from 0.
+    #[inline]
+    pub fn chunk(self) -> Option<u8> {
+        match self {
+            Self::NONE => None,
+            LookupAnswer(bits) => Some(bits & Self::INDEX),
+        }
+    }
+}
+
+impl Default for LookupAnswer {
+    fn default() -> Self {
+        Self::NONE
+    }
+}
+
+impl fmt::Debug for LookupAnswer {
+    fn fmt(&self, f: &mut fmt::Formatter<'_>) -> fmt::Result {
+        f.debug_tuple("LookupAnswer").field(&self.chunk()).finish()
     }
 }
 
@@ -553,6 +626,33 @@ mod tests {
             }
             assert_eq!(rows.next(), None);
         }
+    }
+
+    #[test]
+    fn a_lookup_finds_what_the_iterator_finds() {
+        for packet in PACKETS {
+            let sdes = Sdes::parse(packet).expect("an SDES packet");
+            let ssrcs = [2, 0x11223344, 1, 0, 0x11223344, 4, 1];
+            let mut answers = [LookupAnswer::NONE; 7];
+            let visits = sdes.lookup(&ssrcs, &mut answers).expect("a lookup");
+            assert!(visits <= sdes.chunks().len());
+            for (ssrc, answer) in ssrcs.into_iter().zip(answers) {
+                let is_its = |chunk: SdesChunk| chunk.ssrc() == ssrc && chunk.cname().is_some();
+                let found = sdes.chunks().position(is_its);
+                assert_eq!(answer.chunk().map(usize::from), found);
+            }
+        }
+    }
+
+    #[test]
+    fn answers_are_told_apart_and_shown() {
+        assert_eq!(LookupAnswer::default(), LookupAnswer::NONE);
+        assert_eq!(LookupAnswer::NONE.chunk(), None);
+        for index in 0..=30 {
+            assert_eq!(LookupAnswer(index).chunk(), Some(index));
+        }
+        assert_eq!(format!("{:?}", LookupAnswer::NONE), "LookupAnswer(None)");
+        assert_eq!(format!("{:?}", LookupAnswer(7)), "LookupAnswer(Some(7))");
     }
 
     #[test]

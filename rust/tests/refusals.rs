@@ -6,12 +6,16 @@
 
 use bokyjave::prelude::*;
 use bokyjave::{
-    App, Bye, Compound, CompoundWriter, ReceiverReport, ReportBlock, Sdes, SdesChunk, SdesItem,
+    App, Bye, Compound, CompoundWriter, LookupAnswer, ReceiverReport, ReportBlock, Sdes, SdesChunk,
+    SdesItem,
 };
 use std::collections::BTreeSet;
 use std::io::Write;
 use std::path::{Path, PathBuf};
 use std::process::{Command, Stdio};
+
+/// The last number on the page.
+const LAST: u64 = 31;
 
 struct Example {
     number: u64,
@@ -54,7 +58,7 @@ fn of_kind(kind: &str) -> Vec<Example> {
 #[test]
 fn each_number_has_an_example_that_gets_it() {
     let examples = examples();
-    for number in 1..=30 {
+    for number in 1..=LAST {
         let count = examples.iter().filter(|it| it.number == number).count();
         assert!(count > 0, "no example of {number}");
     }
@@ -65,7 +69,7 @@ fn each_number_has_an_example_that_gets_it() {
         ..
     } in &examples
     {
-        assert!((1..=30).contains(number), "no refusal {number}");
+        assert!((1..=LAST).contains(number), "no refusal {number}");
         assert!(["hex", "rust", "c"].contains(&kind.as_str()), "{kind}");
         let named = [" ", ")", ":"].map(|end| format!("refusal {number}{end}"));
         assert!(named.iter().any(|it| answer.contains(it)), "{answer}");
@@ -91,7 +95,7 @@ fn each_number_has_a_section() {
         assert!(section.contains(&format!("\n```refusal {number} ")));
         seen.push(number);
     }
-    assert_eq!(seen, (1..=30).collect::<Vec<u64>>());
+    assert_eq!(seen, (1..=LAST).collect::<Vec<u64>>());
 }
 
 /// The line that the program prints of a refused datagram.
@@ -190,6 +194,7 @@ const CALLS: &[Call] = &calls! {
             .write_into(&mut [0; 64])
     }
     { SdesItem::parse(&[1, 1, b'a'])?.priv_prefix() }
+    { Sdes::parse(&[0x80, 202, 0, 0])?.lookup(&[7, 8], &mut [LookupAnswer::NONE]) }
 };
 
 fn without_blanks(text: &str) -> String {

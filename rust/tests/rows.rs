@@ -3,7 +3,7 @@
 
 use bokyjave::prelude::*;
 use bokyjave::{
-    App, Bye, Compound, CompoundWriter, Packet, PacketBuilder, ReceiverReport,
+    App, Bye, Compound, CompoundWriter, LookupAnswer, Packet, PacketBuilder, ReceiverReport,
     ReceiverReportBuilder, ReportBlock, ReportBlockBuilder, RtcpParseError, RtcpWriteError, Sdes,
     SdesChunk, SdesItem, SenderReport, SenderReportBuilder, Unknown,
 };
@@ -315,6 +315,98 @@ fn refusals_of_an_index_and_a_prefix() {
     let item = SdesItem::parse(&[2, 1, 0x61]).expect("an item");
     assert_eq!(unread(item.priv_prefix()), (30, 2, 0));
     assert_eq!(unread(item.priv_prefix_len()), (30, 2, 0));
+}
+
+/// An SDES packet with a chunk of one item for each pair of an SSRC and a type.
+fn described(chunks: &[(u32, u8)], padding: u8) -> Vec<u8> {
+    let sdes = Sdes::builder().padding(padding);
+    let sdes = chunks.iter().fold(sdes, |sdes, (ssrc, type_)| {
+        sdes.add_chunk(SdesChunk::builder(*ssrc).add_item(SdesItem::builder(*type_, "a")))
+    });
+    written(&sdes)
+}
+
+/// An answer that is not none: the sixth chunk.
+fn sixth() -> LookupAnswer {
+    let six: Vec<(u32, u8)> = (1..=6).map(|ssrc| (ssrc, SdesItem::CNAME)).collect();
+    let packet = described(&six, 0);
+    let mut answer = [LookupAnswer::NONE];
+    let sdes = Sdes::parse(&packet).expect("six chunks");
+    sdes.lookup(&[6], &mut answer).expect("a lookup");
+    assert_eq!(answer[0].chunk(), Some(5));
+    answer[0]
+}
+
+/// The chunks that a lookup answers. Two answers past the list stay, and the
+/// visits are at most the chunks.
+fn looked_up(packet: &[u8], ssrcs: &[u32]) -> Vec<Option<u8>> {
+    let sdes = Sdes::parse(packet).expect("an SDES packet");
+    let mut answers = vec![sixth(); ssrcs.len() + 2];
+    let visits = sdes.lookup(ssrcs, &mut answers).expect("a lookup");
+    assert!(visits <= usize::from(sdes.n_chunks()));
+    assert_eq!(answers.split_off(ssrcs.len()), [sixth(); 2]);
+    answers.into_iter().map(LookupAnswer::chunk).collect()
+}
+
+#[test]
+fn lookups() {
+    // A name, a note, then the name of 8 in two chunks, and an SSRC of 0.
+    let (name, note) = (SdesItem::CNAME, SdesItem::NOTE);
+    let chunks = [(7, name), (8, note), (8, name), (8, name), (0, name)];
+    for padding in [0, 4, 252] {
+        let packet = described(&chunks, padding);
+        assert!(looked_up(&packet, &[]).is_empty());
+        assert_eq!(looked_up(&packet, &[7, 9]), [Some(0), None]);
+        assert_eq!(looked_up(&packet, &[8]), [Some(2)]);
+        assert_eq!(looked_up(&packet, &[0, 8, 7]), [Some(4), Some(2), Some(0)]);
+        let twice = looked_up(&packet, &[8, 9, 8, 7, 9, 7]);
+        assert_eq!(twice, [Some(2), None, Some(2), Some(0), None, Some(0)]);
+        assert_eq!(looked_up(&packet, &[9; 100]), [None; 100]);
+    }
+    assert_eq!(looked_up(&described(&[], 0), &[0, 7]), [None; 2]);
+    // Padding is no chunk, and the last byte of it no SSRC.
+    assert_eq!(looked_up(&described(&[], 12), &[0, 12]), [None; 2]);
+    assert_eq!(looked_up(&described(&[(7, note)], 0), &[7]), [None]);
+    // A chunk without items, then one with another item before its CNAME.
+    let mixed = bytes("82 CA 00 05 00 00 00 07 00 00 00 00 00 00 00 07 02 01 61 01 01 62 00 00");
+    assert_eq!(looked_up(&mixed, &[7]), [Some(1)]);
+    let empty = bytes("81 CA 00 02 00 00 00 07 01 00 00 00");
+    assert_eq!(looked_up(&empty, &[7]), [Some(0)]);
+}
+
+#[test]
+fn lookups_in_31_chunks() {
+    let chunks: Vec<(u32, u8)> = (1..=31).map(|ssrc| (ssrc, SdesItem::CNAME)).collect();
+    let packet = described(&chunks, 0);
+    let (rising, falling): (Vec<u32>, Vec<u32>) = ((0..=32).collect(), (1..=31).rev().collect());
+    let mut answers = looked_up(&packet, &rising);
+    assert_eq!((answers.pop(), answers[0]), (Some(None), None));
+    assert!(answers.into_iter().skip(1).eq((0..31).map(Some)));
+    let answers = looked_up(&packet, &falling);
+    assert!(answers.into_iter().eq((0..31).rev().map(Some)));
+    let same = vec![(0x11223344, SdesItem::CNAME); 31];
+    assert_eq!(looked_up(&described(&same, 0), &[0x11223344]), [Some(0)]);
+}
+
+/// 31 where the list is longer by one or more; no answer changes.
+#[test]
+fn refusals_of_a_lookup() {
+    let data = bytes(CNAME);
+    let sdes = Sdes::parse(&data).expect("a CNAME");
+    assert_eq!(unread(sdes.lookup(&[7], &mut [])), (31, 0, 0));
+    let mut answers = [sixth(); 2];
+    for ssrcs in [&[0x11223344; 3][..], &[7; 3], &[0x11223344; 100]] {
+        assert_eq!(unread(sdes.lookup(ssrcs, &mut answers)), (31, 0, 0));
+        let refused = sdes.lookup(ssrcs, &mut answers);
+        assert_eq!(refused, Err(RtcpParseError::AnswersTooShort));
+        assert_eq!(answers, [sixth(); 2]);
+    }
+    assert_eq!(
+        sdes.lookup(&[], &mut []).map(|visits| visits <= 1),
+        Ok(true)
+    );
+    assert!(sdes.lookup(&[7, 0x11223344], &mut answers).is_ok());
+    assert_eq!(answers.map(LookupAnswer::chunk), [None, Some(0)]);
 }
 
 #[test]
