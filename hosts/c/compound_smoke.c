@@ -160,8 +160,11 @@ static void helpers(void) {
     CALLS(18, 32, 31, 52, 0, 0, 0, rtcp_writer_add_sr_blocks(&w, buf, sizeof buf, &sr, many, 32));
     CALLS(18, 32, 31, 52, 0, 0, 0, rtcp_writer_add_rr_blocks(&w, buf, sizeof buf, 1, many, 32));
     compare(__FILE__, "the name of 25", rtcp_refusal_name(RTCP_NOTHING_LEFT), "RTCP_NOTHING_LEFT", 18);
-    compare(__FILE__, "the name of 31", rtcp_refusal_name(31), "no such refusal", 16);
+    compare(__FILE__, "the name of 31", rtcp_refusal_name(RTCP_ANSWERS_TOO_SHORT), "RTCP_ANSWERS_TOO_SHORT", 23);
+    compare(__FILE__, "the name of 32", rtcp_refusal_name(RTCP_ANSWERS_TOO_SHORT + 1), "no such refusal", 16);
     compare(__FILE__, "the text of 25", rtcp_refusal_text(RTCP_NOTHING_LEFT), "nothing is left, or no such index", 33);
+    compare(__FILE__, "the text of 31", rtcp_refusal_text(RTCP_ANSWERS_TOO_SHORT), "more SSRCs than the list of answers has room for", 49);
+    compare(__FILE__, "the text of 32", rtcp_refusal_text(RTCP_ANSWERS_TOO_SHORT + 1), "no such refusal", 16);
     compare(__FILE__, "the text of 17", rtcp_refusal_text(RTCP_CUMULATIVE_LOST_TOO_LARGE), "a cumulative loss below -8,388,608 or above 8,388,607", 54);
 }
 
