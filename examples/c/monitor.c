@@ -12,8 +12,10 @@ struct Loss {
     int32_t cumulative; /* below zero where duplicates came */
 };
 
+/* A source that sent a report, or that a block is about. */
 struct Participant {
     uint32_t ssrc;
+    int named;
     size_t len;
     uint8_t cname[255];
 };
@@ -37,23 +39,15 @@ static int32_t losses[RTCP_MAX_COUNT];
 static uint32_t words[RTCP_MAX_COUNT * RTCP_BLOCK_WORDS];
 #define LISTS fractions, RTCP_MAX_COUNT, losses, RTCP_MAX_COUNT, words, RTCP_MAX_COUNT *RTCP_BLOCK_WORDS
 
-static void read_blocks(uint64_t n) {
-    for (uint64_t i = 0; i < n; i++) update_meter(words[RTCP_BLOCK_WORDS * i], fractions[i], losses[i]);
-}
-
 static size_t find(uint32_t ssrc) {
     size_t i = 0;
     while (i < n_participants && participants[i].ssrc != ssrc) i++;
     return i;
 }
 
-static void joined(uint32_t ssrc, const uint8_t *cname, size_t len) {
-    size_t i = find(ssrc);
-    if (i == MOST) return;
-    if (i == n_participants) n_participants++;
-    participants[i].ssrc = ssrc;
-    participants[i].len = len;
-    memcpy(participants[i].cname, cname, len);
+static void joined(uint32_t ssrc) {
+    if (find(ssrc) < n_participants || n_participants == MOST) return;
+    participants[n_participants++] = (struct Participant){.ssrc = ssrc};
 }
 
 static void left(uint32_t ssrc) {
@@ -61,16 +55,40 @@ static void left(uint32_t ssrc) {
     if (i < n_participants) participants[i] = participants[--n_participants];
 }
 
-/* The first CNAME of each chunk. */
-static void read_names(const uint8_t *packet, size_t len) {
+static void read_report(uint32_t ssrc, uint64_t n) {
+    joined(ssrc);
+    for (uint64_t i = 0; i < n; i++) {
+        uint32_t source = words[RTCP_BLOCK_WORDS * i];
+        update_meter(source, fractions[i], losses[i]);
+        joined(source);
+    }
+}
+
+/* Of each chunk its first CNAME, NULL where it has none. */
+static void list_cnames(const uint8_t *packet, size_t len, const struct RtcpItemEntry *cnames[RTCP_MAX_COUNT]) {
     static struct RtcpItemEntry items[DATAGRAM / 2];
-    int named = 0;
     struct RtcpWritten w = rtcp_sdes_entries(packet, len, items, sizeof items / sizeof items[0]);
+    size_t chunk = 0;
     for (uint64_t i = 0; i < w.size; i++) {
-        if (items[i].type_ == 0) named = 0; /* the chunk ends */
-        if (items[i].type_ != RTCP_CNAME || named) continue;
-        joined(items[i].ssrc, packet + items[i].value, items[i].value_len);
-        named = 1;
+        if (items[i].type_ == RTCP_CNAME && cnames[chunk] == NULL) cnames[chunk] = &items[i];
+        if (items[i].type_ == 0) chunk++;
+    }
+}
+
+/* One call for all participants says which chunk has the name of each. */
+static void read_names(const uint8_t *packet, size_t len) {
+    const struct RtcpItemEntry *cnames[RTCP_MAX_COUNT] = {NULL};
+    uint32_t ssrcs[MOST];
+    uint8_t answers[MOST];
+    for (size_t i = 0; i < n_participants; i++) ssrcs[i] = participants[i].ssrc;
+    if (rtcp_sdes_lookup(packet, len, ssrcs, n_participants, answers, MOST).number != 0) return;
+    list_cnames(packet, len, cnames);
+    for (size_t i = 0; i < n_participants; i++) {
+        if (answers[i] == RTCP_NO_CHUNK) continue;
+        const struct RtcpItemEntry *cname = cnames[answers[i] & RTCP_CHUNK_INDEX];
+        participants[i].named = 1;
+        participants[i].len = cname->value_len;
+        memcpy(participants[i].cname, packet + cname->value, cname->value_len);
     }
 }
 
@@ -85,9 +103,12 @@ static void read_packet(const uint8_t *packet, const struct RtcpPacketEntry *p, 
     if (p->packet_type == RTCP_SR) {
         struct RtcpSr sr = rtcp_sr_read(packet, p->len, LISTS);
         *sender = (struct Sender){1, (uint32_t)sr.ssrc, sr.ntp_timestamp};
-        read_blocks(sr.n_reports);
+        read_report((uint32_t)sr.ssrc, sr.n_reports);
     }
-    if (p->packet_type == RTCP_RR) read_blocks(rtcp_rr_read(packet, p->len, LISTS).n_reports);
+    if (p->packet_type == RTCP_RR) {
+        struct RtcpRr rr = rtcp_rr_read(packet, p->len, LISTS);
+        read_report((uint32_t)rr.ssrc, rr.n_reports);
+    }
     if (p->packet_type == RTCP_SDES) read_names(packet, p->len);
     if (p->packet_type == RTCP_BYE) {
         struct RtcpBye bye = rtcp_bye_parse(packet, p->len);
@@ -126,6 +147,22 @@ static int digit(char c) {
     return found ? (int)(found - digits) : -1;
 }
 
+/* The losses, and the participants whose name is known. */
+static void print_lists(void) {
+    for (size_t i = 0; i < n_losses; i++) {
+        printf("loss of %08x: %u/256, %d in all\n", (unsigned)meter[i].ssrc, (unsigned)meter[i].fraction, (int)meter[i].cumulative);
+    }
+    for (size_t i = 0; i < n_participants; i++) {
+        if (!participants[i].named) continue;
+        printf("participant %08x: ", (unsigned)participants[i].ssrc);
+        for (size_t k = 0; k < participants[i].len; k++) {
+            uint8_t c = participants[i].cname[k];
+            putchar(c >= 0x20 && c < 0x7F ? c : '?');
+        }
+        printf("\n");
+    }
+}
+
 int main(int argc, char **argv) {
     /* An SR with a block, an SDES packet with two names, and a BYE of the second. */
     static const char sample[] = "81c8000c11223344eea48d64df4ff8650000ac440000001000000400"
@@ -144,17 +181,7 @@ int main(int argc, char **argv) {
     if (hex[0] != 0) return 2;
     struct Sender sender = {0, 0, 0};
     if (!read_datagram(datagram, len, &sender)) return 1;
-    for (size_t i = 0; i < n_losses; i++) {
-        printf("loss of %08x: %u/256, %d in all\n", (unsigned)meter[i].ssrc, (unsigned)meter[i].fraction, (int)meter[i].cumulative);
-    }
-    for (size_t i = 0; i < n_participants; i++) {
-        printf("participant %08x: ", (unsigned)participants[i].ssrc);
-        for (size_t k = 0; k < participants[i].len; k++) {
-            uint8_t c = participants[i].cname[k];
-            putchar(c >= 0x20 && c < 0x7F ? c : '?');
-        }
-        printf("\n");
-    }
+    print_lists();
     size_t size = write_reply(reply, sizeof reply, sender);
     printf("reply: ");
     for (size_t i = 0; i < size; i++) printf("%02x", reply[i]);

@@ -2,8 +2,8 @@
 //! of participants, and writes a reply.
 
 use bokyjave::{
-    Compound, Packet, ReceiverReport, ReportBlock, RtcpParseError, RtcpWriteError, Sdes, SdesChunk,
-    SdesItem,
+    Compound, LookupAnswer, Packet, ReceiverReport, ReportBlock, RtcpParseError, RtcpWriteError,
+    Sdes, SdesChunk, SdesItem,
 };
 use std::collections::BTreeMap;
 use std::error::Error;
@@ -21,8 +21,9 @@ const SAMPLE: &str = concat!(
 struct Monitor {
     /// The last block about each source.
     meter: BTreeMap<u32, ReportBlock>,
-    /// The CNAME of each source.
-    participants: BTreeMap<u32, Vec<u8>>,
+    /// Each source that sent a report or that a block is about, with its CNAME
+    /// once that is known.
+    participants: BTreeMap<u32, Option<Vec<u8>>>,
     /// The SSRC and the NTP time of the last sender report, if one came.
     sender: Option<(u32, u64)>,
 }
@@ -33,17 +34,10 @@ impl Monitor {
             match packet? {
                 Packet::Sr(sr) => {
                     self.sender = Some((sr.ssrc(), sr.ntp_timestamp()));
-                    self.update_meter(sr.report_blocks());
+                    self.read_report(sr.ssrc(), sr.report_blocks());
                 }
-                Packet::Rr(rr) => self.update_meter(rr.report_blocks()),
-                Packet::Sdes(sdes) => {
-                    for chunk in sdes.chunks() {
-                        if let Some(cname) = chunk.cname() {
-                            self.participants
-                                .insert(chunk.ssrc(), cname.value().to_vec());
-                        }
-                    }
-                }
+                Packet::Rr(rr) => self.read_report(rr.ssrc(), rr.report_blocks()),
+                Packet::Sdes(sdes) => self.read_names(&sdes)?,
                 Packet::Bye(bye) => {
                     for ssrc in bye.ssrcs() {
                         self.participants.remove(&ssrc);
@@ -55,10 +49,26 @@ impl Monitor {
         Ok(())
     }
 
-    fn update_meter(&mut self, blocks: impl Iterator<Item = ReportBlock>) {
+    fn read_report(&mut self, ssrc: u32, blocks: impl Iterator<Item = ReportBlock>) {
+        self.participants.entry(ssrc).or_default();
         for block in blocks {
             self.meter.insert(block.ssrc(), block);
+            self.participants.entry(block.ssrc()).or_default();
         }
+    }
+
+    /// One call for all participants says which chunk has the name of each.
+    fn read_names(&mut self, sdes: &Sdes) -> Result<(), RtcpParseError> {
+        let ssrcs: Vec<u32> = self.participants.keys().copied().collect();
+        let mut answers = vec![LookupAnswer::NONE; ssrcs.len()];
+        sdes.lookup(&ssrcs, &mut answers)?;
+        let cnames: Vec<Option<SdesItem>> = sdes.chunks().map(|chunk| chunk.cname()).collect();
+        for (name, answer) in self.participants.values_mut().zip(answers) {
+            if let Some(chunk) = answer.chunk() {
+                *name = cnames[usize::from(chunk)].map(|cname| cname.value().to_vec());
+            }
+        }
+        Ok(())
     }
 
     /// An RR about the sender, if there is one, and an SDES packet with our own
@@ -99,6 +109,9 @@ fn run(hex: &str) -> Result<(), Box<dyn Error>> {
         println!("loss of {ssrc:08x}: {fraction}/256, {lost} in all");
     }
     for (ssrc, cname) in &monitor.participants {
+        let Some(cname) = cname else {
+            continue;
+        };
         let shown = |byte: &u8| match byte {
             0x20..=0x7E => *byte as char,
             _ => '?',
