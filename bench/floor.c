@@ -132,6 +132,30 @@ struct RtcpWritten rtcp_sdes_items(const uint8_t *s, size_t len, uint32_t *rows,
     return (struct RtcpWritten){0, 0, 0, (size_t)(r - rows)};
 }
 
+/* Answers the SSRCs, from the first that has no answer on, that chunk k is the first to name; the first that has none after that. */
+static inline size_t answer(uint32_t ssrc, size_t k, const uint32_t *ssrcs, size_t n, uint8_t *answers, size_t first) {
+    for (size_t i = first; i < n; i++)
+        if (ssrcs[i] == ssrc && answers[i] == RTCP_NO_CHUNK) answers[i] = (uint8_t)k;
+    while (first < n && answers[first] != RTCP_NO_CHUNK) first++;
+    return first;
+}
+
+struct RtcpLookup rtcp_sdes_lookup(const uint8_t *s, size_t len, const uint32_t *ssrcs, size_t n, uint8_t *answers, size_t room) {
+    uint32_t w = len < 4 ? 0 : load32(s);
+    size_t count = w >> 24 & 31, at = 4, k = 0, first = 0, body = headed(s, w, 202, len, 4);
+    int cname = 0;
+    if (!LIKELY(n <= room && body != 0 && scan(s, body, count, &cname))) return (struct RtcpLookup){.number = 99};
+    for (size_t i = 0; i < n; i++) answers[i] = RTCP_NO_CHUNK;
+    for (; k < count && first < n; k++) {
+        uint32_t ssrc = load32(s + at);
+        cname = 0;
+        for (at += 4; s[at] != 0; at += 2 + s[at + 1]) cname |= s[at] == 1;
+        at = (at | 3) + 1;
+        if (cname) first = answer(ssrc, k, ssrcs, n, answers, first);
+    }
+    return (struct RtcpLookup){0, 0, 0, k};
+}
+
 static inline int packet_is_right(const uint8_t *s, uint32_t w, size_t len, int *cname) {
     size_t n = w >> 24 & 31;
     uint32_t type = w >> 16 & 255;

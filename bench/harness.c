@@ -79,6 +79,12 @@ static uint64_t sum_of(const struct Input *in) {
     return sum;
 }
 
+static uint64_t lookup_sum_of(const struct Input *in) {
+    uint64_t sum = 0;
+    for (size_t i = 1; i < in->n_chunks; i++) sum += (uint64_t)in->ssrcs[i] * (i + 1);
+    return sum;
+}
+
 static struct Input *named(const char *name) {
     if (strcmp(name, "rrsdes") == 0) return &rrsdes;
     if (strcmp(name, "sr31") == 0) return &sr31;
@@ -144,6 +150,7 @@ static int print_time(const struct Operation *op) {
 
 static int is_right(const struct Operation *op, uint64_t once) {
     if (op->input == NULL) return 1;
+    if (strncmp(op->name, "lookup", 6) == 0) return once == lookup_sum_of(op->input);
     if (strncmp(op->name, "write", 5) != 0) return once == sum_of(op->input);
     return once == op->input->len && memcmp(written(), op->input->bytes, op->input->len) == 0;
 }

@@ -31,9 +31,10 @@ struct Input {
 
 extern struct Input rrsdes, sr31, sdes31, padded, priv31;
 
-/* A reading returns the sum of all fields; a writing, whose name starts with "write", how many bytes it wrote. `input` is what it reads or must
-   write; where it is null, nothing is held against it. Of a loss the low 32 bits are added. Some sides read it without a sign; no input has one below
-   zero, so the sums agree. */
+/* A reading returns the sum of all fields; a writing, whose name starts with "write", how many bytes it wrote; a lookup, whose name starts with
+   "lookup", the sum of each SSRC times the number, from 1, of the chunk that it is answered, the SSRCs being those of all chunks but the first.
+   `input` is what it reads or must write; where it is null, nothing is held against it. Of a loss the low 32 bits are added. Some sides read it
+   without a sign; no input has one below zero, so the sums agree. */
 struct Operation {
     const char *name;
     uint64_t (*run)(void);

@@ -4,7 +4,13 @@
 
 static uint8_t out[ROOM];
 
-void setup(const struct Input *input) { (void)input; }
+/* The SSRCs of all chunks but the first, from the last to the second. */
+static uint32_t backwards[MOST];
+
+void setup(const struct Input *input) {
+    if (input == NULL) return;
+    for (size_t i = 1; i < input->n_chunks; i++) backwards[input->n_chunks - 1 - i] = input->ssrcs[i];
+}
 
 const uint8_t *written(void) { return out; }
 
@@ -14,6 +20,7 @@ static int32_t losses[31];
 static uint32_t words[31 * 5];
 static uint32_t rows[ROOM / 2 * 5];
 static uint64_t packets[3 * 8];
+static uint8_t answers[MOST];
 
 #define ROOM_OF(list) (sizeof list / sizeof list[0])
 #define BLOCKS_OF(in) in->fractions, in->n_blocks, in->losses, in->n_blocks, in->words, 5 * in->n_blocks
@@ -120,6 +127,39 @@ static uint64_t walk_sdes31(void) {
     return w.number != 0 ? 0 : chunks_walked(sdes31.bytes, sdes31.len, w.at, w.end);
 }
 
+/* The chunks that name the sources of all chunks but the first, by one call. */
+static uint64_t lookup_sum(const uint32_t *ssrcs) {
+    const struct Input *in = &sdes31;
+    size_t n = in->n_chunks - 1;
+    uint64_t sum = 0;
+    struct RtcpLookup l = rtcp_sdes_lookup(in->bytes, in->len, ssrcs, n, answers, ROOM_OF(answers));
+    if (l.number != 0) return 0;
+    for (size_t i = 0; i < n; i++) sum += (uint64_t)ssrcs[i] * ((answers[i] & RTCP_CHUNK_INDEX) + 1u);
+    return sum;
+}
+
+static uint64_t lookup_sdes31(void) { return lookup_sum(sdes31.ssrcs + 1); }
+
+static uint64_t lookup_back31(void) { return lookup_sum(backwards); }
+
+/* The same by a walk for each SSRC: the number, from 1, of the chunk that names it, or 0. */
+static uint64_t walk_to(const struct Input *in, uint32_t ssrc) {
+    uint64_t number = 1;
+    struct RtcpChunkWalk w = rtcp_chunk_walk_open(in->bytes, in->len);
+    if (w.number != 0) return 0;
+    for (uint64_t at = w.at;; number++) {
+        struct RtcpChunkStep c = rtcp_chunk_walk_step(in->bytes, in->len, at, w.end);
+        if (c.number != 0) return 0;
+        if (c.ssrc == ssrc && c.cname != 0) return number;
+        at = c.at;
+    }
+}
+static uint64_t lookup_walks31(void) {
+    uint64_t sum = 0;
+    for (size_t i = 1; i < sdes31.n_chunks; i++) sum += sdes31.ssrcs[i] * walk_to(&sdes31, sdes31.ssrcs[i]);
+    return sum;
+}
+
 static struct RtcpWritten sdes_written(uint8_t *buf, size_t room, const struct Input *in) {
     return rtcp_sdes_write(buf, room, in->ssrcs, in->n_chunks, in->counts, in->n_chunks, in->types, in->n_items, in->prefixes,
                            in->n_items, in->lengths, in->n_items, in->text, in->text_len, in->padding);
@@ -160,6 +200,7 @@ static uint64_t write_priv31(void) { return sdes_written(out, sizeof out, &priv3
 const struct Operation operations[] = {
     {"parse-rrsdes", parse_rrsdes, &rrsdes}, {"parse-sr31", parse_sr31, &sr31}, {"parse-sdes31", parse_sdes31, &sdes31},
     {"walk-rrsdes", walk_rrsdes, &rrsdes},   {"walk-sdes31", walk_sdes31, &sdes31},
+    {"lookup-sdes31", lookup_sdes31, &sdes31}, {"lookup-back31", lookup_back31, &sdes31}, {"lookup-walks31", lookup_walks31, &sdes31},
     {"write-rrsdes", write_rrsdes, &rrsdes}, {"write-sr31", write_sr31, &sr31}, {"write-sdes31", write_sdes31, &sdes31},
     {"write-compound", write_compound, &rrsdes},
     {"parse-padded", parse_padded, &padded}, {"parse-priv31", parse_priv31, &priv31},

@@ -1,9 +1,11 @@
 # Writes docs/PERFORMANCE.md from the lines of bench/run: what, operation, side, value.
 BEGIN {
     FS = "\t"
-    n_ops = split("parse-rrsdes parse-sr31 parse-sdes31 walk-rrsdes walk-sdes31 parse-padded parse-priv31 write-rrsdes write-sr31 write-sdes31 write-compound write-padded write-priv31", ops, " ")
+    n_ops = split("parse-rrsdes parse-sr31 parse-sdes31 walk-rrsdes walk-sdes31 lookup-sdes31 lookup-back31 lookup-walks31 parse-padded parse-priv31 write-rrsdes write-sr31 write-sdes31 write-compound write-padded write-priv31", ops, " ")
     title["parse-rrsdes"] = "read RR+SDES"; title["parse-sr31"] = "read SR, 31 blocks"; title["parse-sdes31"] = "read SDES, 31 chunks"
     title["walk-rrsdes"] = "walk RR+SDES"; title["walk-sdes31"] = "walk SDES, 31 chunks"
+    title["lookup-sdes31"] = "look up 30 SSRCs, SDES, 31 chunks"; title["lookup-back31"] = "the same, the last chunk first"
+    title["lookup-walks31"] = "the same by 30 walks"
     title["parse-padded"] = "read RR+SDES, padded"; title["parse-priv31"] = "read SDES, 31 PRIV items"
     title["write-rrsdes"] = "write RR+SDES"; title["write-sr31"] = "write SR, 31 blocks"; title["write-sdes31"] = "write SDES, 31 chunks"
     title["write-compound"] = "write RR+SDES by a compound writer"
@@ -150,6 +152,10 @@ END {
     print "  for 25, and reads a block by its place. With every walk opened and asked to its 25, and blocks by their index, the same functions take 1,659 and 9,847:"
     print "  more than rtcp-types for RR+SDES. No row counts `rtcp_item_walk_open` and `rtcp_rr_report_block`. Beside it stands what rtcp-types takes to read the"
     print "  same fields, which goes over them one by one too."
+    print "- 'look up' answers for 30 SSRCs which chunk names each, by one call of `rtcp_sdes_lookup`: those of all chunks but the first, so that every chunk has to be"
+    print "  looked at, in the packet's order and in the other one. 'By 30 walks' opens a walk for each SSRC and steps to its chunk; `bench/run --check` fails where one"
+    print "  call takes more than a tenth of that. rtcp-types parses the packet once and goes over chunks and items for each SSRC; our crate parses it and makes"
+    print "  the one call, which checks the packet once more."
     print "- Our crate runs the same program as rtcp-types: the same calls of the same names, its builders made before the loop or in it. Its compound builder"
     print "  writes each packet when it is added, so the row of the compound writer counts closing and copying alone; 'with its builder' counts all of it."
     print "- RR and SDES are written packet after packet, and once more by a compound writer: ours holds the rules of a compound, rtcp-types' own (its"

@@ -1,6 +1,7 @@
 //! rtcp-types 0.3.0 as a side of bench/run, with the arguments and the exit
-//! statuses of bench/harness.c: INPUTS OPERATION N|time. `parse-` reads, `write-`
-//! writes with a builder that was made before, `build-` makes the builder too.
+//! statuses of bench/harness.c: INPUTS OPERATION N|time. `parse-` reads, `lookup-`
+//! looks up SSRCs, `write-` writes with a builder that was made before, `build-`
+//! makes the builder too.
 
 use std::process::ExitCode;
 
@@ -10,6 +11,22 @@ macro_rules! prefix {
     ($item:expr) => {
         $item.priv_prefix()
     };
+}
+
+/// By going over the chunks for each SSRC to the first that has it and a CNAME.
+#[cfg(rtcp_types)]
+fn looked_up(sdes: &Sdes<'_>, ssrcs: &[u32]) -> u64 {
+    let number_of = |ssrc: &u32| {
+        let mut chunks = sdes.chunks();
+        let index = chunks.position(|chunk| {
+            chunk.ssrc() == *ssrc && chunk.items().any(|item| item.type_() == SdesItem::CNAME)
+        });
+        index.map_or(0, |index| index as u64 + 1)
+    };
+    ssrcs
+        .iter()
+        .map(|ssrc| u64::from(*ssrc) * number_of(ssrc))
+        .sum()
 }
 
 #[cfg(rtcp_types)]

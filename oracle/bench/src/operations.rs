@@ -1,6 +1,7 @@
 //! The operations, and the loop that is measured. bench/bokyjave compiles this file too, over the crate in rust/ under the name of rtcp-types: what
-//! takes a type that differs there is a macro, and a loss, which has a sign there, is cast.
+//! takes a type that differs there is a macro, a lookup is each side's own, and a loss, which has a sign there, is cast.
 
+use crate::looked_up;
 use crate::whole::{Compound, CompoundBuilder, Packet};
 use rtcp_types::prelude::*;
 use rtcp_types::*;
@@ -80,17 +81,33 @@ pub fn main() -> u8 {
     let Some(input) = load(inputs, input) else {
         return 2;
     };
-    match (verb, name) {
-        ("parse", "rrsdes" | "padded") => {
-            return finish(count, || sum_of_compound(black_box(&input)))
-        }
-        ("parse", "sr31") => return finish(count, || sum_of_sr(black_box(&input))),
-        ("parse", "sdes31" | "priv31") => return finish(count, || sum_of_sdes(black_box(&input))),
-        _ => {}
+    match read(verb, name, count, &input) {
+        Some(status) => status,
+        None => written(verb, name, count, &input),
     }
-    let fields = fields(&input);
+}
+
+/// The exit status of an operation that reads; none where it is not one.
+fn read(verb: &str, name: &str, count: &str, input: &[u8]) -> Option<u8> {
+    let status = match (verb, name) {
+        ("parse", "rrsdes" | "padded") => finish(count, || sum_of_compound(black_box(input))),
+        ("parse", "sr31") => finish(count, || sum_of_sr(black_box(input))),
+        ("parse", "sdes31" | "priv31") => finish(count, || sum_of_sdes(black_box(input))),
+        ("lookup", "sdes31") => {
+            let chunks = fields(input).chunks;
+            let ssrcs: Vec<u32> = chunks.iter().skip(1).map(|chunk| chunk.ssrc).collect();
+            finish(count, || sum_of_lookup(black_box(input), black_box(&ssrcs)))
+        }
+        _ => return None,
+    };
+    Some(status)
+}
+
+/// The exit status of an operation that writes.
+fn written(verb: &str, name: &str, count: &str, input: &[u8]) -> u8 {
+    let fields = fields(input);
     let mut out = [0; 1024];
-    let written = match (verb, name) {
+    let status = match (verb, name) {
         ("write", "rrsdes" | "padded") => {
             let (rr, sdes) = (rr(&fields), sdes(&fields));
             finish(count, || write_both(&rr, &sdes, &mut out))
@@ -117,10 +134,10 @@ pub fn main() -> u8 {
         }
         _ => return 3,
     };
-    if written == 0 && out[..input.len()] != input {
+    if status == 0 && out[..input.len()] != *input {
         return 4;
     }
-    written
+    status
 }
 
 fn load(path: &str, name: &str) -> Option<Vec<u8>> {
@@ -236,6 +253,15 @@ fn sum_of_sr(input: &[u8]) -> u64 {
 fn sum_of_sdes(input: &[u8]) -> u64 {
     match Sdes::parse(input) {
         Ok(sdes) => sum_of_chunks(&sdes),
+        Err(_) => 0,
+    }
+}
+
+/// The chunks that name these sources: each SSRC times the number of its chunk
+/// from 1, added up.
+fn sum_of_lookup(input: &[u8], ssrcs: &[u32]) -> u64 {
+    match Sdes::parse(input) {
+        Ok(sdes) => looked_up(&sdes, ssrcs),
         Err(_) => 0,
     }
 }
