@@ -12,7 +12,7 @@ struct Loss {
     int32_t cumulative; /* below zero where duplicates came */
 };
 
-/* A source that sent a report, or that a block is about. */
+/* A source that sent a report, or that a block or a chunk is about. */
 struct Participant {
     uint32_t ssrc;
     int named;
@@ -64,14 +64,16 @@ static void read_report(uint32_t ssrc, uint64_t n) {
     }
 }
 
-/* Of each chunk its first CNAME, NULL where it has none. */
+/* Of each chunk its first CNAME, NULL where it has none. Its source is on the list from then on. */
 static void list_cnames(const uint8_t *packet, size_t len, const struct RtcpItemEntry *cnames[RTCP_MAX_COUNT]) {
     static struct RtcpItemEntry items[DATAGRAM / 2];
     struct RtcpWritten w = rtcp_sdes_entries(packet, len, items, sizeof items / sizeof items[0]);
     size_t chunk = 0;
     for (uint64_t i = 0; i < w.size; i++) {
         if (items[i].type_ == RTCP_CNAME && cnames[chunk] == NULL) cnames[chunk] = &items[i];
-        if (items[i].type_ == 0) chunk++;
+        if (items[i].type_ != 0) continue;
+        joined(items[i].ssrc);
+        chunk++;
     }
 }
 
@@ -80,9 +82,9 @@ static void read_names(const uint8_t *packet, size_t len) {
     const struct RtcpItemEntry *cnames[RTCP_MAX_COUNT] = {NULL};
     uint32_t ssrcs[MOST];
     uint8_t answers[MOST];
+    list_cnames(packet, len, cnames);
     for (size_t i = 0; i < n_participants; i++) ssrcs[i] = participants[i].ssrc;
     if (rtcp_sdes_lookup(packet, len, ssrcs, n_participants, answers, MOST).number != 0) return;
-    list_cnames(packet, len, cnames);
     for (size_t i = 0; i < n_participants; i++) {
         if (answers[i] == RTCP_NO_CHUNK) continue;
         const struct RtcpItemEntry *cname = cnames[answers[i] & RTCP_CHUNK_INDEX];

@@ -21,8 +21,8 @@ const SAMPLE: &str = concat!(
 struct Monitor {
     /// The last block about each source.
     meter: BTreeMap<u32, ReportBlock>,
-    /// Each source that sent a report or that a block is about, with its CNAME
-    /// once that is known.
+    /// Each source that sent a report or that a block or a chunk is about, with
+    /// its CNAME once that is known.
     participants: BTreeMap<u32, Option<Vec<u8>>>,
     /// The SSRC and the NTP time of the last sender report, if one came.
     sender: Option<(u32, u64)>,
@@ -59,6 +59,9 @@ impl Monitor {
 
     /// One call for all participants says which chunk has the name of each.
     fn read_names(&mut self, sdes: &Sdes) -> Result<(), RtcpParseError> {
+        for chunk in sdes.chunks() {
+            self.participants.entry(chunk.ssrc()).or_default();
+        }
         let ssrcs: Vec<u32> = self.participants.keys().copied().collect();
         let mut answers = vec![LookupAnswer::NONE; ssrcs.len()];
         sdes.lookup(&ssrcs, &mut answers)?;
