@@ -1,5 +1,5 @@
-//! Document 01 in Rust, with order 1 of document 02: what every operation answers,
-//! on every input. docs/PROTOCOL.md says the same in our own words.
+//! Document 01 in Rust, with orders 1 and 2 of document 02: what every operation
+//! answers, on every input. docs/PROTOCOL.md says the same in our own words.
 //!
 //! The text follows the documents and nothing else. It is meant to be held
 //! beside them, so it prefers their order and words to speed.
@@ -8,6 +8,7 @@ mod book;
 mod compound;
 mod layout;
 mod list;
+mod lookup;
 mod packet;
 mod read;
 mod refusal;
@@ -19,6 +20,7 @@ pub use book::{written_packet, Book, Call};
 pub use compound::read_compound;
 pub use layout::{layout, layout_chunk, layout_item};
 pub use list::Listing;
+pub use lookup::{look_up, NO_CHUNK};
 pub use packet::*;
 pub use read::{
     check_header, read_as, read_block, read_block_at, read_chunk, read_item, read_prefix,

@@ -112,6 +112,9 @@ impl Refusal {
     pub fn not_priv(item_type: u8) -> Self {
         Refusal::new(30, item_type.into(), 0)
     }
+
+    /// A lent list is longer than the buffer for its answers.
+    pub const LIST_TOO_LONG: Refusal = Refusal::bare(31);
 }
 
 impl fmt::Display for Refusal {
