@@ -27,8 +27,8 @@ const UNFOLDING: &str = "need _>>=_ mapOk _>>_ firstFault turn be val put get su
 /// Equations in one declaration.
 const ROWS: usize = 40;
 
-/// A module of equations, as a file of a crate's proofs. No definition there
-/// fills a list.
+/// A module of equations, as a file of a crate's proofs. There is none of a call that
+/// fills a list, nor of a lookup.
 pub fn module(operations: impl Iterator<Item = Operation>) -> String {
     let equations: Vec<String> = operations
         .filter_map(|operation| equation(&operation, &operation.modelled()))
@@ -267,7 +267,7 @@ fn left(operation: &Operation) -> Option<String> {
         Operation::ItemStep(bytes, position) => {
             format!("itemStep {} {position}", numbers(bytes))
         }
-        Operation::List(..) => return None,
+        Operation::List(..) | Operation::LookUp(..) => return None,
         Operation::Write(g, buffer) => format!("write {} {}", given(g), numbers(buffer)),
         Operation::WriteChunk(lists, buffer) => format!(
             "writeChunk {} {} {} {} {} {}",
@@ -334,7 +334,7 @@ fn right(operation: &Operation, outcome: &Outcome) -> String {
             let lists = list(lists, |list| numbers(list));
             format!("({}, {lists})", answer(a, u64::to_string))
         }
-        Outcome::Written(a, buffer) => {
+        Outcome::LookedUp(a, buffer) | Outcome::Written(a, buffer) => {
             format!("({}, {})", answer(a, u64::to_string), numbers(buffer))
         }
         Outcome::Added(a, w, buffer) => {

@@ -9,7 +9,7 @@
 //! or the library touches memory that is not its own.
 
 use compare::calls;
-use compare::generate::{operation, Sort};
+use compare::generate::{operation, sources, Sort};
 use compare::library::{about_library, watched, Library};
 use compare::limits;
 use compare::operation::Operation;
@@ -90,6 +90,7 @@ fn datagrams(file: &str, visit: &mut dyn FnMut(Operation)) {
             for listing in Listing::ALL {
                 limits::lists(listing, &packet, visit);
             }
+            limits::look_ups(&packet, &sources(&packet), visit);
             at = next;
         }
     }

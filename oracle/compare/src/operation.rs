@@ -20,6 +20,8 @@ pub enum Operation {
     ItemStep(Vec<u8>, u64),
     /// The last part is the lists before it: three of blocks, else one.
     List(Listing, Vec<u8>, Vec<Vec<i128>>),
+    /// An SDES packet, the SSRCs that are looked up in it, and the answers before it.
+    LookUp(Vec<u8>, Vec<u32>, Vec<u8>),
     /// The last part of a write is the buffer before it.
     Write(Given, Vec<u8>),
     WriteChunk(ChunkLists, Vec<u8>),
@@ -29,8 +31,8 @@ pub enum Operation {
     Turn(Book, Call),
 }
 
-/// What an operation gives. A write also leaves a buffer, a filling a list, a
-/// call also a writer or a book.
+/// What an operation gives. A write also leaves a buffer, a filling a list, a lookup
+/// its answers, a call also a writer or a book.
 #[derive(Clone, Debug, PartialEq, Eq, Hash)]
 pub enum Outcome {
     Packet(Answer<Packet>),
@@ -46,6 +48,8 @@ pub enum Outcome {
     SdesStep(Answer<(Chunk, SdesWalk)>),
     ItemStep(Answer<(Item, u64)>),
     Listed(Answer<u64>, Vec<Vec<i128>>),
+    /// The number is the most chunks that can be visited.
+    LookedUp(Answer<u64>, Vec<u8>),
     Written(Answer<u64>, Vec<u8>),
     Added(Answer<()>, Writer, Vec<u8>),
     Closed(Answer<()>, Writer),
@@ -77,6 +81,7 @@ impl Operation {
             Operation::List(Listing::Blocks(_), ..) => "list RR blocks",
             Operation::List(Listing::Items, ..) => "list items",
             Operation::List(Listing::Packets, ..) => "list packets",
+            Operation::LookUp(..) => "look up",
             Operation::Write(given, _) => match given.kind() {
                 Kind::Sr => "write SR",
                 Kind::Rr => "write RR",
@@ -92,7 +97,7 @@ impl Operation {
         }
     }
 
-    /// The bytes that a reading, or a call that fills lists, is lent.
+    /// The bytes that a reading, a call that fills lists, or a lookup is lent.
     pub fn bytes_read(&self) -> Option<&[u8]> {
         match self {
             Operation::ReadAs(_, bytes)
@@ -109,7 +114,8 @@ impl Operation {
             | Operation::SdesStep(bytes, _)
             | Operation::OpenItems(bytes)
             | Operation::ItemStep(bytes, _)
-            | Operation::List(_, bytes, _) => Some(bytes),
+            | Operation::List(_, bytes, _)
+            | Operation::LookUp(bytes, ..) => Some(bytes),
             _ => None,
         }
     }
@@ -136,6 +142,10 @@ impl Operation {
             Operation::List(listing, bytes, before) => {
                 let mut lists = before.clone();
                 Outcome::Listed(listing.fill(bytes, &mut lists), lists)
+            }
+            Operation::LookUp(bytes, ssrcs, before) => {
+                let mut answers = before.clone();
+                Outcome::LookedUp(look_up(bytes, ssrcs, &mut answers), answers)
             }
             Operation::Write(given, before) => written(before, |buffer| write(given, buffer)),
             Operation::WriteChunk(lists, before) => {

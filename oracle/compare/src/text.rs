@@ -30,6 +30,10 @@ pub fn inputs(operation: &Operation) -> String {
                 put("list", list(numbers, i128::to_string));
             }
         }
+        Operation::LookUp(_, ssrcs, answers) => {
+            put("ssrcs", list(ssrcs, u32::to_string));
+            put("answers", run(answers));
+        }
         Operation::Write(g, buffer) => {
             given(g, &mut put);
             put("buffer", run(buffer));

@@ -16,6 +16,8 @@ pub enum Value {
     Nothing,
     /// Of 64 bits, or a loss, which has a sign.
     Number(i128),
+    /// Any number up to this one: no more of it is fixed.
+    AtMost(i128),
     Bytes(Vec<u8>),
     Numbers(Vec<i128>),
     Refused(Refusal),
@@ -86,7 +88,18 @@ impl View {
 }
 
 fn same((left, right): (&(&str, Value), &(&str, Value))) -> bool {
-    left.0 == right.0 && (left.1 == Value::Unseen || right.1 == Value::Unseen || left.1 == right.1)
+    left.0 == right.0 && left.1.agrees(&right.1)
+}
+
+impl Value {
+    fn agrees(&self, other: &Value) -> bool {
+        match (self, other) {
+            (Value::Unseen, _) | (_, Value::Unseen) => true,
+            (Value::AtMost(most), Value::Number(number))
+            | (Value::Number(number), Value::AtMost(most)) => (0..=*most).contains(number),
+            _ => self == other,
+        }
+    }
 }
 
 // ---- the view of an outcome: everything is seen
@@ -132,6 +145,13 @@ impl View {
                 for list in lists {
                     view.put("list", Value::Numbers(list));
                 }
+                view
+            }
+            Outcome::LookedUp(answer, answers) => {
+                let mut view = View::of_answer(answer, |view, most| {
+                    view.put("visits", Value::AtMost(most.into()));
+                });
+                view.bytes("answers", &answers);
                 view
             }
             Outcome::Written(answer, buffer) => {
@@ -297,6 +317,7 @@ impl fmt::Display for Value {
             Value::Unseen => write!(f, "?"),
             Value::Nothing => write!(f, "-"),
             Value::Number(number) => write!(f, "{number}"),
+            Value::AtMost(most) => write!(f, "0..={most}"),
             Value::Bytes(bytes) => write!(f, "x{}", hex(bytes)),
             Value::Numbers(numbers) => write!(f, "{numbers:?}"),
             Value::Refused(refusal) => write!(f, "{refusal}"),

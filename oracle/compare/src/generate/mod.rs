@@ -1,11 +1,14 @@
 //! Random inputs: good ones, damaged ones, limits and empty cases.
 
+mod lookups;
 mod packets;
 mod readings;
 mod writings;
 
 use crate::operation::{Operation, Outcome};
 use crate::rng::Rng;
+use lookups::look_up;
+pub use lookups::sources;
 use model::*;
 use packets::*;
 pub use packets::{packet, LOSSES};
@@ -219,12 +222,13 @@ pub enum Sort {
     OpenItems,
     ItemStep,
     List,
+    LookUp,
     Call,
     Turn,
 }
 
 impl Sort {
-    pub const ALL: [Sort; 21] = [
+    pub const ALL: [Sort; 22] = [
         Sort::ReadAs,
         Sort::ReadBlock,
         Sort::ReadItem,
@@ -244,6 +248,7 @@ impl Sort {
         Sort::OpenItems,
         Sort::ItemStep,
         Sort::List,
+        Sort::LookUp,
         Sort::Call,
         Sort::Turn,
     ];
@@ -334,6 +339,7 @@ pub fn operation(rng: &mut Rng, sort: Sort) -> Operation {
             Operation::ItemStep(bytes, position)
         }
         Sort::List => list(rng),
+        Sort::LookUp => look_up(rng),
         Sort::Call => {
             if rng.once_in(5) {
                 Operation::Close(writer(rng))

@@ -5,6 +5,7 @@
 mod calls;
 mod compounds;
 mod lists;
+mod lookup;
 mod reading;
 mod writing;
 
@@ -70,6 +71,7 @@ impl Side for Library {
     fn view(&self, operation: &Operation) -> Option<View> {
         match operation {
             Operation::List(listing, bytes, before) => self.listed(*listing, bytes, before),
+            Operation::LookUp(bytes, ssrcs, before) => self.looked_up(bytes, ssrcs, before),
             Operation::Write(given, before) => self.write(given, before),
             Operation::WriteChunk(lists, before) => self.write_chunk(lists, before),
             Operation::WriteItem(item, before) => self.write_item(item, before),
@@ -86,10 +88,10 @@ impl Side for Library {
     }
 }
 
-/// The bytes lent to a reading are as they were.
-fn kept(view: &mut View, s: &[u8], bytes: &[u8]) {
-    if s != bytes {
-        broken(view, "bytes that a reading changed");
+/// What is lent to a reading is as it was.
+fn kept<T: PartialEq>(view: &mut View, lent: &[T], before: &[T]) {
+    if lent != before {
+        broken(view, "lent to a reading and changed");
     }
 }
 

@@ -1,7 +1,7 @@
 //! A case, and what is asked of it.
 
-use compare::generate::{LOSSES, LOSSES_OUTSIDE, STALE};
-use compare::limits::lists;
+use compare::generate::{sources, LOSSES, LOSSES_OUTSIDE, STALE};
+use compare::limits::{lists, look_ups};
 use compare::operation::Operation;
 use model::*;
 
@@ -21,7 +21,7 @@ impl Case {
         }
     }
 
-    /// Every reading, every list around its right length, a write and a call.
+    /// Every reading, every list around its right length, lookups, a write and a call.
     pub fn operations(&self) -> Vec<Operation> {
         let bytes = || self.bytes.clone();
         let walk = SdesWalk {
@@ -48,9 +48,22 @@ impl Case {
         for listing in Listing::ALL {
             lists(listing, &self.bytes, &mut |list| operations.push(list));
         }
+        for ssrcs in [Vec::new(), self.sought()] {
+            look_ups(&self.bytes, &ssrcs, &mut |lookup| operations.push(lookup));
+        }
         operations.push(Draw(&self.bytes).write());
         operations.push(Draw(&self.bytes).call());
         operations
+    }
+
+    /// The SSRCs of the packet's chunks, one that differs from the first in one bit,
+    /// and the case's numbers, which are often 0.
+    fn sought(&self) -> Vec<u32> {
+        let mut ssrcs = sources(&self.bytes);
+        let near = ssrcs.first().map(|ssrc| ssrc ^ 1 << (self.end % 32));
+        ssrcs.extend(near);
+        ssrcs.extend([self.at, self.end].map(|number| number as u32));
+        ssrcs
     }
 }
 

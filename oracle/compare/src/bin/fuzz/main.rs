@@ -3,7 +3,8 @@
 //!     fuzz [COUNT|SECONDSs] [SEED]
 //!
 //! A case is a run of bytes and two numbers. Every reading is asked of it, every
-//! call that fills a list with lists around the right length, and one write and
+//! call that fills a list with lists around the right length, lookups of its chunks'
+//! SSRCs with answer buffers around the list's length, and one write and
 //! one call of the writer whose arguments are drawn from its bytes. An answer must
 //! be the model's, with everything lent in memory that ends at a closed page, and
 //! again in memory that starts at one. A case that brings a refusal, a field or a class
@@ -210,7 +211,14 @@ impl Fuzz {
         for (field, value) in &view.fields {
             match value {
                 _ if OPAQUE.contains(field) => self.see((name, field)),
-                Value::Number(number) => self.see((name, field, class(*number))),
+                Value::Number(number) | Value::AtMost(number) => {
+                    self.see((name, field, class(*number)));
+                }
+                Value::Bytes(bytes) if *field == "answers" => {
+                    bytes
+                        .iter()
+                        .for_each(|answer| self.see((name, field, answer)));
+                }
                 Value::Bytes(bytes) => self.see((name, field, class(bytes.len() as i128))),
                 _ => self.see((name, field)),
             }

@@ -1,8 +1,12 @@
 //! Inputs by enumeration: short ones exhaustively, every length around each
 //! boundary, both sides of every limit.
 
+mod lookups;
+
 use crate::generate::{lengths, sdes_lists, stale_lists, LOSSES, LOSSES_OUTSIDE, STALE};
 use crate::operation::Operation;
+pub use lookups::look_ups;
+use lookups::lookups;
 use model::*;
 
 /// Hands every enumerated operation to `visit`, always in the same order.
@@ -19,6 +23,7 @@ pub fn enumerate(visit: &mut dyn FnMut(Operation)) {
     fill_blocks(visit);
     fill_items(visit);
     fill_packets(visit);
+    lookups(visit);
     report_writes(visit);
     bye_writes(visit);
     app_writes(visit);
