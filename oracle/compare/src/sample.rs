@@ -161,7 +161,8 @@ fn asked_to_write(operation: &Operation, row: String) -> Option<(Class, Pair)> {
         _ => 0,
     };
     let function = write_function(operation);
-    Some(((function, number, rows), (row, program::answer_of(&view))))
+    let answer = program::answer_of(operation, &view);
+    Some(((function, number, rows), (row, answer)))
 }
 
 fn write_function(operation: &Operation) -> &'static str {

@@ -1,8 +1,8 @@
 //! The rows of the program `rows`: what its files say is what the model says, and
-//! of rows that write what the static library says, where it is there.
+//! of rows that write or look up what the static library says, where it is there.
 
 use compare::library::Library;
-use compare::program::{answer_of, input, is_write, lines, operation, Program, Row};
+use compare::program::{answer_of, input, is_lookup, is_write, lines, operation, Program, Row};
 use compare::side::Side;
 use library::guard;
 use std::collections::BTreeSet;
@@ -37,9 +37,17 @@ fn rows() -> Vec<Line> {
     rows.map(line).collect()
 }
 
-fn writes() -> Vec<Line> {
+fn rows_that(is: fn(&str) -> bool) -> Vec<Line> {
     let rows = rows().into_iter();
-    rows.filter(|line| is_write(&line.row.function)).collect()
+    rows.filter(|line| is(&line.row.function)).collect()
+}
+
+fn writes() -> Vec<Line> {
+    rows_that(is_write)
+}
+
+fn lookups() -> Vec<Line> {
+    rows_that(is_lookup)
 }
 
 #[test]
@@ -53,10 +61,12 @@ fn the_answers_are_those_of_document_01() {
 
 #[test]
 fn the_library_answers_as_document_01() {
-    for line in writes() {
+    for line in writes().into_iter().chain(lookups()) {
+        let operation = operation(&line.row);
         for side in [guard::Side::Start, guard::Side::End] {
-            if let Some(view) = Library(side).view(&operation(&line.row)) {
-                assert_eq!(answer_of(&view), line.answer, "{}", line.name);
+            if let Some(view) = Library(side).view(&operation) {
+                let answer = answer_of(&operation, &view);
+                assert_eq!(answer, line.answer, "{}", line.name);
             }
         }
     }
@@ -68,8 +78,8 @@ fn every_word_of_a_row_counts() {
     for line in rows() {
         assert_eq!(line.row.to_string(), line.text, "{}", line.name);
     }
-    for line in writes() {
-        let shown = input(&operation(&line.row)).expect("a write");
+    for line in writes().into_iter().chain(lookups()) {
+        let shown = input(&operation(&line.row)).expect("a write or a lookup");
         assert_eq!(shown, line.row, "{}", line.name);
     }
 }
@@ -84,6 +94,11 @@ fn names_differ_and_every_refusal_is_there() {
     for number in 10..=24 {
         let refused = |line: &Line| wrote(line) == Some(number.to_string());
         assert!(writes.iter().any(refused), "{number}");
+    }
+    let lookups = lookups();
+    for number in [0, 1, 2, 3, 4, 5, 6, 31] {
+        let answered = |line: &Line| line.answer.starts_with(&format!(" {number} "));
+        assert!(lookups.iter().any(answered), "{number}");
     }
     let functions = file("stdin");
     let functions = functions.lines().next().expect("the functions");

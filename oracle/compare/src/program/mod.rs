@@ -7,18 +7,25 @@
 //! decimal, and a loss below zero has its sign. Bytes are
 //! digits after an `x`, and `*N` is the last byte N times more. An answer is
 //! `NUMBER.. BYTES`: every field of a C result in its order; of a part its bytes; of
+//! a lookup its answer and the buffer with the answers; of
 //! a write what the size function and the write answer, and the buffer; of a call of
 //! the compound writer its answer, the writer after it, and the buffer.
 //!
 //! In the program's files a name stands before each, and the first line of the input
 //! has the functions' names.
 
+mod lookup;
 mod read;
 mod write;
 
-pub use write::{answer_of, input, is_write, operation};
+pub use lookup::is_lookup;
+pub use write::is_write;
 
+use crate::generate::STALE;
+use crate::operation::Operation;
+use crate::side::{Model, Side};
 use crate::text::from_hex;
+use crate::view::View;
 use std::fmt::{Display, Formatter, Result};
 
 /// The space that a buffer is a part of.
@@ -110,14 +117,47 @@ impl Program {
         if row.function.starts_with("writer_") {
             return self.call(row);
         }
-        if is_write(&row.function) {
-            return write::expected(row);
+        if is_write(&row.function) || is_lookup(&row.function) {
+            return expected(row);
         }
         match read::part(&row.function, &row.bytes) {
             Some(part) => format!(" {}", run(&part)),
             None => read::answer(row),
         }
     }
+}
+
+/// The row of a write or a lookup, or nothing where the operation is neither.
+pub fn input(operation: &Operation) -> Option<Row> {
+    let (mut row, buffer) = match operation {
+        Operation::LookUp(bytes, ssrcs, buffer) => (lookup::input(bytes, ssrcs), &buffer[..]),
+        _ => write::input(operation)?,
+    };
+    assert!(buffer.iter().all(|byte| *byte == STALE));
+    row.numbers[0] = buffer.len() as i128;
+    Some(row)
+}
+
+/// The operation of a row that writes or looks up.
+pub fn operation(row: &Row) -> Operation {
+    if is_lookup(&row.function) {
+        return lookup::operation(row);
+    }
+    write::operation(row)
+}
+
+/// What a view of that operation shows, as the program writes it.
+pub fn answer_of(operation: &Operation, view: &View) -> String {
+    match operation {
+        Operation::LookUp(bytes, ..) => lookup::answer_of(bytes, view),
+        _ => write::answer_of(view),
+    }
+}
+
+/// The model's answer to a row that writes or looks up.
+fn expected(row: &Row) -> String {
+    let operation = operation(row);
+    answer_of(&operation, &Model.view(&operation).expect("the model"))
 }
 
 /// The lines that the program writes to the lines that it reads.

@@ -18,10 +18,9 @@
 //! `writer_add_rr_records`, whose blocks are lent as records.
 
 use super::read::refused;
-use super::{run, shown, Program, Row};
+use super::{expected, run, shown, Program, Row};
 use crate::generate::STALE;
 use crate::operation::Operation;
-use crate::side::{Model, Side};
 use crate::view::{Value, Verdict, View};
 use model::*;
 
@@ -30,9 +29,10 @@ pub fn is_write(function: &str) -> bool {
     function.ends_with("_write")
 }
 
-/// The row, or nothing where the operation is no write.
-pub fn input(operation: &Operation) -> Option<Row> {
-    let (row, buffer) = match operation {
+/// The row but for the buffer's length, and the buffer; nothing where the operation
+/// is no write.
+pub(super) fn input(operation: &Operation) -> Option<(Row, &[u8])> {
+    Some(match operation {
         Operation::Write(given, buffer) => (given_row(given), buffer),
         Operation::WriteChunk(lists, buffer) => {
             let mut row = Row::new("chunk_write", &[0, lists.ssrc.into(), 0, 0, 0], &[]);
@@ -47,11 +47,7 @@ pub fn input(operation: &Operation) -> Option<Row> {
             (row, buffer)
         }
         _ => return None,
-    };
-    assert!(buffer.iter().all(|byte| *byte == STALE));
-    let mut row = row;
-    row.numbers[0] = buffer.len() as i128;
-    Some(row)
+    })
 }
 
 fn given_row(given: &Given) -> Row {
@@ -124,7 +120,7 @@ fn put_bytes(row: &mut Row, place: usize, first: &[u8], second: &[u8]) {
 }
 
 /// The operation of a row.
-pub fn operation(row: &Row) -> Operation {
+pub(super) fn operation(row: &Row) -> Operation {
     let buffer = vec![STALE; row.number(0)];
     match row.function.as_str() {
         "chunk_write" => {
@@ -220,13 +216,8 @@ fn blocks(row: &Row, from: usize, ends: usize) -> BlockLists {
     }
 }
 
-/// The model's answer to a row that writes.
-pub(super) fn expected(row: &Row) -> String {
-    answer_of(&Model.view(&operation(row)).expect("the model"))
-}
-
 /// What a view of a write shows, as the program writes it.
-pub fn answer_of(view: &View) -> String {
+pub(super) fn answer_of(view: &View) -> String {
     let value = |wanted: &str| {
         let field = view.fields.iter().find(|(name, _)| *name == wanted);
         &field.expect("a field of that name").1
