@@ -6,6 +6,7 @@
 //! the packet's low five bits say (1, else 0), and the buffer.
 
 use super::read::refused;
+use super::write::put_list;
 use super::{run, shown, Row};
 use crate::generate::STALE;
 use crate::operation::Operation;
@@ -18,10 +19,10 @@ pub fn is_lookup(function: &str) -> bool {
     function == FUNCTION
 }
 
+/// The row but for the buffer's length.
 pub(super) fn input(bytes: &[u8], ssrcs: &[u32]) -> Row {
-    let mut row = Row::new(FUNCTION, &[0, 2 + ssrcs.len() as u64], bytes);
-    row.numbers
-        .extend(ssrcs.iter().map(|ssrc| i128::from(*ssrc)));
+    let mut row = Row::new(FUNCTION, &[0, 0], bytes);
+    put_list(&mut row, 1, ssrcs);
     row
 }
 

@@ -4,12 +4,11 @@
 //! A row is `FUNCTION NUMBER.. BYTES`: a C function without `rtcp_`, a part of a
 //! packet or of an item, `writer_set`, which sets the compound writer, or a form that
 //! lends records (`rr_records`) or holds its bytes (`held_step`). A number is
-//! decimal, and a loss below zero has its sign. Bytes are
-//! digits after an `x`, and `*N` is the last byte N times more. An answer is
-//! `NUMBER.. BYTES`: every field of a C result in its order; of a part its bytes; of
-//! a lookup its answer and the buffer with the answers; of
-//! a write what the size function and the write answer, and the buffer; of a call of
-//! the compound writer its answer, the writer after it, and the buffer.
+//! decimal, and a loss below zero has its sign. Bytes are digits after an `x`, and
+//! `*N` is the last byte N times more. An answer is `NUMBER.. BYTES`: every field of a
+//! C result in its order; of a part its bytes; of a write what the size function and
+//! the write answer, and the buffer; of a lookup its answer, and the buffer; of a call
+//! of the compound writer its answer, the writer after it, and the buffer.
 //!
 //! In the program's files a name stands before each, and the first line of the input
 //! has the functions' names.

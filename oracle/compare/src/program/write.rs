@@ -109,7 +109,7 @@ fn given_row(given: &Given) -> Row {
 }
 
 /// Puts a list after a row's numbers, and its end at a place.
-fn put_list<T: Copy + Into<i128>>(row: &mut Row, place: usize, list: &[T]) {
+pub(super) fn put_list<T: Copy + Into<i128>>(row: &mut Row, place: usize, list: &[T]) {
     row.numbers.extend(list.iter().map(|n| (*n).into()));
     row.numbers[place] = row.numbers.len() as i128;
 }

@@ -3,14 +3,14 @@
 //!     fuzz [COUNT|SECONDSs] [SEED]
 //!
 //! A case is a run of bytes and two numbers. Every reading is asked of it, every
-//! call that fills a list with lists around the right length, lookups of its chunks'
-//! SSRCs with answer buffers around the list's length, and one write and
-//! one call of the writer whose arguments are drawn from its bytes. An answer must
-//! be the model's, with everything lent in memory that ends at a closed page, and
-//! again in memory that starts at one. A case that brings a refusal, a field or a class
-//! of numbers that was not seen before is kept, and later cases are changes of
-//! kept ones. The first cases are real datagrams (`compare::captures`) and random
-//! inputs. A difference is printed, and the exit status is 1.
+//! call that fills a list with lists around the right length, lookups with answer
+//! buffers around the list's length, and one write and one call of the writer whose
+//! arguments are drawn from its bytes. An answer must be the model's, with everything
+//! lent in memory that ends at a closed page, and again in memory that starts at one. A
+//! case that brings a refusal, a field or a class of numbers that was not seen before is
+//! kept, and later cases are changes of kept ones. The first cases are real datagrams
+//! (`compare::captures`) and random inputs. A difference is printed, and the exit status
+//! is 1.
 
 mod case;
 mod change;
