@@ -5,7 +5,7 @@
 use compare::captures::captures;
 use compare::generate::{operation, Sort};
 use compare::library::Library;
-use compare::limits::lists;
+use compare::limits::{lists, NOTHING};
 use compare::operation::Operation;
 use compare::rng::Rng;
 use compare::side::{Model, Side};
@@ -100,13 +100,7 @@ fn of_real_input() {
 
 #[test]
 fn where_there_is_nothing() {
-    for bytes in [
-        &[][..],
-        &[0x80, 202, 0, 0],
-        &[0xA0, 202, 0, 1, 0, 0, 0, 4],
-        &[0x81, 202, 0, 2, 1, 2, 3, 4, 0, 0, 0, 0],
-        &[0x80, 201, 0, 1, 0, 0, 0, 1],
-    ] {
+    for bytes in NOTHING {
         for listing in Listing::ALL {
             check(listing, bytes);
         }

@@ -4,7 +4,7 @@
 use compare::captures::captures;
 use compare::generate::{operation, sources, Sort};
 use compare::library::Library;
-use compare::limits::look_ups;
+use compare::limits::{look_ups, NOTHING};
 use compare::operation::{Operation, Outcome};
 use compare::rng::Rng;
 use compare::side::{Model, Side};
@@ -88,13 +88,7 @@ fn of_real_input() {
 
 #[test]
 fn where_there_is_nothing() {
-    for bytes in [
-        &[][..],
-        &[0x80, 202, 0, 0],
-        &[0xA0, 202, 0, 1, 0, 0, 0, 4],
-        &[0x81, 202, 0, 2, 1, 2, 3, 4, 0, 0, 0, 0],
-        &[0x80, 201, 0, 1, 0, 0, 0, 1],
-    ] {
+    for bytes in NOTHING {
         for ssrcs in [&[][..], &[0], &[0, 0x0102_0304]] {
             look_ups(bytes, ssrcs, &mut |lookup| check(&lookup));
         }

@@ -9,6 +9,16 @@ pub use lookups::look_ups;
 use lookups::lookups;
 use model::*;
 
+/// No byte, and packets with nothing in them: no chunk, padding alone, a chunk
+/// without an item, a report without a block.
+pub const NOTHING: [&[u8]; 5] = [
+    &[],
+    &[0x80, 202, 0, 0],
+    &[0xA0, 202, 0, 1, 0, 0, 0, 4],
+    &[0x81, 202, 0, 2, 1, 2, 3, 4, 0, 0, 0, 0],
+    &[0x80, 201, 0, 1, 0, 0, 0, 1],
+];
+
 /// Hands every enumerated operation to `visit`, always in the same order.
 pub fn enumerate(visit: &mut dyn FnMut(Operation)) {
     headers(visit);

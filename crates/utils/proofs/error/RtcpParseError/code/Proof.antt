@@ -8,6 +8,6 @@ code-spec {M} =
     (λ c. search needs) (λ c κs. search needs) (λ c. search needs) (λ c κs. search needs) (λ c. search needs) (λ c κs. search needs)
     (λ c. search needs) (λ c. search needs) (λ c. search needs) (λ c κs. search needs) (λ c. search needs) (λ c. search needs) (λ c κs. search needs)
     (λ c. search needs) (λ c κs. search needs) (λ c. search needs) (λ c κs. search needs) (λ c. search needs) (λ c κs. search needs)
-    (λ c. search needs) (λ c. search needs) (λ c κs. search needs) (λ c. search needs) (λ c κs. search needs) (λ c. search shown) (λ c. search shown) (λ c. search shown) (λ c. search shown) (λ c. search shown)
+    (λ c. search needs) (λ c. search needs) (λ c κs. search needs) (λ c. search needs) (λ c κs. search needs) (λ c. search shown) (λ c. search shown)
     (λ c. search shown) (λ c. search shown) (λ c. search shown) (λ c. search shown) (λ c. search shown) (λ c. search shown) (λ c. search shown)
-    in tie.close answers
+    (λ c. search shown) (λ c. search shown) (λ c. search shown) in tie.close answers
