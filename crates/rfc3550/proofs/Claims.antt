@@ -61,29 +61,6 @@ pub written-reads-back : (g : Given) (l : List ℕ) (n : ℕ) → Typed g → wr
     → readAs (kindFor (packetGiven g .content)) (layout (packetGiven g)) ≡ ok (packetGiven g)
 written-reads-back g l n t e = Packets.packet-complete (packetGiven g) (Writes.write-lays g l t e .0)
 
--- ---- demand 3: the compound reader accepts exactly the datagrams that some list of packets has, and no other list has them
-
-pub accepting : (s : List ℕ) (ps : List Packet) → Bytes s → (readCompound s ≡ ok ps) ↔ (Compound ps × (layouts ps ≡ s))
-accepting s ps h = C.compound-iff s ps h
-
--- the other list need not meet the rules
-pub one-list : (ps qs : List Packet) → All Valid ps → All Valid qs → layouts ps ≡ layouts qs → ps ≡ qs
-one-list ps qs v w e = C.layouts-injective ps qs v w e
-
--- for every number of steps from a walk just opened, step i gives packet i, and 25 once all are given
-pub walking : (s : List ℕ) (ps : List Packet) → Bytes s → readCompound s ≡ ok ps
-    → (openWalk s ≡ ok 0) × ((i : ℕ) → gave (step s (walked (step s) 0 i)) ≡ nth i ps)
-walking s ps h e = W.walk-gives s ps h e
-
--- so with an SDES packet's chunks, and with a chunk's items
-pub walking-chunks : (s : List ℕ) (p : Packet) → Bytes s → readAs SDES s ≡ ok p
-    → (w : SdesWalk) × (openSdes s ≡ ok w) × ((i : ℕ) → gave (sdesStep s (walked (sdesStep s) w i)) ≡ nth i (chunksOf (p .content)))
-walking-chunks s p h e = W.sdes-walk-gives s p h e
-
-pub walking-items : (s : List ℕ) (x : Chunk × List ℕ) → Bytes s → readChunk s ≡ ok x
-    → (openItems s ≡ ok 4) × ((i : ℕ) → gave (itemStep s (walked (itemStep s) 4 i)) ≡ nth i (x .0 .items))
-walking-items s x h e = W.item-walk-gives s x h e
-
 -- ---- document 02, order 2: for each SSRC of a list the first chunk with that SSRC and a CNAME in it, or none
 
 pub looked-up : (cs : List Chunk) (ssrcs : List ℕ) (i : ℕ) → nth i (foundIn cs ssrcs) ≡ mapOk (λ (ssrc : ℕ). first (names ssrc) cs) (nth i ssrcs)
@@ -115,7 +92,28 @@ pub answers-told : (visits : ℕ) (s ssrcs l : List ℕ) (n : ℕ) → Bytes s �
     → (p : Packet) × (readAs SDES s ≡ ok p) × (n ≡ visits) × (map decoded (take (length ssrcs) (lookupWith visits s ssrcs l .1)) ≡ foundIn (chunksOf (p .content)) ssrcs)
 answers-told visits s ssrcs l n h e = Lookups.lookup-told visits s ssrcs l h e
 
--- ---- demand 3, the writer
+-- ---- demand 3: the compound reader accepts exactly the datagrams that some list of packets has, and no other list has them
+
+pub accepting : (s : List ℕ) (ps : List Packet) → Bytes s → (readCompound s ≡ ok ps) ↔ (Compound ps × (layouts ps ≡ s))
+accepting s ps h = C.compound-iff s ps h
+
+-- the other list need not meet the rules
+pub one-list : (ps qs : List Packet) → All Valid ps → All Valid qs → layouts ps ≡ layouts qs → ps ≡ qs
+one-list ps qs v w e = C.layouts-injective ps qs v w e
+
+-- for every number of steps from a walk just opened, step i gives packet i, and 25 once all are given
+pub walking : (s : List ℕ) (ps : List Packet) → Bytes s → readCompound s ≡ ok ps
+    → (openWalk s ≡ ok 0) × ((i : ℕ) → gave (step s (walked (step s) 0 i)) ≡ nth i ps)
+walking s ps h e = W.walk-gives s ps h e
+
+-- so with an SDES packet's chunks, and with a chunk's items
+pub walking-chunks : (s : List ℕ) (p : Packet) → Bytes s → readAs SDES s ≡ ok p
+    → (w : SdesWalk) × (openSdes s ≡ ok w) × ((i : ℕ) → gave (sdesStep s (walked (sdesStep s) w i)) ≡ nth i (chunksOf (p .content)))
+walking-chunks s p h e = W.sdes-walk-gives s p h e
+
+pub walking-items : (s : List ℕ) (x : Chunk × List ℕ) → Bytes s → readChunk s ≡ ok x
+    → (openItems s ≡ ok 4) × ((i : ℕ) → gave (itemStep s (walked (itemStep s) 4 i)) ≡ nth i (x .0 .items))
+walking-items s x h e = W.item-walk-gives s x h e
 
 -- for every list of the writer's calls from a fresh writer, refused ones included: each answer is the book's, after it the datagram so far is
 -- the book's packets laid end to end, and once closed it is accepted and read as exactly these
