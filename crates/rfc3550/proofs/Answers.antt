@@ -1,6 +1,6 @@
 -- Laws of answers: what an accepting do block says of its steps.
 use Rattle.rfc3550.proofs.Prelude.{ℕ, Bool, true, false, _&&_, _||_, not, _≡_, refl, sym, subst, _⊎_, inl, inr, T, leb, ltb, le-leb, lt-leb, ltb-true, ltb-false}
-use Rattle.rfc3550.specs.Answer.{Refusal, Answer, ok, refused, need, _>>=_, _>>_, mapOk}
+use Rattle.rfc3550.specs.Answer.{Refusal, refusal, Answer, ok, refused, refuse, need, _>>=_, _>>_, mapOk}
 
 -- ---- tests
 
@@ -79,3 +79,27 @@ pub then-assoc : {B : Type 0} (m n : Answer (Unit {0})) (x : Answer B) → (m >>
 unfolding _>>_
 then-assoc (ok u) n x = refl
 then-assoc (refused r) n x = refl
+
+-- ---- a number that is never answered
+
+abbrev pub Never : {A : Type 0} → ℕ → Answer A → Type 0
+Never n (ok a) = Unit {0}
+Never n (refused (refusal k first second)) = k ≡ n → ⊥
+
+pub never-refused : {A : Type 0} (n : ℕ) (a : Answer A) → Never n a → (first second : ℕ) → a ≡ refuse n first second → ⊥
+never-refused n a h first second e = subst (Never n) e h refl
+
+pub never-need : (n : ℕ) (t : Bool) (k first second : ℕ) → (k ≡ n → ⊥) → Never n (need t k first second)
+unfolding need
+never-need n true k first second h = tt
+never-need n false k first second h = h
+
+pub never-then : {B : Type 0} (n : ℕ) (m : Answer (Unit {0})) (r : Answer B) → Never n m → Never n r → Never n (m >> r)
+unfolding _>>_
+never-then n (ok u) r h k = k
+never-then n (refused (refusal k first second)) r h q = h
+
+pub never-bind : {A B : Type 0} (n : ℕ) (m : Answer A) (f : A → Answer B) → Never n m → ((a : A) → Never n (f a)) → Never n (m >>= f)
+unfolding _>>=_
+never-bind n (ok a) f h k = k a
+never-bind n (refused (refusal k first second)) f h q = h

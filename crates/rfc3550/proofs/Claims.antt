@@ -1,14 +1,17 @@
 -- What is promised to the buyer, each claim stated whole. Demand 3 comes last.
-use Rattle.rfc3550.proofs.Prelude.{ℕ, _<_, _≤_, _≡_, refl, _↔_, Bool, true, List, [], map, length, take, drop}
-use Rattle.rfc3550.specs.Answer.{Refusal, ok, refused, refuse, mapOk}
+use Rattle.rfc3550.proofs.Prelude.{ℕ, _/_, _^_, _<_, _≤_, _≡_, refl, _↔_, _⊎_, Bool, true, List, [], map, length, take, drop, ltb, lt-ltb}
+use Rattle.rfc3550.specs.Answer.{Refusal, ok, refused, refuse, mapOk, pick}
 use Rattle.rfc3550.specs.Bytes.{Bytes}
 use Rattle.rfc3550.specs.Loss.{Loss, LossFits, lossBits, lossOf, lossIn}
-use Rattle.rfc3550.specs.Packet.{Chunk, Packet, layout, layouts, chunksOf, All, Valid, Compound}
+use Rattle.rfc3550.specs.Packet.{Block, Reporter, Chunk, Packet, layout, layouts, chunksOf, All, BlockValid, Valid, Compound}
 use Rattle.rfc3550.specs.Read.{Kind, SDES, kindFor, nth, readChunk, readAs}
 use Rattle.rfc3550.specs.Compound.{readCompound}
 use Rattle.rfc3550.specs.Walk.{openWalk, step, SdesWalk, openSdes, sdesStep, openItems, itemStep, gave, walked}
 use Rattle.rfc3550.specs.Lookup.{none, at, first, names, foundIn, lookup, lookupWith, decoded}
-use Rattle.rfc3550.specs.Write.{Given, Typed, packetGiven, write}
+use Rattle.rfc3550.specs.Reception.{Reception, newReception, starts, verdict, update, blockOf, in-probation, made, reportBlock}
+use Rattle.rfc3550.specs.History.{EventTyped, afterEvents, outcomes, noStart, packetsIn, movedIn, receivedSince, blockSince}
+use Rattle.rfc3550.specs.History as History
+use Rattle.rfc3550.specs.Write.{listsOf, Given, giveReport, Typed, packetGiven, write}
 use Rattle.rfc3550.specs.Writer.{Writer, fresh, Request, add, close, call}
 use Rattle.rfc3550.specs.Book.{empty}
 use Rattle.rfc3550.specs.Calls.{Event, Made, answers, bookInput, booked, compounds}
@@ -18,6 +21,11 @@ use Rattle.rfc3550.proofs.Compounds as C
 use Rattle.rfc3550.proofs.Walks as W
 use Rattle.rfc3550.proofs.Lookups.{Passes, Fails}
 use Rattle.rfc3550.proofs.Lookups as Lookups
+use Rattle.rfc3550.proofs.Answers.{never-refused}
+use Rattle.rfc3550.proofs.Receptions.{Gave}
+use Rattle.rfc3550.proofs.Receptions as Receptions
+use Rattle.rfc3550.proofs.Histories.{LastStart}
+use Rattle.rfc3550.proofs.Histories as Histories
 use Rattle.rfc3550.proofs.Writes.{Wrote}
 use Rattle.rfc3550.proofs.Writes as Writes
 use Rattle.rfc3550.proofs.Calls as Calls
@@ -91,6 +99,39 @@ entries-past visits s ssrcs l = Lookups.lookup-stays visits s ssrcs l
 pub answers-told : (visits : ℕ) (s ssrcs l : List ℕ) (n : ℕ) → Bytes s → lookupWith visits s ssrcs l .0 ≡ ok n
     → (p : Packet) × (readAs SDES s ≡ ok p) × (n ≡ visits) × (map decoded (take (length ssrcs) (lookupWith visits s ssrcs l .1)) ≡ foundIn (chunksOf (p .content)) ssrcs)
 answers-told visits s ssrcs l n h e = Lookups.lookup-told visits s ssrcs l h e
+
+-- ---- document 02, order 3: reception figures
+
+-- a source in probation gets no block, is said to be so, and stays as it was
+pub probation-said : (s : Reception) (ssrc lsr dlsr : ℕ) → 0 < s .probation → reportBlock s ssrc lsr dlsr ≡ (in-probation, s)
+unfolding reportBlock
+probation-said s ssrc lsr dlsr h = rw (lt-ltb 0 (s .probation) h)
+
+-- every history from the first packet on is in probation and has no start, or has a last start
+pub last-start : (seq : ℕ) (es : List History.Event)
+    → ((0 < afterEvents (newReception seq) es .probation) × (noStart (outcomes (newReception seq) es) ≡ true)) ⊎ LastStart (newReception seq) es
+last-start seq es = Histories.history seq es
+
+-- since a start, whatever the state before it, fewer than 2^31 packets came and the sequence moved by fewer than 2^31: then received is the number of
+-- packets that A.1 accepts from the starting one on, and the block has the figures of A.3 over exact integers
+pub figures : (s : Reception) (seq timestamp arrival : ℕ) → seq < 65536 → verdict s seq ≡ starts → (es : List History.Event) → All EventTyped es
+    → noStart (outcomes (update s seq timestamp arrival .0) es) ≡ true
+    → packetsIn (outcomes (update s seq timestamp arrival .0) es) < 2147483648 → movedIn (outcomes (update s seq timestamp arrival .0) es) < 2147483648
+    → (ssrc lsr dlsr : ℕ)
+    → (afterEvents (update s seq timestamp arrival .0) es .received ≡ receivedSince (outcomes (update s seq timestamp arrival .0) es))
+    × (reportBlock (afterEvents (update s seq timestamp arrival .0) es) ssrc lsr dlsr .0
+    ≡ made (blockSince seq (outcomes (update s seq timestamp arrival .0) es) (afterEvents (update s seq timestamp arrival .0) es .jitter / 16) ssrc lsr dlsr))
+figures s seq timestamp arrival h e es t z few near ssrc lsr dlsr = Histories.figures s seq timestamp arrival h e es t z few near ssrc lsr dlsr
+
+-- with no supposition: a report of blocks that any states gave is never refused by 17, alone or by the compound writer, and each block is valid
+pub blocks-written : (r : Reporter) (bs : List Block) (k : ℕ) → All Gave bs → (l : List ℕ) (first second : ℕ) → write (giveReport r (listsOf bs) k) l .0 ≡ refuse 17 first second → ⊥
+blocks-written r bs k h l first second e = never-refused 17 _ (Receptions.write-never r bs k h l) first second e
+
+pub blocks-added : (r : Reporter) (bs : List Block) (k : ℕ) → All Gave bs → (w : Writer) (l : List ℕ) (first second : ℕ) → call (add (giveReport r (listsOf bs) k)) w l .0 ≡ refuse 17 first second → ⊥
+blocks-added r bs k h w l first second e = never-refused 17 _ (Receptions.call-never r bs k h w l) first second e
+
+pub block-valid : (s : Reception) (ssrc lsr dlsr : ℕ) → s .jitter < 256 ^ 4 → ssrc < 256 ^ 4 → lsr < 256 ^ 4 → dlsr < 256 ^ 4 → BlockValid (blockOf s ssrc lsr dlsr)
+block-valid s ssrc lsr dlsr j a b c = Receptions.block-valid s ssrc lsr dlsr j a b c
 
 -- ---- demand 3: the compound reader accepts exactly the datagrams that some list of packets has, and no other list has them
 

@@ -14,6 +14,8 @@ pub mod Writes
 pub mod Books
 pub mod Calls
 pub mod Returned
+pub mod Receptions
+pub mod Histories
 pub mod Places
 pub mod Rows
 pub mod Computes

@@ -8,6 +8,8 @@ pub mod Write
 pub mod Compound
 pub mod Walk
 pub mod Lookup
+pub mod Reception
+pub mod History
 pub mod Writer
 pub mod Book
 pub mod Calls
