@@ -1,0 +1,2 @@
+pub mod Reception
+pub mod Returned
