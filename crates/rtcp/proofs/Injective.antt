@@ -53,7 +53,7 @@ module _ {A R : Type 0} (result : Answer A → R) (value : R → A) (numbers : R
   by-fields : Injective result
   by-fields a b n m e = sym (from-back a n) ∙ ap (λ (r : R). answerFrom (numbers r) (value r)) e ∙ from-back b m
 
-bit-back : (b : Bool) → eqb (bit b) 1 ≡ b
+pub bit-back : (b : Bool) → eqb (bit b) 1 ≡ b
 bit-back true = refl
 bit-back false = refl
 

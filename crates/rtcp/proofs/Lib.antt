@@ -10,6 +10,7 @@ pub mod WriteReports
 pub mod WriteCalls
 pub mod Nonzero
 pub mod Lookups
+pub mod Receives
 pub mod Returned
 pub mod Handed
 pub mod Places

@@ -4,6 +4,8 @@ pub mod App
 pub mod Bye
 pub mod Sdes
 pub mod Lookup
+pub mod Receive
+pub mod Received
 pub mod Compound
 pub mod WriteResult
 pub mod WriteCompound

@@ -6,6 +6,7 @@ pub mod read_items;
 pub mod read_lookup;
 pub mod read_report;
 pub mod read_sdes;
+pub mod receive;
 pub mod result;
 pub mod write_app;
 pub mod write_bye;

@@ -62,7 +62,7 @@ pub struct RtcpSr {
 }
 
 impl RtcpBlock {
-    fn from_parsed(parsed: ParsedReportBlock) -> RtcpBlock
+    pub fn from_parsed(parsed: ParsedReportBlock) -> RtcpBlock
         ensures { λ r. ⌜ r ≡ blockResult (parsedBlockOf parsed) ⌝ }
     {
         match parsed {
