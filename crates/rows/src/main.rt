@@ -7,6 +7,7 @@ mod lend;
 mod lists;
 mod print;
 mod read;
+mod receive;
 mod text;
 mod write;
 
@@ -38,6 +39,8 @@ fn row(
     let room = lists::limited(lists::at(n, 0), out);
     if op < 37 {
         read::row(op, &space[..len], lists::at(n, 0), lists::at(n, 1));
+    } else if 56 < op {
+        receive::row(op, w);
     } else {
         write::row(op, state, &mut out[..room], n, w, l, &space[..len]);
     }

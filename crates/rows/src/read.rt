@@ -21,13 +21,17 @@ use sdes::sdes::Sdes;
 use sdes_chunk::item::ParsedItem;
 use sdes_chunk::item::SdesItem;
 
-fn block(r: RtcpBlock) {
-    three(r.number, r.first, r.second);
+pub fn figures(r: RtcpBlock) {
     two(r.ssrc, r.fraction_lost);
     signed(r.cumulative_lost);
     two(r.extended_sequence_number, r.interarrival_jitter);
     one(r.last_sender_report_timestamp);
     one(r.delay_since_last_sender_report_timestamp);
+}
+
+pub fn block(r: RtcpBlock) {
+    three(r.number, r.first, r.second);
+    figures(r);
 }
 
 // 0 block_parse, 1 rr_report_block, 2 sr_report_block, 3 rr_parse, 4 sr_parse.
