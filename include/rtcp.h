@@ -1,4 +1,4 @@
-/* RTCP (RFC 3550): reading and writing SR, RR, SDES, BYE and APP packets, and datagrams of them.
+/* RTCP (RFC 3550): reading and writing SR, RR, SDES, BYE and APP packets, and datagrams of them; what a receiver counts of a source's RTP packets.
 
    Link librtcp.a. Every function is total: whatever the bytes and numbers, if the pointers are valid for their lengths, it returns, and reads and
    writes nothing but what it is lent. Nothing is kept between calls, so calls may run at the same time.
@@ -7,8 +7,9 @@
    not overlap anything else that it is lent.
 
    Answers: number is 0 where the call is done. Else it is a refusal of docs/REFUSALS.md with its details in first and second; then every other
-   number is 0, but a walk, which is the one that went in, and a writer, a buffer or a list that was lent is as it was. Every number of an
-   answer is a uint64_t, but for cumulative_lost, an int32_t.
+   number is 0, but a walk, which is the one that went in, and a writer, a buffer or a list that was lent is as it was. The reception figures have no
+   refusal. Every number of an answer is a uint64_t, but for cumulative_lost, an int32_t, and the numbers of a reception, which are as wide as in
+   RFC 3550.
 
    Parts: an offset and a length in the caller's own bytes. Nothing is copied. A part that is not there has length 0.
 
@@ -196,6 +197,68 @@ struct RtcpRr rtcp_rr_read(const uint8_t *s, size_t len, uint8_t *fractions, siz
      struct RtcpSr sr = rtcp_sr_read(packet, len, fractions, 31, losses, 31, words, 31 * 5); */
 struct RtcpSr rtcp_sr_read(const uint8_t *s, size_t len, uint8_t *fractions, size_t fractions_len, int32_t *losses, size_t losses_len,
                            uint32_t *words, size_t words_len);
+
+/* ---- reception figures ---- */
+
+/* What a receiver keeps of one source: the state of RFC 3550 A.1, A.3 and A.8, in the RFC's names and widths. The caller keeps one for each source,
+   hands it in at each call and keeps the one that comes back.
+     max_seq          the highest sequence number; in probation the last one
+     cycles           65,536 for each time that it wrapped; cycles + max_seq is the extended sequence number
+     base_seq         the sequence number of the starting packet: the one that ended probation, or the last that restarted the source
+     bad_seq          the sequence number at which a large jump restarts the source; 65,537 where there is none
+     probation        how many packets in order are still wanted; 0 where the source is out of probation
+     received         the packets accepted from the starting one on, late and duplicate ones too
+     expected_prior   how many were expected, and
+     received_prior   how many received, when the last block was made; 0 where none was since the starting packet
+     transit          arrival less timestamp, of the last packet accepted
+     jitter           sixteen times the interarrival jitter
+   The two bytes after max_seq belong to no field, so compare two of them field by field. */
+struct RtcpReception {
+    uint16_t max_seq;
+    uint32_t cycles;
+    uint32_t base_seq;
+    uint32_t bad_seq;
+    uint32_t probation;
+    uint32_t received;
+    uint32_t expected_prior;
+    uint32_t received_prior;
+    uint32_t transit;
+    uint32_t jitter;
+};
+
+/* The reception after a packet. accepted is 1 where A.1 accepts the packet as valid, else 0. */
+struct RtcpReceptionUpdate {
+    struct RtcpReception reception;
+    uint64_t accepted;
+};
+
+/* The reception after a block, and the block, as the calls that write take it. in_probation is 1 where the source is in probation: no two packets in
+   order came from it yet. Then there is no block to write: every number of block is 0, and the reception is the one that went in. */
+struct RtcpReceptionBlock {
+    struct RtcpReception reception;
+    uint64_t in_probation;
+    struct RtcpBlock block;
+};
+
+/* The reception of a source, from the sequence number of its first packet, which is not counted by this: it goes through rtcp_reception_update as every
+   other packet does.
+     struct RtcpReception source = rtcp_reception_new(seq); */
+struct RtcpReception rtcp_reception_new(uint16_t seq);
+
+/* A packet of the source: its sequence number, its RTP timestamp, and when it arrived, by a clock of the receiver's that counts in the units of the
+   timestamp from any start and wraps at 2^32. Only a packet that is accepted counts for the jitter; the one that ends probation only sets the transit.
+     struct RtcpReceptionUpdate u = rtcp_reception_update(source, seq, timestamp, arrival);
+     source = u.reception; */
+struct RtcpReceptionUpdate rtcp_reception_update(struct RtcpReception reception, uint16_t seq, uint32_t timestamp, uint32_t arrival);
+
+/* The block about the source, for a report that is sent now. Its fraction lost counts from the last block or, where that is later, from the starting
+   packet. Its cumulative lost is held between RTCP_MIN_LOST and RTCP_MAX_LOST, so no call that writes it refuses it. The caller gives what it knows of
+   the source's last sender report: the middle 32 bits of its NTP time, and the time since it came in 65,536ths of a second; 0 and 0 where none came.
+     struct RtcpReceptionBlock r = rtcp_reception_report_block(source, ssrc, last_sr, delay);
+     source = r.reception;
+     if (!r.in_probation) c = rtcp_writer_add_rr_blocks(&w, buf, sizeof buf, own_ssrc, &r.block, 1); */
+struct RtcpReceptionBlock rtcp_reception_report_block(struct RtcpReception reception, uint32_t ssrc, uint32_t last_sender_report_timestamp,
+                                                      uint32_t delay_since_last_sender_report_timestamp);
 
 /* ---- APP ---- */
 

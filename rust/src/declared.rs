@@ -1,5 +1,5 @@
-// The structs and the functions of include/rtcp.h, for the macros `results` and `functions` of whoever includes this file. A function stands with
-// its symbol.
+// The structs and the functions of include/rtcp.h, for the macros `results` and `functions` of whoever includes this file. A struct that does not
+// start with number, first and second is declared as it is. A function stands with its symbol.
 
 results! {
     RtcpBlock {
@@ -49,6 +49,39 @@ results! {
     RtcpCall {}
 }
 
+/// What a receiver keeps of a source.
+#[repr(C)]
+#[derive(Clone, Copy, Debug, Default, PartialEq, Eq)]
+pub struct RtcpReception {
+    pub max_seq: u16,
+    pub cycles: u32,
+    pub base_seq: u32,
+    pub bad_seq: u32,
+    pub probation: u32,
+    pub received: u32,
+    pub expected_prior: u32,
+    pub received_prior: u32,
+    pub transit: u32,
+    pub jitter: u32,
+}
+
+/// The reception after a packet.
+#[repr(C)]
+#[derive(Clone, Copy, Debug, PartialEq, Eq)]
+pub struct RtcpReceptionUpdate {
+    pub reception: RtcpReception,
+    pub accepted: u64,
+}
+
+/// The reception after a block, and the block.
+#[repr(C)]
+#[derive(Clone, Copy, Debug, PartialEq, Eq)]
+pub struct RtcpReceptionBlock {
+    pub reception: RtcpReception,
+    pub in_probation: u64,
+    pub block: RtcpBlock,
+}
+
 /// The state of a compound writer.
 #[repr(C)]
 #[derive(Clone, Copy, Debug, Default, PartialEq, Eq)]
@@ -77,6 +110,14 @@ functions! {
     "rtcp_sr_read" rtcp_sr_read(
         s: &[u8], fractions: &mut [u8], losses: &mut [i32], words: &mut [u32]
     ) -> RtcpSr;
+    "rtcp_reception_new" rtcp_reception_new(seq: u16) -> RtcpReception;
+    "rtcp_reception_update" rtcp_reception_update(
+        reception: RtcpReception, seq: u16, timestamp: u32, arrival: u32
+    ) -> RtcpReceptionUpdate;
+    "rtcp_reception_report_block" rtcp_reception_report_block(
+        reception: RtcpReception, ssrc: u32, last_sender_report_timestamp: u32,
+        delay_since_last_sender_report_timestamp: u32
+    ) -> RtcpReceptionBlock;
     "rtcp_app_parse" rtcp_app_parse(s: &[u8]) -> RtcpApp;
     "rtcp_bye_parse" rtcp_bye_parse(s: &[u8]) -> RtcpBye;
     "rtcp_bye_source" rtcp_bye_source(s: &[u8], i: u64) -> RtcpSource;
