@@ -41,6 +41,9 @@
 //! assert_eq!(datagram.write_into(&mut buf)?, 24);
 //! # Ok::<(), bokyjave::RtcpWriteError>(())
 //! ```
+//!
+//! The blocks of a report about the RTP packets that came are counted by a
+//! [`Reception`] for each source.
 
 #![deny(unsafe_code)]
 #![deny(missing_docs)]
@@ -91,6 +94,7 @@ mod compound;
 mod error;
 #[allow(unsafe_code)]
 mod ffi;
+mod reception;
 mod report;
 mod sdes;
 mod writer;
@@ -99,6 +103,7 @@ pub use app::{App, AppBuilder};
 pub use bye::{Bye, ByeBuilder, Sources};
 pub use compound::{Compound, Packet, Unknown};
 pub use error::{RtcpParseError, RtcpWriteError};
+pub use reception::Reception;
 pub use report::{
     ReceiverReport, ReceiverReportBuilder, ReportBlock, ReportBlockBuilder, ReportBlocks,
     SenderReport, SenderReportBuilder,

@@ -97,10 +97,11 @@ macro_rules! build_report {
                 self
             }
 
-            /// Adds a report block.
+            /// Adds a report block, given by a builder or as it was read or counted
+            /// ([`Reception::report_block`](crate::Reception::report_block)).
             #[inline]
-            pub fn add_report_block(mut self, report_block: ReportBlockBuilder) -> Self {
-                self.blocks.push(&report_block);
+            pub fn add_report_block(mut self, block: impl Into<ReportBlockBuilder>) -> Self {
+                self.blocks.push(&block.into());
                 self
             }
         }
@@ -264,7 +265,7 @@ impl ReportBlock {
     pub const EXPECTED_SIZE: usize = 24;
 
     #[inline]
-    fn of(block: ffi::RtcpBlock) -> Self {
+    pub(crate) fn of(block: ffi::RtcpBlock) -> Self {
         ReportBlock {
             ssrc: block.ssrc as u32,
             fraction_lost: block.fraction_lost as u8,
@@ -364,6 +365,23 @@ pub struct ReportBlockBuilder {
     cumulative_lost: i32,
     /// The other fields in the order of the block.
     words: [u32; 5],
+}
+
+impl From<ReportBlock> for ReportBlockBuilder {
+    #[inline]
+    fn from(block: ReportBlock) -> Self {
+        ReportBlockBuilder {
+            fraction_lost: block.fraction_lost,
+            cumulative_lost: block.cumulative_lost,
+            words: [
+                block.ssrc,
+                block.extended_sequence_number,
+                block.interarrival_jitter,
+                block.last_sender_report_timestamp,
+                block.delay_since_last_sender_report_timestamp,
+            ],
+        }
+    }
 }
 
 impl ReportBlockBuilder {
