@@ -186,6 +186,85 @@ struct RtcpWritten rtcp_compound_packets(const uint8_t *s, size_t len, uint64_t 
     return (struct RtcpWritten){0, 0, 0, n};
 }
 
+/* ---- reception figures ---- */
+
+/* The text of RFC 3550 A.1, with the successor in probation modulo 65,536. */
+static inline void init_seq(struct RtcpReception *s, uint16_t seq) {
+    s->base_seq = seq;
+    s->max_seq = seq;
+    s->bad_seq = 65536 + 1;
+    s->cycles = 0;
+    s->received = 0;
+    s->received_prior = 0;
+    s->expected_prior = 0;
+}
+
+static inline int in_probation(struct RtcpReception *s, uint16_t seq, uint16_t udelta) {
+    s->max_seq = seq;
+    s->probation = udelta == 1 ? s->probation - 1 : 1;
+    if (s->probation != 0) return 0;
+    init_seq(s, seq);
+    s->received++;
+    return 1;
+}
+
+static inline int update_seq(struct RtcpReception *s, uint16_t seq) {
+    uint16_t udelta = (uint16_t)(seq - s->max_seq);
+    if (s->probation != 0) return in_probation(s, seq, udelta);
+    if (LIKELY(udelta < 3000)) {
+        if (seq < s->max_seq) s->cycles += 65536;
+        s->max_seq = seq;
+    } else if (udelta <= 65536 - 100) {
+        if (seq != s->bad_seq) {
+            s->bad_seq = (seq + 1u) & 65535;
+            return 0;
+        }
+        init_seq(s, seq);
+    }
+    s->received++;
+    return 1;
+}
+
+struct RtcpReception rtcp_reception_new(uint16_t seq) {
+    struct RtcpReception s = {.probation = 2};
+    init_seq(&s, seq);
+    s.max_seq--;
+    return s;
+}
+
+/* A.8 */
+struct RtcpReceptionUpdate rtcp_reception_update(struct RtcpReception s, uint16_t seq, uint32_t timestamp, uint32_t arrival) {
+    uint32_t starts = s.probation, transit = arrival - timestamp, d = transit - s.transit;
+    if (!update_seq(&s, seq)) return (struct RtcpReceptionUpdate){s, 0};
+    s.transit = transit;
+    if ((int32_t)d < 0) d = -d;
+    if (LIKELY(starts == 0)) s.jitter += d - ((s.jitter + 8) >> 4);
+    return (struct RtcpReceptionUpdate){s, 1};
+}
+
+static inline uint32_t fraction_of(int32_t lost, uint32_t expected) {
+    if (expected == 0 || lost <= 0) return 0;
+    uint64_t fraction = ((uint64_t)lost << 8) / expected;
+    return fraction > 255 ? 255 : (uint32_t)fraction;
+}
+
+static inline int32_t clamped(int32_t lost) {
+    if (lost > RTCP_MAX_LOST) return RTCP_MAX_LOST;
+    return lost < RTCP_MIN_LOST ? RTCP_MIN_LOST : lost;
+}
+
+/* A.3 */
+struct RtcpReceptionBlock rtcp_reception_report_block(struct RtcpReception s, uint32_t ssrc, uint32_t last_sr, uint32_t delay) {
+    if (s.probation != 0) return (struct RtcpReceptionBlock){.reception = s, .in_probation = 1};
+    uint32_t extended_max = s.cycles + s.max_seq, expected = extended_max - s.base_seq + 1;
+    uint32_t expected_interval = expected - s.expected_prior, received_interval = s.received - s.received_prior;
+    uint32_t fraction = fraction_of((int32_t)(expected_interval - received_interval), expected_interval);
+    s.expected_prior = expected;
+    s.received_prior = s.received;
+    return (struct RtcpReceptionBlock){
+        s, 0, {0, 0, 0, ssrc, fraction, clamped((int32_t)(expected - s.received)), extended_max, s.jitter >> 4, last_sr, delay}};
+}
+
 /* ---- walks ---- */
 
 /* The end of the chunk at the start of the bytes, 0 where it is refused; cname is left as the place of its first CNAME. */

@@ -160,6 +160,29 @@ static uint64_t lookup_walks31(void) {
     return sum;
 }
 
+/* A source in the middle of its stream, and what its host keeps of it. The packets come in order, in turn 10 units early and 10 late, at which the
+   jitter stays as it is. */
+static struct RtcpReception source = {30000, 65536, 20000, 65537, 0, 75000, 70000, 69900, 10, 160};
+static uint32_t timestamp, late;
+
+static uint64_t reception_update(void) {
+    struct RtcpReceptionUpdate u = rtcp_reception_update(source, (uint16_t)(source.max_seq + 1), timestamp, timestamp + late);
+    timestamp += 160;
+    late = 10 - late;
+    source = u.reception;
+    return u.accepted + source.jitter;
+}
+
+/* A block of it, always from the same state: some packets were lost since the last block. */
+static uint64_t reception_block(void) {
+    static struct RtcpReception kept;
+    struct RtcpReceptionBlock r = rtcp_reception_report_block(source, 7, 8, 9);
+    const struct RtcpBlock *b = &r.block;
+    kept = r.reception;
+    return r.in_probation + kept.expected_prior + kept.received_prior + b->ssrc + b->fraction_lost + (uint32_t)b->cumulative_lost +
+           b->extended_sequence_number + b->interarrival_jitter + b->last_sender_report_timestamp + b->delay_since_last_sender_report_timestamp;
+}
+
 static struct RtcpWritten sdes_written(uint8_t *buf, size_t room, const struct Input *in) {
     return rtcp_sdes_write(buf, room, in->ssrcs, in->n_chunks, in->counts, in->n_chunks, in->types, in->n_items, in->prefixes,
                            in->n_items, in->lengths, in->n_items, in->text, in->text_len, in->padding);
@@ -205,5 +228,6 @@ const struct Operation operations[] = {
     {"write-compound", write_compound, &rrsdes},
     {"parse-padded", parse_padded, &padded}, {"parse-priv31", parse_priv31, &priv31},
     {"write-padded", write_padded, &padded}, {"write-priv31", write_priv31, &priv31},
+    {"reception-update", reception_update, NULL}, {"reception-block", reception_block, NULL},
     {NULL, NULL, NULL},
 };

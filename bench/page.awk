@@ -1,7 +1,7 @@
 # Writes docs/PERFORMANCE.md from the lines of bench/run: what, operation, side, value.
 BEGIN {
     FS = "\t"
-    n_ops = split("parse-rrsdes parse-sr31 parse-sdes31 walk-rrsdes walk-sdes31 lookup-sdes31 lookup-back31 lookup-walks31 parse-padded parse-priv31 write-rrsdes write-sr31 write-sdes31 write-compound write-padded write-priv31", ops, " ")
+    n_ops = split("parse-rrsdes parse-sr31 parse-sdes31 walk-rrsdes walk-sdes31 lookup-sdes31 lookup-back31 lookup-walks31 parse-padded parse-priv31 write-rrsdes write-sr31 write-sdes31 write-compound write-padded write-priv31 reception-update reception-block", ops, " ")
     title["parse-rrsdes"] = "read RR+SDES"; title["parse-sr31"] = "read SR, 31 blocks"; title["parse-sdes31"] = "read SDES, 31 chunks"
     title["walk-rrsdes"] = "walk RR+SDES"; title["walk-sdes31"] = "walk SDES, 31 chunks"
     title["lookup-sdes31"] = "look up 30 SSRCs, SDES, 31 chunks"; title["lookup-back31"] = "the same, the last chunk first"
@@ -10,6 +10,7 @@ BEGIN {
     title["write-rrsdes"] = "write RR+SDES"; title["write-sr31"] = "write SR, 31 blocks"; title["write-sdes31"] = "write SDES, 31 chunks"
     title["write-compound"] = "write RR+SDES by a compound writer"
     title["write-padded"] = "write RR+SDES, padded"; title["write-priv31"] = "write SDES, 31 PRIV items"
+    title["reception-update"] = "count an RTP packet"; title["reception-block"] = "fill a report block"
     n_peers = split("rtcp-types gstreamer libre pion", peers, " ")
     n_counted = split("ours bokyjave bokyjave-builder rtcp-types rtcp-types-builder rtcp-types-lto gstreamer libre pion", counted, " ")
     n_timed = split("bokyjave bokyjave-builder rtcp-types rtcp-types-builder rtcp-types-lto gstreamer libre pion", timed, " ")
@@ -161,6 +162,9 @@ END {
     print "- RR and SDES are written packet after packet, and once more by a compound writer: ours holds the rules of a compound, rtcp-types' own (its"
     print "  compound builder, made before the loop) only that padding comes last. pion writes a datagram by its compound in any case, which holds the rules;"
     print "  GStreamer and libre have none."
+    print "- 'count an RTP packet' is one call of `rtcp_reception_update` for a packet in order, in the middle of a stream, and keeping what it returns; 'fill a report"
+    print "  block' one call of `rtcp_reception_report_block`, with packets lost since the last block. By hand it is the RFC's own text of A.1, A.8 and A.3, with the"
+    print "  same arguments. No peer has such a function among those that are linked here; our crate's two methods each make the one call."
     print "- GStreamer reads and writes buffers made before the loop. Beyond one chunk it writes wrong bytes."
     print "- libre and pion allocate what they read; pion also what it writes, libre writes into a buffer made before the loop."
     print ""
