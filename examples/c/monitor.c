@@ -216,16 +216,21 @@ static int print_report(void) {
     return size == 0;
 }
 
-/* The losses, and the participants whose name is known. */
-static void print_lists(void) {
+static void print_losses(void) {
     for (const struct Source *s = sources; s < sources + n_sources; s++)
         if (s->has_loss) printf("loss of %08x: %u/256, %d in all\n", (unsigned)s->ssrc, (unsigned)s->fraction, (int)s->lost);
-    for (const struct Source *s = sources; s < sources + n_sources; s++) {
-        if (!s->joined || !s->named) continue;
-        printf("participant %08x: ", (unsigned)s->ssrc);
-        for (size_t k = 0; k < s->len; k++) putchar(s->cname[k] >= 0x20 && s->cname[k] < 0x7F ? s->cname[k] : '?');
-        printf("\n");
-    }
+}
+
+static void print_name(const struct Source *s) {
+    printf("participant %08x: ", (unsigned)s->ssrc);
+    for (size_t i = 0; i < s->len; i++) putchar(s->cname[i] >= 0x20 && s->cname[i] < 0x7F ? s->cname[i] : '?');
+    printf("\n");
+}
+
+/* Those whose name is known. */
+static void print_participants(void) {
+    for (const struct Source *s = sources; s < sources + n_sources; s++)
+        if (s->joined && s->named) print_name(s);
 }
 
 /* ---- lines ---- */
@@ -291,6 +296,7 @@ static int take(const char *given) {
 int main(int argc, char **argv) {
     int status = take(argc > 1 ? argv[1] : NULL);
     if (status != 0) return status;
-    print_lists();
+    print_losses();
+    print_participants();
     return print_report();
 }

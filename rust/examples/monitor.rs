@@ -204,12 +204,15 @@ impl Monitor {
         Ok(())
     }
 
-    /// The losses, and the participants whose name is known.
-    fn print_lists(&self) {
+    fn print_losses(&self) {
         for (ssrc, block) in &self.meter {
             let (fraction, lost) = (block.fraction_lost(), block.cumulative_lost());
             println!("loss of {ssrc:08x}: {fraction}/256, {lost} in all");
         }
+    }
+
+    /// Those whose name is known.
+    fn print_participants(&self) {
         for (ssrc, cname) in &self.participants {
             let Some(cname) = cname else {
                 continue;
@@ -247,7 +250,8 @@ fn run(given: Option<&str>) -> Result<(), Box<dyn Error>> {
             .try_for_each(|line| monitor.take_line(&line?))?,
         Some(hex) => monitor.take_datagram(hex)?,
     }
-    monitor.print_lists();
+    monitor.print_losses();
+    monitor.print_participants();
     monitor.print_report()
 }
 
