@@ -1,4 +1,4 @@
-//! Document 01 in Rust, with orders 1 and 2 of document 02: what every operation
+//! Document 01 in Rust, with orders 1 to 3 of document 02: what every operation
 //! answers, on every input. docs/PROTOCOL.md says the same in our own words.
 //!
 //! The text follows the documents and nothing else. It is meant to be held
@@ -11,6 +11,7 @@ mod list;
 mod lookup;
 mod packet;
 mod read;
+mod reception;
 mod refusal;
 mod walk;
 mod write;
@@ -26,6 +27,7 @@ pub use read::{
     check_header, read_as, read_block, read_block_at, read_chunk, read_item, read_prefix,
     read_source_at,
 };
+pub use reception::{Event, ExactReception, Phase, Place, Receive, Reception, Reply, Since};
 pub use refusal::{Answer, Refusal};
 pub use walk::{item_step, open, open_items, open_sdes, sdes_step, step, SdesWalk, SDES_LIMIT};
 pub use write::{
