@@ -369,7 +369,7 @@ fn jitter(before: u32, difference: u32) -> u32 {
     };
     let transit = 4_000_000_000u32.wrapping_add(difference);
     let mut exact = ExactReception::new(0);
-    [0, 1].map(|seq| exact.update(seq, 0, 0));
+    assert_eq!([0, 1].map(|seq| exact.update(seq, 0, 0)), [false, true]);
     (exact.transit, exact.jitter) = (state.transit.into(), before.into());
     assert!(state.update(1, 4_294_967_000, transit.wrapping_add(4_294_967_000)));
     assert!(exact.update(1, 4_294_967_000, transit.wrapping_add(4_294_967_000)));
@@ -644,7 +644,7 @@ fn any_counts() {
 /// A source since whose start so much came.
 fn since(came: i128, accepted: i128, moved: i128) -> ExactReception {
     let mut exact = ExactReception::new(0);
-    [0, 1].map(|seq| exact.update(seq, 0, 0));
+    assert_eq!([0, 1].map(|seq| exact.update(seq, 0, 0)), [false, true]);
     if let Phase::Valid(since) = &mut exact.phase {
         (since.came, since.accepted, since.moved) = (came, accepted, moved);
     }
