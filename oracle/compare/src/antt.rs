@@ -28,7 +28,7 @@ const UNFOLDING: &str = "need _>>=_ mapOk _>>_ firstFault turn be val put get su
 const ROWS: usize = 40;
 
 /// A module of equations, as a file of a crate's proofs. There is none of a call that
-/// fills a list, nor of a lookup.
+/// fills a list, of a lookup, nor of reception figures.
 pub fn module(operations: impl Iterator<Item = Operation>) -> String {
     let equations: Vec<String> = operations
         .filter_map(|operation| equation(&operation, &operation.modelled()))
@@ -51,7 +51,7 @@ fn equation(operation: &Operation, outcome: &Outcome) -> Option<String> {
     Some(format!(
         "{} ≡ {}",
         left(operation)?,
-        right(operation, outcome)
+        right(operation, outcome)?
     ))
 }
 
@@ -267,7 +267,11 @@ fn left(operation: &Operation) -> Option<String> {
         Operation::ItemStep(bytes, position) => {
             format!("itemStep {} {position}", numbers(bytes))
         }
-        Operation::List(..) | Operation::LookUp(..) => return None,
+        Operation::List(..)
+        | Operation::LookUp(..)
+        | Operation::NewReception(_)
+        | Operation::Receive(..)
+        | Operation::History(..) => return None,
         Operation::Write(g, buffer) => format!("write {} {}", given(g), numbers(buffer)),
         Operation::WriteChunk(lists, buffer) => format!(
             "writeChunk {} {} {} {} {} {}",
@@ -301,9 +305,9 @@ fn left(operation: &Operation) -> Option<String> {
     })
 }
 
-fn right(operation: &Operation, outcome: &Outcome) -> String {
+fn right(operation: &Operation, outcome: &Outcome) -> Option<String> {
     let unit = |_: &()| "tt".to_string();
-    match outcome {
+    Some(match outcome {
         Outcome::Packet(a) => answer(a, |p| format!("({})", packet(p))),
         Outcome::Block(a) => answer(a, |b| format!("({})", block(b))),
         Outcome::Item(a) => answer(a, |(i, used)| {
@@ -342,7 +346,8 @@ fn right(operation: &Operation, outcome: &Outcome) -> String {
         }
         Outcome::Closed(a, w) => format!("({}, {}, [])", answer(a, unit), writer(w)),
         Outcome::Turned(a, b) => format!("({}, {})", answer(a, unit), book(b)),
-    }
+        Outcome::Received(..) => return None,
+    })
 }
 
 /// The definitions give the bytes after a lone part, not their number.

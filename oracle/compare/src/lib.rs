@@ -5,10 +5,12 @@ pub mod antt;
 pub mod calls;
 pub mod captures;
 pub mod generate;
+pub mod histories;
 pub mod library;
 pub mod limits;
 pub mod operation;
 pub mod program;
+pub mod reception;
 pub mod rng;
 pub mod rows;
 #[cfg(rtcp_types)]

@@ -1,6 +1,7 @@
 //! Every operation with its input, and what it gives.
 
 use model::*;
+use std::slice::from_ref;
 
 #[derive(Clone, Debug, PartialEq, Eq, Hash)]
 pub enum Operation {
@@ -29,10 +30,14 @@ pub enum Operation {
     Add(Writer, Given, Vec<u8>),
     Close(Writer),
     Turn(Book, Call),
+    NewReception(u16),
+    Receive(Reception, Event),
+    /// The number that a reception is set up with, and what comes to it.
+    History(u16, Vec<Event>),
 }
 
 /// What an operation gives. A write also leaves a buffer, a filling a list, a lookup
-/// its answers, a call also a writer or a book.
+/// its answers, a call also a writer or a book, an event also a reception.
 #[derive(Clone, Debug, PartialEq, Eq, Hash)]
 pub enum Outcome {
     Packet(Answer<Packet>),
@@ -54,6 +59,8 @@ pub enum Outcome {
     Added(Answer<()>, Writer, Vec<u8>),
     Closed(Answer<()>, Writer),
     Turned(Answer<()>, Book),
+    /// The replies to the events, and the state at their end.
+    Received(Vec<Reply>, Reception),
 }
 
 impl Operation {
@@ -94,6 +101,10 @@ impl Operation {
             Operation::Add(..) => "add",
             Operation::Close(_) => "close",
             Operation::Turn(..) => "turn",
+            Operation::NewReception(_) => "new reception",
+            Operation::Receive(_, Event::Packet { .. }) => "reception update",
+            Operation::Receive(_, Event::Block { .. }) => "reception block",
+            Operation::History(..) => "reception history",
         }
     }
 
@@ -167,8 +178,17 @@ impl Operation {
                 let mut book = book.clone();
                 Outcome::Turned(book.turn(call), book)
             }
+            Operation::NewReception(seq) => received(Reception::new(*seq), &[]),
+            Operation::Receive(before, event) => received(*before, from_ref(event)),
+            Operation::History(first, events) => received(Reception::new(*first), events),
         }
     }
+}
+
+/// What comes to a reception, in order.
+fn received(mut state: Reception, events: &[Event]) -> Outcome {
+    let replies = events.iter().map(|event| state.take(*event)).collect();
+    Outcome::Received(replies, state)
 }
 
 /// A write into a copy of the buffer.

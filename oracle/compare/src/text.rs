@@ -71,9 +71,34 @@ pub fn inputs(operation: &Operation) -> String {
                 Call::Close => put("given", "-".to_string()),
             }
         }
+        Operation::NewReception(seq) => put("seq", seq.to_string()),
+        Operation::Receive(before, e) => {
+            put("state", list(&before.numbers(), u32::to_string));
+            put("event", event(e));
+        }
+        Operation::History(first, events) => {
+            put("first", first.to_string());
+            put("events", list(events, event));
+        }
         _ => {}
     }
     line
+}
+
+/// A packet's number, timestamp and arrival, or what a block is given.
+pub fn event(event: &Event) -> String {
+    match event {
+        Event::Packet {
+            seq,
+            timestamp,
+            arrival,
+        } => format!("packet:{seq}:{timestamp}:{arrival}"),
+        Event::Block {
+            ssrc,
+            last_sr,
+            delay,
+        } => format!("block:{ssrc}:{last_sr}:{delay}"),
+    }
 }
 
 /// The bytes of a run of hexadecimal digits, spaces apart or not.

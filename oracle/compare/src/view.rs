@@ -5,6 +5,7 @@
 //! pass.
 
 use crate::operation::{Operation, Outcome};
+use crate::reception::{numbers, received};
 use model::*;
 use std::fmt;
 
@@ -176,6 +177,10 @@ impl View {
                 packets(&mut view, &book.packets);
                 view.number("closed", book.closed);
                 view
+            }
+            Outcome::Received(replies, state) => {
+                let replies: Vec<Vec<i128>> = replies.iter().map(numbers).collect();
+                received(operation, &replies, &state)
             }
         }
     }

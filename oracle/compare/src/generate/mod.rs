@@ -3,6 +3,7 @@
 mod lookups;
 mod packets;
 mod readings;
+mod receptions;
 mod writings;
 
 use crate::operation::{Operation, Outcome};
@@ -13,6 +14,8 @@ use model::*;
 use packets::*;
 pub use packets::{packet, LOSSES};
 use readings::*;
+use receptions::receive;
+pub use receptions::{history, Beginning};
 use writings::*;
 pub use writings::{sdes_lists, LOSSES_OUTSIDE};
 
@@ -225,10 +228,12 @@ pub enum Sort {
     LookUp,
     Call,
     Turn,
+    /// Reception figures of a source.
+    Receive,
 }
 
 impl Sort {
-    pub const ALL: [Sort; 22] = [
+    pub const ALL: [Sort; 23] = [
         Sort::ReadAs,
         Sort::ReadBlock,
         Sort::ReadItem,
@@ -251,6 +256,7 @@ impl Sort {
         Sort::LookUp,
         Sort::Call,
         Sort::Turn,
+        Sort::Receive,
     ];
 
     /// A sort that more than the model has. Whole packets are read and written
@@ -348,5 +354,6 @@ pub fn operation(rng: &mut Rng, sort: Sort) -> Operation {
             }
         }
         Sort::Turn => turn(rng),
+        Sort::Receive => receive(rng),
     }
 }

@@ -7,6 +7,7 @@ mod compounds;
 mod lists;
 mod lookup;
 mod reading;
+mod reception;
 mod writing;
 
 use crate::operation::Operation;
@@ -20,6 +21,7 @@ use model::{Kind, Refusal};
 use reading::{
     block_alone, item_alone, item_step, prefix_alone, read_as, read_chunk, sdes_step, source_alone,
 };
+pub use reception::{new_reception, take};
 use std::cell::RefCell;
 use std::panic::{set_hook, take_hook};
 use std::rc::Rc;
@@ -77,6 +79,9 @@ impl Side for Library {
             Operation::WriteItem(item, before) => self.write_item(item, before),
             Operation::Add(writer, given, before) => self.added(*writer, given, before),
             Operation::Close(writer) => self.closed(*writer),
+            Operation::NewReception(_) | Operation::Receive(..) | Operation::History(..) => {
+                reception::view(operation)
+            }
             _ => {
                 let bytes = operation.bytes_read()?;
                 let s = Guarded::new(bytes, self.0);

@@ -2,12 +2,14 @@
 //! boundary, both sides of every limit.
 
 mod lookups;
+mod receptions;
 
 use crate::generate::{lengths, sdes_lists, stale_lists, LOSSES, LOSSES_OUTSIDE, STALE};
 use crate::operation::Operation;
 pub use lookups::look_ups;
 use lookups::lookups;
 use model::*;
+use receptions::receptions;
 
 /// No byte, and packets with nothing in them: no chunk, padding alone, a chunk
 /// without an item, a report without a block.
@@ -34,6 +36,7 @@ pub fn enumerate(visit: &mut dyn FnMut(Operation)) {
     fill_items(visit);
     fill_packets(visit);
     lookups(visit);
+    receptions(visit);
     report_writes(visit);
     bye_writes(visit);
     app_writes(visit);
