@@ -1,8 +1,11 @@
 //! The rows of the program `rows`: what its files say is what the model says, and
-//! of rows that write or look up what the static library says, where it is there.
+//! of rows that write, look up or are of reception figures what the static library says,
+//! where it is there.
 
 use compare::library::Library;
-use compare::program::{answer_of, input, is_lookup, is_write, lines, operation, Program, Row};
+use compare::program::{
+    answer_of, input, is_lookup, is_whole, is_write, lines, operation, Program, Row,
+};
 use compare::side::Side;
 use library::guard;
 use std::collections::BTreeSet;
@@ -50,6 +53,11 @@ fn lookups() -> Vec<Line> {
     rows_that(is_lookup)
 }
 
+/// Those with all that an operation takes.
+fn whole() -> Vec<Line> {
+    rows_that(is_whole)
+}
+
 #[test]
 fn the_answers_are_those_of_document_01() {
     let lines = lines(&file("stdin"));
@@ -61,7 +69,7 @@ fn the_answers_are_those_of_document_01() {
 
 #[test]
 fn the_library_answers_as_document_01() {
-    for line in writes().into_iter().chain(lookups()) {
+    for line in whole() {
         let operation = operation(&line.row);
         for side in [guard::Side::Start, guard::Side::End] {
             if let Some(view) = Library(side).view(&operation) {
@@ -78,8 +86,8 @@ fn every_word_of_a_row_counts() {
     for line in rows() {
         assert_eq!(line.row.to_string(), line.text, "{}", line.name);
     }
-    for line in writes().into_iter().chain(lookups()) {
-        let shown = input(&operation(&line.row)).expect("a write or a lookup");
+    for line in whole() {
+        let shown = input(&operation(&line.row)).expect("a whole row");
         assert_eq!(shown, line.row, "{}", line.name);
     }
 }

@@ -8,16 +8,19 @@
 //! `*N` is the last byte N times more. An answer is `NUMBER.. BYTES`: every field of a
 //! C result in its order; of a part its bytes; of a write what the size function and
 //! the write answer, and the buffer; of a lookup its answer, and the buffer; of a call
-//! of the compound writer its answer, the writer after it, and the buffer.
+//! of the compound writer its answer, the writer after it, and the buffer. A row of
+//! reception figures has no bytes, and neither has its answer.
 //!
 //! In the program's files a name stands before each, and the first line of the input
 //! has the functions' names.
 
 mod lookup;
 mod read;
+mod reception;
 mod write;
 
 pub use lookup::is_lookup;
+pub use reception::is_reception;
 pub use write::is_write;
 
 use crate::generate::STALE;
@@ -87,6 +90,9 @@ impl Row {
 impl Display for Row {
     fn fmt(&self, f: &mut Formatter<'_>) -> Result {
         write!(f, "{}{}", self.function, shown(&self.numbers))?;
+        if is_reception(&self.function) {
+            return Ok(());
+        }
         write!(f, " {}", run(&self.bytes))
     }
 }
@@ -116,7 +122,7 @@ impl Program {
         if row.function.starts_with("writer_") {
             return self.call(row);
         }
-        if is_write(&row.function) || is_lookup(&row.function) {
+        if is_whole(&row.function) {
             return expected(row);
         }
         match read::part(&row.function, &row.bytes) {
@@ -126,8 +132,17 @@ impl Program {
     }
 }
 
-/// The row of a write or a lookup, or nothing where the operation is neither.
+/// Whether a row has all that an operation takes: it writes, looks up or is of
+/// reception figures.
+pub fn is_whole(function: &str) -> bool {
+    is_write(function) || is_lookup(function) || is_reception(function)
+}
+
+/// The row of such an operation, or nothing where it is another.
 pub fn input(operation: &Operation) -> Option<Row> {
+    if let Some(row) = reception::input(operation) {
+        return Some(row);
+    }
     let (mut row, buffer) = match operation {
         Operation::LookUp(bytes, ssrcs, buffer) => (lookup::input(bytes, ssrcs), &buffer[..]),
         _ => write::input(operation)?,
@@ -137,23 +152,27 @@ pub fn input(operation: &Operation) -> Option<Row> {
     Some(row)
 }
 
-/// The operation of a row that writes or looks up.
+/// The operation of such a row.
 pub fn operation(row: &Row) -> Operation {
-    if is_lookup(&row.function) {
-        return lookup::operation(row);
+    match &row.function[..] {
+        function if is_lookup(function) => lookup::operation(row),
+        function if is_reception(function) => reception::operation(row),
+        _ => write::operation(row),
     }
-    write::operation(row)
 }
 
 /// What a view of that operation shows, as the program writes it.
 pub fn answer_of(operation: &Operation, view: &View) -> String {
     match operation {
         Operation::LookUp(bytes, ..) => lookup::answer_of(bytes, view),
+        Operation::NewReception(_) | Operation::Receive(..) | Operation::History(..) => {
+            reception::answer_of(operation, view)
+        }
         _ => write::answer_of(view),
     }
 }
 
-/// The model's answer to a row that writes or looks up.
+/// The model's answer to such a row.
 fn expected(row: &Row) -> String {
     let operation = operation(row);
     answer_of(&operation, &Model.view(&operation).expect("the model"))
