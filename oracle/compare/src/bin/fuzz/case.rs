@@ -21,7 +21,8 @@ impl Case {
         }
     }
 
-    /// Every reading, every list around its right length, lookups, a write and a call.
+    /// Every reading, every list around its right length, lookups, a write, a call, and
+    /// reception figures.
     pub fn operations(&self) -> Vec<Operation> {
         let bytes = || self.bytes.clone();
         let walk = SdesWalk {
@@ -53,6 +54,8 @@ impl Case {
         }
         operations.push(Draw(&self.bytes).write());
         operations.push(Draw(&self.bytes).call());
+        operations.push(Draw(&self.bytes).receive());
+        operations.push(Draw(&self.bytes).history());
         operations
     }
 
@@ -271,6 +274,74 @@ impl Draw<'_> {
         let wanted = size(&given).map(|size| size + writer.length.min(1000));
         let buffer = self.buffer(wanted);
         Operation::Add(writer, given, buffer)
+    }
+
+    /// Often 0, or where something ends.
+    fn count(&mut self) -> u32 {
+        match self.byte() % 8 {
+            0..=2 => 0,
+            3 => 1 << (self.byte() % 32),
+            4 => 0u32.wrapping_sub(1 << (self.byte() % 32)),
+            5 => self.byte().into(),
+            _ => self.word(),
+        }
+    }
+
+    /// A packet or a block, from any state.
+    fn receive(&mut self) -> Operation {
+        let state = Reception {
+            max_seq: self.word() as u16,
+            cycles: self.count(),
+            base_seq: self.count(),
+            bad_seq: self.count(),
+            probation: match self.byte() % 4 {
+                0 => self.count(),
+                _ => 0,
+            },
+            received: self.count(),
+            expected_prior: self.count(),
+            received_prior: self.count(),
+            transit: self.count(),
+            jitter: self.count(),
+        };
+        Operation::Receive(state, self.event(&state))
+    }
+
+    /// Up to nine events.
+    fn history(&mut self) -> Operation {
+        let first = self.word() as u16;
+        let mut state = Reception::new(first);
+        let mut events = Vec::new();
+        for _ in 0..self.below(10) {
+            let event = self.event(&state);
+            state.take(event);
+            events.push(event);
+        }
+        Operation::History(first, events)
+    }
+
+    /// A block, or a packet whose number is mostly near to the last.
+    fn event(&mut self, state: &Reception) -> Event {
+        let kind = self.byte() % 8;
+        if kind == 0 {
+            return Event::Block {
+                ssrc: self.word(),
+                last_sr: self.word(),
+                delay: self.word(),
+            };
+        }
+        let ahead = match kind {
+            1 => self.word() as u16,
+            2 => 2996 + self.below(8) as u16,
+            3 => 65_432 + self.below(8) as u16,
+            4 => (state.bad_seq as u16).wrapping_sub(state.max_seq),
+            _ => u16::from(kind) - 4,
+        };
+        Event::Packet {
+            seq: state.max_seq.wrapping_add(ahead),
+            timestamp: self.count(),
+            arrival: self.count(),
+        }
     }
 
     fn given(&mut self, kind: Kind) -> Given {

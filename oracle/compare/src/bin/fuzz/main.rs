@@ -4,13 +4,13 @@
 //!
 //! A case is a run of bytes and two numbers. Every reading is asked of it, every
 //! call that fills a list with lists around the right length, lookups with answer
-//! buffers around the list's length, and one write and one call of the writer whose
-//! arguments are drawn from its bytes. An answer must be the model's, with everything
-//! lent in memory that ends at a closed page, and again in memory that starts at one. A
-//! case that brings a refusal, a field or a class of numbers that was not seen before is
-//! kept, and later cases are changes of kept ones. The first cases are real datagrams
-//! (`compare::captures`) and random inputs. A difference is printed, and the exit status
-//! is 1.
+//! buffers around the list's length, and one write, one call of the writer, one event
+//! and one history of a source whose arguments are drawn from its bytes. An answer must
+//! be the model's, with everything lent in memory that ends at a closed page, and again
+//! in memory that starts at one. A case that brings a refusal, a field or a class of
+//! numbers that was not seen before is kept, and later cases are changes of kept ones.
+//! The first cases are real datagrams (`compare::captures`) and random inputs. A
+//! difference is printed, and the exit status is 1.
 
 mod case;
 mod change;
@@ -35,7 +35,7 @@ use std::time::{Duration, Instant};
 const ENOUGH: usize = 20;
 
 /// Fields that no rule looks at: all their values are one class.
-const OPAQUE: [&str; 14] = [
+const OPAQUE: [&str; 22] = [
     "ssrc",
     "ntp_time",
     "rtp_time",
@@ -50,6 +50,14 @@ const OPAQUE: [&str; 14] = [
     "chunk_ssrc",
     "source",
     "item_type",
+    "max_seq",
+    "cycles",
+    "base_seq",
+    "bad_seq",
+    "received",
+    "expected_prior",
+    "received_prior",
+    "transit",
 ];
 
 /// Random inputs among the first cases.
