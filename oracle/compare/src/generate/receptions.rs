@@ -302,7 +302,7 @@ impl Sender {
             Step::Late => ahead(0u16.wrapping_sub(1 + rng.below(99) as u16)),
             Step::Edge => ahead(rng.pick(&EDGES)),
             Step::AfterJump => state.bad_seq as u16,
-            Step::Any => rng.draw() as u16,
+            Step::Any => sequence(rng),
         };
         let timestamp = word(rng);
         let moved = match (self.loose, rng.below(8)) {
