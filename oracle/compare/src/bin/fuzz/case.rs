@@ -323,7 +323,7 @@ impl Draw<'_> {
     /// A block, or a packet whose number is mostly near to the last.
     fn event(&mut self, state: &Reception) -> Event {
         let kind = self.byte() % 8;
-        if kind == 0 {
+        if kind == 7 {
             return Event::Block {
                 ssrc: self.word(),
                 last_sr: self.word(),
@@ -335,7 +335,8 @@ impl Draw<'_> {
             2 => 2996 + self.below(8) as u16,
             3 => 65_432 + self.below(8) as u16,
             4 => (state.bad_seq as u16).wrapping_sub(state.max_seq),
-            _ => u16::from(kind) - 4,
+            5 => 0,
+            _ => 1,
         };
         Event::Packet {
             seq: state.max_seq.wrapping_add(ahead),
