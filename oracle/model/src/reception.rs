@@ -152,15 +152,13 @@ impl Reception {
 
     /// The state after a packet in that place, but for transit and jitter.
     fn moved(self, seq: u16, place: Place) -> Reception {
-        let successor = seq.wrapping_add(1);
         let received = self.received.wrapping_add(1);
         match place {
             Place::Probation => Reception {
                 max_seq: seq,
-                probation: if self.max_seq.wrapping_add(1) == seq {
-                    self.probation - 1
-                } else {
-                    MIN_SEQUENTIAL - 1
+                probation: match seq.wrapping_sub(self.max_seq) {
+                    1 => self.probation - 1,
+                    _ => MIN_SEQUENTIAL - 1,
                 },
                 ..self
             },
@@ -174,16 +172,17 @@ impl Reception {
             },
             Place::Ahead => Reception {
                 max_seq: seq,
-                cycles: match seq < self.max_seq {
-                    true => self.cycles.wrapping_add(SEQ_MOD),
-                    false => self.cycles,
+                cycles: if seq < self.max_seq {
+                    self.cycles.wrapping_add(SEQ_MOD)
+                } else {
+                    self.cycles
                 },
                 received,
                 ..self
             },
             Place::Behind => Reception { received, ..self },
             Place::Jump => Reception {
-                bad_seq: successor.into(),
+                bad_seq: seq.wrapping_add(1).into(),
                 ..self
             },
         }

@@ -581,7 +581,10 @@ fn any_probation() {
         }
     );
     assert_eq!(other.report_block(1, 2, 3), None);
-    // The end of probation takes nothing from what was there but the jitter.
+}
+
+#[test]
+fn the_end_of_probation_keeps_the_jitter_alone() {
     let any = Reception {
         max_seq: 65_535,
         cycles: 1,

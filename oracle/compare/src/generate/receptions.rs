@@ -270,9 +270,10 @@ impl Sender {
             if count <= 200 && rng.once_in(60) {
                 self.steps = rng.pick(&MANNERS);
             }
-            let event = match events.len() < in_sequence {
-                true => self.packet(rng, &state, Step::Next),
-                false => self.event(rng, &state),
+            let event = if events.len() < in_sequence {
+                self.packet(rng, &state, Step::Next)
+            } else {
+                self.event(rng, &state)
             };
             state.take(event);
             events.push(event);
