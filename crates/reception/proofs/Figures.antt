@@ -1,6 +1,6 @@
 -- A number read as signed, jitter, loss and fraction, one law for each way through the code.
-use lib.IntN.{ℤ, pos, negsuc, natAbs}
-use Rattle.rfc3550.proofs.Prelude.{needs, ℕ, suc, _+_, _-_, _*_, _/_, _%_, _<_, _≤_, _^_, min, _≡_, refl, sym, ap, _∙_, Bool, true, false, arith, ltb, lt-ltb, le-ltb, eq-eqb, ne-eqb}
+use lib.IntN.{pos, negsuc, natAbs}
+use Rattle.rfc3550.proofs.Prelude.{needs, ℕ, suc, _-_, _*_, _/_, _%_, _<_, _≤_, _^_, min, _≡_, sym, ap, _∙_, Bool, true, false, arith, ltb, lt-ltb, le-ltb, eq-eqb, ne-eqb}
 use Rattle.rfc3550.specs.Answer.{pick}
 use Rattle.rfc3550.specs.Loss.{Loss, lossOf}
 use Rattle.rfc3550.specs.Reception.{minus32, plus32, signed32, jitterAfter, clamped, fractionLost}

@@ -1,13 +1,12 @@
 -- The block, and the state after it.
-use Rattle.rfc3550.proofs.Prelude.{needs, ℕ, _/_, _<_, _≤_, _≡_, refl, sym, ap, _∙_, Bool, true, false, arith, ltb, lt-ltb, le-ltb}
+use Rattle.rfc3550.proofs.Prelude.{needs, ℕ, _/_, _<_, _≤_, _≡_, arith, lt-ltb, le-ltb}
 use lib.IntN.{ℤ, pos, negsuc}
 use lib.Signed.{mag}
 use mir.Syntax.{w32}
 use mir.Val.{toZ, ofZ}
-use Rattle.rfc3550.specs.Answer.{pick}
 use Rattle.rfc3550.specs.Loss.{Loss}
 use Rattle.rfc3550.specs.Packet.{Block}
-use Rattle.rfc3550.specs.Reception.{minus32, plus32, signed32, Reception, extended, expected, clamped, fractionLost, expectedInterval, receivedInterval, blockOf, reported, Reported, in-probation, made, reportBlock}
+use Rattle.rfc3550.specs.Reception.{minus32, signed32, Reception, extended, expected, clamped, fractionLost, blockOf, reported, Reported, in-probation, made, reportBlock}
 use Rattle.report.proofs.Losses.{bits-back}
 
 mag-clamped : (l : ℤ) → mag (clamped l) < 2147483648

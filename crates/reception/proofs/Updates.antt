@@ -1,7 +1,6 @@
 -- The state after a packet, one law for each way through the code.
-use Rattle.rfc3550.proofs.Prelude.{needs, ℕ, suc, _+_, _-_, _*_, _/_, _%_, _<_, _≤_, _≡_, refl, sym, ap, _∙_, subst, Bool, true, false, arith, ltb, lt-ltb, le-ltb, le-leb, lt-leb, eq-eqb, ne-eqb}
-use Rattle.rfc3550.specs.Answer.{pick}
-use Rattle.rfc3550.specs.Reception.{minus16, minus32, plus32, Reception, newReception, Verdict, waits, starts, ahead, jumps, behind, verdict, accepted, sequenced, updateSeq, jitterAfter, timed, update}
+use Rattle.rfc3550.proofs.Prelude.{needs, ℕ, _-_, _<_, _≤_, _≡_, sym, ap, _∙_, Bool, true, false, ltb, lt-ltb, le-ltb, le-leb, lt-leb, eq-eqb, ne-eqb}
+use Rattle.rfc3550.specs.Reception.{minus16, minus32, Reception, newReception, Verdict, waits, starts, ahead, jumps, behind, verdict, accepted, updateSeq, timed, update}
 use Rattle.reception.specs.Reception.{afterVerdict}
 
 pub new-is : (seq m : ℕ) → m ≡ minus16 seq 1

@@ -1,6 +1,6 @@
 -- What is promised to the buyer, each claim stated whole. Demand 3 comes last.
-use Rattle.rfc3550.proofs.Prelude.{ℕ, _/_, _^_, _<_, _≤_, _≡_, refl, _↔_, _⊎_, Bool, true, List, [], map, length, take, drop, ltb, lt-ltb}
-use Rattle.rfc3550.specs.Answer.{Refusal, ok, refused, refuse, mapOk, pick}
+use Rattle.rfc3550.proofs.Prelude.{ℕ, _/_, _^_, _<_, _≤_, _≡_, refl, _↔_, _⊎_, Bool, true, List, [], map, length, take, drop, lt-ltb}
+use Rattle.rfc3550.specs.Answer.{Refusal, ok, refused, refuse, mapOk}
 use Rattle.rfc3550.specs.Bytes.{Bytes}
 use Rattle.rfc3550.specs.Loss.{Loss, LossFits, lossBits, lossOf, lossIn}
 use Rattle.rfc3550.specs.Packet.{Block, Reporter, Chunk, Packet, layout, layouts, chunksOf, All, BlockValid, Valid, Compound}

@@ -1,9 +1,9 @@
 -- Histories of a source: every one is in probation or has a last start, and from that start on its figures are exact. And the same of what functions
 -- returned, for any code.
-use Rattle.rfc3550.proofs.Prelude.{ℕ, _+_, _<_, _≤_, _/_, _≡_, refl, sym, ap, _∙_, subst, Bool, true, false, _&&_, not, not-true, List, [], _∷_, _++_, map, _⊎_, inl, inr, arith, ltb, lt-ltb, add-zero, zero-add, add-assoc}
+use Rattle.rfc3550.proofs.Prelude.{ℕ, _+_, _<_, _≤_, _/_, _≡_, refl, sym, ap, _∙_, subst, Bool, true, false, _&&_, not, not-true, List, [], _∷_, _++_, map, _⊎_, inl, inr, arith, lt-ltb, add-zero, zero-add, add-assoc}
 use Rattle.rfc3550.specs.Packet.{All}
-use Rattle.rfc3550.specs.Reception.{Reception, newReception, Verdict, waits, starts, ahead, jumps, behind, verdict, updateSeq, update, Reported, made, reportBlock}
-use Rattle.rfc3550.specs.History.{Event, packet, block, EventTyped, afterEvent, afterEvents, Said, gave, said, saidTo, Outcome, came, asked, outcome, outcomes, isStart, noStart, packetsIn, counts, moves, acceptedIn, movedIn, interval, receivedSince, blockSince}
+use Rattle.rfc3550.specs.Reception.{Reception, newReception, Verdict, waits, starts, ahead, jumps, behind, verdict, updateSeq, update, made, reportBlock}
+use Rattle.rfc3550.specs.History.{Event, packet, block, EventTyped, afterEvent, afterEvents, Said, said, saidTo, Outcome, came, asked, outcome, outcomes, isStart, noStart, packetsIn, counts, moves, acceptedIn, movedIn, interval, receivedSince, blockSince}
 use Rattle.rfc3550.specs.Returned.{Stepper, Ran}
 use Rattle.rfc3550.proofs.Answers.{true≢false, and-inv}
 use Rattle.rfc3550.proofs.Receptions.{by-test, by-verdict, by-update, Holds, start-holds, timed-holds, packet-holds, report-holds, exact}

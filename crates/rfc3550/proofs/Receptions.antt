@@ -1,6 +1,6 @@
 -- What a state holds since its last start: the exact counts modulo 2^32 and, where few packets came, these counts themselves.
 use lib.IntN.{ℤ, pos, negsuc, subℕ}
-use Rattle.rfc3550.proofs.Prelude.{ℕ, suc, _+_, _-_, _*_, _/_, _%_, _<_, _≤_, min, _≡_, refl, sym, ap, _∙_, subst, Bool, true, false, List, [], _∷_, map, _⊎_, inl, inr, arith, ltb, leb, eqb, ltb-true, ltb-false, leb-true, leb-false, eqb-true, eqb-false, lt-ltb, le-ltb, eq-eqb, ne-eqb, add-zero, sub-zero}
+use Rattle.rfc3550.proofs.Prelude.{ℕ, suc, _+_, _-_, _*_, _/_, _%_, _<_, _≤_, _≡_, refl, sym, ap, _∙_, subst, Bool, true, false, List, [], _∷_, map, _⊎_, inl, inr, arith, ltb, leb, eqb, ltb-true, ltb-false, eqb-false, lt-ltb, le-ltb, add-zero, sub-zero}
 use Rattle.rfc3550.specs.Answer.{ok, need, _>>_, pick}
 use Rattle.rfc3550.specs.Loss.{LossFits}
 use Rattle.rfc3550.specs.Packet.{Block, Reporter, All, BlockValid}

@@ -4,7 +4,7 @@ use mathlib.Core.Bool.{Bool, true, false, _&&_, not}
 use mathlib.Core.List.{List, [], _∷_}
 use lib.IntN.{subℕ}
 use Rattle.rfc3550.specs.Packet.{Block}
-use Rattle.rfc3550.specs.Reception.{Reception, Verdict, waits, starts, ahead, jumps, behind, verdict, accepted, update, clamped, fractionLost, Reported, reportBlock}
+use Rattle.rfc3550.specs.Reception.{Reception, Verdict, waits, starts, ahead, jumps, behind, verdict, update, clamped, fractionLost, Reported, reportBlock}
 
 -- a packet comes, with its sequence number, timestamp and arrival; or a block is asked for, with SSRC, last SR and delay
 pub data Event : Type 0 where

@@ -1,11 +1,14 @@
 -- What C gets of a source, and histories of what its functions returned.
-use Rattle.rfc3550.proofs.Prelude.{needs, ℕ, _/_, _<_, _≡_, refl, sym, ap, _∙_, Bool, true, false, List, map, eqb}
-use Rattle.rfc3550.specs.Answer.{ok}
-use Rattle.rfc3550.specs.Packet.{Block, All}
+use Rattle.rfc3550.proofs.Prelude.{needs, ℕ, _/_, _<_, _≡_, refl, sym, ap, _∙_, subst, Bool, true, false, List, [], _∷_, map, arith, eqb}
+use Rattle.rfc3550.specs.Answer.{refusal, Answer, ok, refused}
+use Rattle.rfc3550.specs.Packet.{Block, Reporter, All}
+use Rattle.rfc3550.specs.Write.{listsOf, giveReport, write}
+use Rattle.rfc3550.specs.Writer.{add, call}
 use Rattle.rfc3550.specs.Reception.{Reception, newReception, starts, verdict, update, Reported, in-probation, made, reportBlock}
-use Rattle.rfc3550.specs.History.{EventTyped, afterEvents, Said, took, gave, saidTo, outcomes, noStart, packetsIn, movedIn, receivedSince, blockSince}
+use Rattle.rfc3550.specs.History.{EventTyped, afterEvents, took, gave, saidTo, outcomes, noStart, packetsIn, movedIn, receivedSince, blockSince}
 use Rattle.rfc3550.specs.Returned.{Ran}
-use Rattle.rfc3550.proofs.Answers.{true≢false}
+use Rattle.rfc3550.proofs.Answers.{true≢false, Never}
+use Rattle.rfc3550.proofs.Receptions.{Gave, write-never, call-never}
 use Rattle.rfc3550.proofs.Histories.{Follows, last, ran, returned}
 use Rattle.report.specs.Block.{blockView}
 use Rattle.report.specs.declared.report_block.ReportBlock.{ReportBlock}
@@ -14,10 +17,14 @@ use Rattle.reception.specs.declared.reception.Update.{Update}
 use Rattle.reception.specs.declared.reception.ReportedBlock.{ReportedBlock}
 use Rattle.reception.specs.declared.reception.ReportedBlock.the-variants as reported
 use Rattle.reception.specs.declared.reception.Reception as code
-use Rattle.rtcp.specs.Result.{bit}
+use Rattle.rtcp.specs.Result.{numberOf, bit}
+use Rattle.rtcp.specs.WriteResult.{writtenWithBuffer}
+use Rattle.rtcp.specs.WriteCompound.{writerIn, callWithBuffer}
+use Rattle.rtcp.specs.declared.write_result.RtcpWritten.{RtcpWritten}
+use Rattle.rtcp.specs.declared.write_compound.RtcpCall.{RtcpCall}
 use Rattle.rtcp.specs.Report.{blockResult}
 use Rattle.rtcp.specs.Receive.{receptionIn, receptionResult, updateResult, noBlock, reportResult}
-use Rattle.rtcp.specs.Received.{Call, «rtcp_reception_update», «rtcp_reception_report_block», eventOf, saidOf, receptions}
+use Rattle.rtcp.specs.Received.{Call, «rtcp_reception_update», «rtcp_reception_report_block», eventOf, blockIn, saidOf, receptions}
 use Rattle.rtcp.specs.declared.read_report.RtcpBlock.{RtcpBlock}
 use Rattle.rtcp.specs.declared.receive.RtcpReception.{RtcpReception}
 use Rattle.rtcp.specs.declared.receive.RtcpReceptionUpdate.{RtcpReceptionUpdate}
@@ -98,3 +105,46 @@ module _ (s : RtcpReception) (seq timestamp arrival : ℕ) (u : RtcpReceptionUpd
       let g = returned receptions receptionIn eventOf saidOf follows s («rtcp_reception_update» seq timestamp arrival u) seq timestamp arrival (h, mu) refl st rs m none few near ssrc lsr dlsr in
       let w = made-result (reportBlock (receptionIn before) ssrc lsr dlsr) _ (g .1) in
       (g .0, ap (λ (r : RtcpReceptionBlock). r .«in_probation») mr ∙ w .0, ap (λ (r : RtcpReceptionBlock). r .block) mr ∙ w .1)
+
+-- ---- blocks that `rtcp_reception_report_block` returned are always writable
+
+-- the call with all that it returned
+pub record Returned : Type 0 where
+  pub state : RtcpReception
+  pub ssrc : ℕ
+  pub lsr : ℕ
+  pub dlsr : ℕ
+  pub result : RtcpReceptionBlock
+  pub meets : result ≡ reportResult (reportBlock (receptionIn state) ssrc lsr dlsr)
+  pub made : result .«in_probation» ≡ 0
+
+abbrev pub blocksOf : List Returned → List Block
+blocksOf rs = map (λ (r : Returned). blockIn (r .result .block)) rs
+
+gave-result : (s : Reception) (ssrc lsr dlsr : ℕ) (x : Reported × Reception) → reportBlock s ssrc lsr dlsr ≡ x → reportResult x .«in_probation» ≡ 0 → Gave (blockIn (reportResult x .block))
+gave-result s ssrc lsr dlsr (in-probation, u) e z = absurd (omega arith)
+gave-result s ssrc lsr dlsr (made b, u) e z = (s, ssrc, lsr, dlsr, ap (λ (x : Reported × Reception). x .0) e)
+
+gave-returned : (r : Returned) → Gave (blockIn (r .result .block))
+gave-returned r =
+    subst (λ (o : RtcpReceptionBlock). Gave (blockIn (o .block))) (sym (r .meets))
+    (gave-result (receptionIn (r .state)) (r .ssrc) (r .lsr) (r .dlsr) _ refl (sym (ap (λ (o : RtcpReceptionBlock). o .«in_probation») (r .meets)) ∙ r .made))
+
+all-gave : (rs : List Returned) → All Gave (blocksOf rs)
+all-gave [] = tt
+all-gave (r ∷ rs) = (gave-returned r, all-gave rs)
+
+number-never : {A : Type 0} (n : ℕ) (a : Answer A) → Never n a → (n ≡ 0 → ⊥) → numberOf a ≡ n → ⊥
+number-never n (ok a) h z e = z (sym e)
+number-never n (refused (refusal k first second)) h z e = h e
+
+-- what `rtcp_rr_write` and `rtcp_sr_write` returned where they were lent the lists of such blocks
+pub written-never-17 : (who : Reporter) (rs : List Returned) (k : ℕ) (l l₁ : List ℕ) (w : RtcpWritten) → (w, l₁) ≡ writtenWithBuffer (write (giveReport who (listsOf (blocksOf rs)) k) l) → w .number ≡ 17 → ⊥
+written-never-17 who rs k l l₁ w m e =
+    number-never 17 (write (giveReport who (listsOf (blocksOf rs)) k) l .0) (write-never who (blocksOf rs) k (all-gave rs) l) (λ z. omega arith) (sym (ap (λ (x : RtcpWritten × List ℕ). x .0 .number) m) ∙ e)
+
+-- and `rtcp_writer_add_rr` and `rtcp_writer_add_sr`
+pub added-never-17 : (who : Reporter) (rs : List Returned) (k : ℕ) (writer l state left : List ℕ) (c : RtcpCall)
+    → (c, state, left) ≡ callWithBuffer writer (call (add (giveReport who (listsOf (blocksOf rs)) k)) (writerIn writer) l) → c .number ≡ 17 → ⊥
+added-never-17 who rs k writer l state left c m e =
+    number-never 17 (call (add (giveReport who (listsOf (blocksOf rs)) k)) (writerIn writer) l .0) (call-never who (blocksOf rs) k (all-gave rs) (writerIn writer) l) (λ z. omega arith) (sym (ap (λ (x : RtcpCall × List ℕ × List ℕ). x .0 .number) m) ∙ e)
