@@ -31,13 +31,13 @@ module _ (s : Reception) (seq d : ℕ) (e : d ≡ minus16 seq (s .«max_seq»)) 
     way-start h k q = seen starts (rw (lt-ltb 0 (s .probation) p, eq-eqb (minus16 seq (s .«max_seq»)) 1 (sym e ∙ h), eq-eqb (s .probation) 1 k)) q
 
   module _ (p : s .probation ≤ 0) where
-    pub way-ahead : d < 3000 → u ≡ afterVerdict (ahead d) s seq → Seen
-    unfolding verdict
+    pub way-ahead : d < 3000 → u ≡ afterVerdict (ahead 0) s seq → Seen
+    unfolding verdict updateSeq
     way-ahead h q = seen (ahead d) (rw (le-ltb 0 (s .probation) p, lt-ltb (minus16 seq (s .«max_seq»)) 3000 (rw e at h), e)) q
 
     module _ (h : 3000 ≤ d) where
-      pub way-behind : 65436 < d → u ≡ afterVerdict behind s seq → Seen
-      unfolding verdict
+      pub way-behind : 65436 < d → u ≡ afterVerdict behind s 0 → Seen
+      unfolding verdict updateSeq
       way-behind k q = seen behind (rw (le-ltb 0 (s .probation) p, le-ltb (minus16 seq (s .«max_seq»)) 3000 (rw e at h), lt-leb (minus16 seq (s .«max_seq»)) 65436 (rw e at k))) q
 
       pub way-restart : d ≤ 65436 → seq ≡ s .«bad_seq» → u ≡ afterVerdict starts s seq → Seen

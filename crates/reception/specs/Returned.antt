@@ -2,7 +2,7 @@
 use Prim.Native.Nat.{ℕ, _<_}
 use mathlib.Core.Path.{_≡_}
 use Rattle.rfc3550.specs.Reception.{in-probation, made, update, reportBlock}
-use Rattle.rfc3550.specs.History.{Event, packet, block, Said, took, gave}
+use Rattle.rfc3550.specs.History.{Happening, packet, block, Reply, packetReply, blockReply}
 use Rattle.rfc3550.specs.Returned.{Stepper}
 use Rattle.reception.specs.Reception.{receptionOf, updateOf, blockIs, reportOf}
 use Rattle.reception.specs.declared.reception.Reception.{Reception}
@@ -15,14 +15,14 @@ pub data Call : Type 0 where
   updated : ℕ → ℕ → ℕ → Update → Call
   asked : ℕ → ℕ → ℕ → ReportedBlock → Call
 
-abbrev pub eventOf : Call → Event
-eventOf (updated seq timestamp arrival u) = packet seq timestamp arrival
-eventOf (asked ssrc lsr dlsr r) = block ssrc lsr dlsr
+abbrev pub happeningOf : Call → Happening
+happeningOf (updated seq timestamp arrival u) = packet seq timestamp arrival
+happeningOf (asked ssrc lsr dlsr r) = block ssrc lsr dlsr
 
-abbrev pub saidOf : Call → Said
-saidOf (updated seq timestamp arrival u) = took (u .accepted)
-saidOf (asked ssrc lsr dlsr (reported.Block b r)) = gave (made (blockIs b))
-saidOf (asked ssrc lsr dlsr reported.InProbation) = gave in-probation
+abbrev pub replyOf : Call → Reply
+replyOf (updated seq timestamp arrival u) = packetReply (u .accepted)
+replyOf (asked ssrc lsr dlsr (reported.Block b r)) = blockReply (made (blockIs b))
+replyOf (asked ssrc lsr dlsr reported.InProbation) = blockReply in-probation
 
 abbrev pub Meets : Reception → Call → Type 0
 Meets s (updated seq timestamp arrival u) = (seq < 65536) × (updateOf u ≡ update (receptionOf s) seq timestamp arrival)

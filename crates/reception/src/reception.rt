@@ -43,8 +43,11 @@ impl Reception {
     // A difference of sequence numbers from this on is no permissible gap.
     pub const MAX_DROPOUT: u16 = 3000;
 
-    // A difference above this, 65,536 less MAX_MISORDER of 100, is of a packet that came late.
-    pub const MAX_JUMP: u16 = 65436;
+    // A packet that is fewer than so many behind came late.
+    pub const MAX_MISORDER: u16 = 100;
+
+    // The greatest difference that is a jump: 65,536 less MAX_MISORDER.
+    const MAX_JUMP: u16 = 65535 - Reception::MAX_MISORDER + 1;
 
     // bad_seq where no packet was bad: no sequence number is this.
     const NO_SEQ: u32 = 65537;
@@ -99,9 +102,9 @@ impl Reception {
         }
     }
 
-    // One more is received: all that a late packet changes.
-    fn behind(mut self, seq: u16) -> Update
-        ensures { λ r. ⌜ updateOf r ≡ afterVerdict behind (receptionOf self) seq ⌝ }
+    // One more is received: all that a late packet changes, whatever its number.
+    fn behind(mut self) -> Update
+        ensures { λ r. ⌜ updateOf r ≡ afterVerdict behind (receptionOf self) 0 ⌝ }
     {
         self.received = plus_32(self.received, 1);
         Update {
@@ -110,12 +113,13 @@ impl Reception {
         }
     }
 
-    fn ahead(mut self, udelta: u16, seq: u16) -> Update
-        ensures { λ r. ⌜ updateOf r ≡ afterVerdict (ahead udelta) (receptionOf self) seq ⌝ }
+    // By how much does not bear on the state.
+    fn ahead(mut self, seq: u16) -> Update
+        ensures { λ r. ⌜ updateOf r ≡ afterVerdict (ahead 0) (receptionOf self) seq ⌝ }
     {
         self.cycles = cycles_after(self.cycles, self.max_seq, seq);
         self.max_seq = seq;
-        self.behind(seq)
+        self.behind()
     }
 
     fn jumps(mut self, seq: u16) -> Update
@@ -144,10 +148,10 @@ impl Reception {
             return self.starts(seq);
         }
         if udelta < Reception::MAX_DROPOUT {
-            return self.ahead(udelta, seq);
+            return self.ahead(seq);
         }
         if Reception::MAX_JUMP < udelta {
-            return self.behind(seq);
+            return self.behind();
         }
         if seq as u32 == self.bad_seq {
             return self.starts(seq);

@@ -9,8 +9,7 @@ use Rattle.rfc3550.specs.Compound.{readCompound}
 use Rattle.rfc3550.specs.Walk.{openWalk, step, SdesWalk, openSdes, sdesStep, openItems, itemStep, gave, walked}
 use Rattle.rfc3550.specs.Lookup.{none, at, first, names, foundIn, lookup, lookupWith, decoded}
 use Rattle.rfc3550.specs.Reception.{Reception, newReception, starts, verdict, update, blockOf, in-probation, made, reportBlock}
-use Rattle.rfc3550.specs.History.{EventTyped, afterEvents, outcomes, noStart, packetsIn, movedIn, receivedSince, blockSince}
-use Rattle.rfc3550.specs.History as History
+use Rattle.rfc3550.specs.History.{Happening, HappeningTyped, receptionAfterAll, outcomes, noStart, packetsIn, movedIn, receivedSince, blockSince}
 use Rattle.rfc3550.specs.Write.{listsOf, Given, giveReport, Typed, packetGiven, write}
 use Rattle.rfc3550.specs.Writer.{Writer, fresh, Request, add, close, call}
 use Rattle.rfc3550.specs.Book.{empty}
@@ -108,19 +107,19 @@ unfolding reportBlock
 probation-said s ssrc lsr dlsr h = rw (lt-ltb 0 (s .probation) h)
 
 -- every history from the first packet on is in probation and has no start, or has a last start
-pub last-start : (seq : ℕ) (es : List History.Event)
-    → ((0 < afterEvents (newReception seq) es .probation) × (noStart (outcomes (newReception seq) es) ≡ true)) ⊎ LastStart (newReception seq) es
+pub last-start : (seq : ℕ) (es : List Happening)
+    → ((0 < receptionAfterAll (newReception seq) es .probation) × (noStart (outcomes (newReception seq) es) ≡ true)) ⊎ LastStart (newReception seq) es
 last-start seq es = Histories.history seq es
 
 -- since a start, whatever the state before it, fewer than 2^31 packets came and the sequence moved by fewer than 2^31: then received is the number of
 -- packets that A.1 accepts from the starting one on, and the block has the figures of A.3 over exact integers
-pub figures : (s : Reception) (seq timestamp arrival : ℕ) → seq < 65536 → verdict s seq ≡ starts → (es : List History.Event) → All EventTyped es
+pub figures : (s : Reception) (seq timestamp arrival : ℕ) → seq < 65536 → verdict s seq ≡ starts → (es : List Happening) → All HappeningTyped es
     → noStart (outcomes (update s seq timestamp arrival .0) es) ≡ true
     → packetsIn (outcomes (update s seq timestamp arrival .0) es) < 2147483648 → movedIn (outcomes (update s seq timestamp arrival .0) es) < 2147483648
     → (ssrc lsr dlsr : ℕ)
-    → (afterEvents (update s seq timestamp arrival .0) es .received ≡ receivedSince (outcomes (update s seq timestamp arrival .0) es))
-    × (reportBlock (afterEvents (update s seq timestamp arrival .0) es) ssrc lsr dlsr .0
-    ≡ made (blockSince seq (outcomes (update s seq timestamp arrival .0) es) (afterEvents (update s seq timestamp arrival .0) es .jitter / 16) ssrc lsr dlsr))
+    → (receptionAfterAll (update s seq timestamp arrival .0) es .received ≡ receivedSince (outcomes (update s seq timestamp arrival .0) es))
+    × (reportBlock (receptionAfterAll (update s seq timestamp arrival .0) es) ssrc lsr dlsr .0
+    ≡ made (blockSince seq (outcomes (update s seq timestamp arrival .0) es) (receptionAfterAll (update s seq timestamp arrival .0) es .jitter / 16) ssrc lsr dlsr))
 figures s seq timestamp arrival h e es t z few near ssrc lsr dlsr = Histories.figures s seq timestamp arrival h e es t z few near ssrc lsr dlsr
 
 -- with no supposition: a report of blocks that any states gave is never refused by 17, alone or by the compound writer, and each block is valid

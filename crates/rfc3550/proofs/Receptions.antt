@@ -284,7 +284,7 @@ unfolding blockOf
 block-valid s ssrc lsr dlsr j a b c =
     ((a, (fraction-fits (signed32 (minus32 (expectedInterval s) (receivedInterval s))) (expectedInterval s), (lossBits-lt (blockOf s ssrc lsr dlsr .lost), (omega arith, (omega arith, (b, (c, tt))))))), lost-fits s)
 
--- a block that some state gave
+-- a block that some state blockReply
 abbrev pub Gave : Block → Type 0
 Gave b = (s : Reception) × (ssrc : ℕ) × (lsr : ℕ) × (dlsr : ℕ) × (reportBlock s ssrc lsr dlsr .0 ≡ made b)
 

@@ -9,7 +9,7 @@ use Rattle.rfc3550.specs.Read.{Kind, RR, SDES, kindOf, versionIn, padded
 use Rattle.rfc3550.specs.Write.{Given, giveReport, giveBye, lentBlocks, lossTests, ownTests, tests, calculateSize, room, write}
 use Rattle.rfc3550.specs.Lookup.{first, foundIn, lookup, lookupWith}
 use Rattle.rfc3550.specs.Reception.{Reception, newReception, verdict, updateSeq, update, blockOf, in-probation, made, reportBlock}
-use Rattle.rfc3550.specs.History.{Event, packet, block, afterEvents, Said, took, gave, saidTo}
+use Rattle.rfc3550.specs.History.{Happening, packet, block, receptionAfterAll, Reply, packetReply, blockReply, replies}
 use Rattle.rfc3550.specs.Compound.{readPacket, readPackets, readCompound}
 
 pub data Row : Type 0 where
@@ -17,14 +17,14 @@ pub data Row : Type 0 where
   compound : List ℕ → Answer (List Packet) → Row
   writes : Given → List ℕ → Answer ℕ × List ℕ → Row
   looks-up : List ℕ → List ℕ → List ℕ → Answer ℕ × List ℕ → Row
-  hears : ℕ → List Event → List Said → Reception → Row
+  hears : ℕ → List Happening → List Reply → Reception → Row
 
 abbrev Holds : Row → Type 0
 Holds (reads k s a) = readAs k s ≡ a
 Holds (compound s a) = readCompound s ≡ a
 Holds (writes g l a) = write g l ≡ a
 Holds (looks-up s ssrcs l a) = lookupWith 0 s ssrcs l ≡ a
-Holds (hears seq es answers s) = _≡_ {A = List Said × Reception} (saidTo (newReception seq) es, afterEvents (newReception seq) es) (answers, s)
+Holds (hears seq es answers s) = _≡_ {A = List Reply × Reception} (replies (newReception seq) es, receptionAfterAll (newReception seq) es) (answers, s)
 
 abbrev row1 : List ℕ
 row1 = 0x80 ∷ 0xC9 ∷ 0x00 ∷ 0x01 ∷ 0x11 ∷ 0x22 ∷ 0x33 ∷ 0x44 ∷ []
@@ -58,20 +58,20 @@ stage =
     ∷ 0 ∷ 0 ∷ 0 ∷ 1 ∷ 2 ∷ 0 ∷ 1 ∷ 1 ∷ 0x62 ∷ 0 ∷ 0 ∷ 0 ∷ 0 ∷ 0 ∷ 0 ∷ 0 ∷ 1 ∷ 0 ∷ 0 ∷ 0 ∷ []
 
 -- order 3: a packet whose timestamp is its arrival, what is answered to it, a state by its numbers, and a block
-abbrev comes : ℕ → Event
+abbrev comes : ℕ → Happening
 comes seq = packet seq 0 0
 
-abbrev no : Said
-no = took false
+abbrev no : Reply
+no = packetReply false
 
-abbrev yes : Said
-yes = took true
+abbrev yes : Reply
+yes = packetReply true
 
 abbrev state : ℕ → ℕ → ℕ → ℕ → ℕ → ℕ → ℕ → ℕ → ℕ → ℕ → Reception
 state m c b bad p r e q t j = record { «max_seq» = m; cycles = c; «base_seq» = b; «bad_seq» = bad; probation = p; received = r; «expected_prior» = e; «received_prior» = q; transit = t; jitter = j }
 
-abbrev figures : ℕ → Loss → ℕ → ℕ → Said
-figures f l x j = gave (made (record { ssrc = 7; fraction = f; lost = l; sequence = x; jitter = j; lsr = 8; dlsr = 9 }))
+abbrev figures : ℕ → Loss → ℕ → ℕ → Reply
+figures f l x j = blockReply (made (record { ssrc = 7; fraction = f; lost = l; sequence = x; jitter = j; lsr = 8; dlsr = 9 }))
 
 abbrev rows : List Row
 rows =
@@ -103,7 +103,7 @@ rows =
     ∷ looks-up [] (1 ∷ 2 ∷ []) (7 ∷ []) (refuse 31 0 0, 7 ∷ [])
     ∷ looks-up [] [] (7 ∷ []) (refuse 2 4 0, 7 ∷ [])
     ∷ looks-up (0x80 ∷ 0xCA ∷ 0 ∷ 0 ∷ []) (0 ∷ []) (7 ∷ 7 ∷ []) (ok 0, 255 ∷ 7 ∷ [])
-    ∷ hears 5 (block 7 8 9 ∷ []) (gave in-probation ∷ []) (state 4 0 5 65537 2 0 0 0 0 0)
+    ∷ hears 5 (block 7 8 9 ∷ []) (blockReply in-probation ∷ []) (state 4 0 5 65537 2 0 0 0 0 0)
     ∷ hears 65535 (comes 65535 ∷ comes 0 ∷ []) (no ∷ yes ∷ []) (state 0 0 0 65537 0 1 0 0 0 0)
     ∷ hears 5 (comes 5 ∷ comes 9 ∷ comes 10 ∷ []) (no ∷ no ∷ yes ∷ []) (state 10 0 10 65537 0 1 0 0 0 0)
     ∷ hears 0 (comes 0 ∷ comes 1 ∷ comes 3001 ∷ comes 2 ∷ comes 3002 ∷ []) (no ∷ yes ∷ no ∷ yes ∷ yes ∷ []) (state 3002 0 3002 65537 0 1 0 0 0 0)
@@ -114,5 +114,5 @@ rows =
     ∷ []
 
 pub rows-hold : All Holds rows
-unfolding be val put get sum store lossBits lossIn lossShown lentBlocks lossTests blocksBytes itemsBytes chunkBytes chunksBytes contentBytes layout kindOf versionIn padded lowIn typeIn stated paddingCount paddingFits checkHeader readBlocks readReport itemOf readItem readFill readItems readChunk readChunks readContent readAs ownTests tests calculateSize room write readPacket readPackets readCompound first foundIn lookup lookupWith newReception verdict updateSeq update blockOf reportBlock afterEvents saidTo mapOk need _>>_ _>>=_
+unfolding be val put get sum store lossBits lossIn lossShown lentBlocks lossTests blocksBytes itemsBytes chunkBytes chunksBytes contentBytes layout kindOf versionIn padded lowIn typeIn stated paddingCount paddingFits checkHeader readBlocks readReport itemOf readItem readFill readItems readChunk readChunks readContent readAs ownTests tests calculateSize room write readPacket readPackets readCompound first foundIn lookup lookupWith newReception verdict updateSeq update blockOf reportBlock receptionAfterAll replies mapOk need _>>_ _>>=_
 rows-hold = (refl, (refl, (refl, (refl, (refl, (refl, (refl, (refl, (refl, (refl, (refl, (refl, (refl, (refl, (refl, (refl, (refl, (refl, (refl, (refl, (refl, (refl, (refl, (refl, (refl, (refl, (refl, (refl, (refl, (refl, (refl, tt)))))))))))))))))))))))))))))))

@@ -3,38 +3,39 @@ use Prim.Native.Nat.{ℕ, _+_, _<_}
 use mathlib.Core.Bool.{Bool, true, false, _&&_, not}
 use mathlib.Core.List.{List, [], _∷_}
 use lib.IntN.{subℕ}
+use Rattle.rfc3550.specs.Answer.{pick}
 use Rattle.rfc3550.specs.Packet.{Block}
-use Rattle.rfc3550.specs.Reception.{Reception, Verdict, waits, starts, ahead, jumps, behind, verdict, update, clamped, fractionLost, Reported, reportBlock}
+use Rattle.rfc3550.specs.Reception.{Reception, Verdict, waits, starts, ahead, jumps, behind, verdict, accepted, update, clamped, fractionLost, Reported, reportBlock}
 
 -- a packet comes, with its sequence number, timestamp and arrival; or a block is asked for, with SSRC, last SR and delay
-pub data Event : Type 0 where
-  packet : ℕ → ℕ → ℕ → Event
-  block : ℕ → ℕ → ℕ → Event
+pub data Happening : Type 0 where
+  packet : ℕ → ℕ → ℕ → Happening
+  block : ℕ → ℕ → ℕ → Happening
 
-abbrev pub EventTyped : Event → Type 0
-EventTyped (packet seq timestamp arrival) = seq < 65536
-EventTyped (block ssrc lsr dlsr) = Unit {0}
+abbrev pub HappeningTyped : Happening → Type 0
+HappeningTyped (packet seq timestamp arrival) = seq < 65536
+HappeningTyped (block ssrc lsr dlsr) = Unit {0}
 
-abbrev pub afterEvent : Reception → Event → Reception
-afterEvent s (packet seq timestamp arrival) = update s seq timestamp arrival .0
-afterEvent s (block ssrc lsr dlsr) = reportBlock s ssrc lsr dlsr .1
+abbrev pub receptionAfter : Reception → Happening → Reception
+receptionAfter s (packet seq timestamp arrival) = update s seq timestamp arrival .0
+receptionAfter s (block ssrc lsr dlsr) = reportBlock s ssrc lsr dlsr .1
 
-unfoldable pub afterEvents : Reception → List Event → Reception
-afterEvents s [] = s
-afterEvents s (e ∷ es) = afterEvents (afterEvent s e) es
+unfoldable pub receptionAfterAll : Reception → List Happening → Reception
+receptionAfterAll s [] = s
+receptionAfterAll s (e ∷ es) = receptionAfterAll (receptionAfter s e) es
 
 -- what is answered: whether the packet is accepted, or the block
-pub data Said : Type 0 where
-  took : Bool → Said
-  gave : Reported → Said
+pub data Reply : Type 0 where
+  packetReply : Bool → Reply
+  blockReply : Reported → Reply
 
-abbrev pub said : Reception → Event → Said
-said s (packet seq timestamp arrival) = took (update s seq timestamp arrival .1)
-said s (block ssrc lsr dlsr) = gave (reportBlock s ssrc lsr dlsr .0)
+abbrev pub reply : Reception → Happening → Reply
+reply s (packet seq timestamp arrival) = packetReply (update s seq timestamp arrival .1)
+reply s (block ssrc lsr dlsr) = blockReply (reportBlock s ssrc lsr dlsr .0)
 
-unfoldable pub saidTo : Reception → List Event → List Said
-saidTo s [] = []
-saidTo s (e ∷ es) = said s e ∷ saidTo (afterEvent s e) es
+unfoldable pub replies : Reception → List Happening → List Reply
+replies s [] = []
+replies s (e ∷ es) = reply s e ∷ replies (receptionAfter s e) es
 
 -- ---- what A.1 says of each packet, and where a block was asked for
 
@@ -42,13 +43,13 @@ pub data Outcome : Type 0 where
   came : Verdict → Outcome
   asked : Outcome
 
-abbrev pub outcome : Reception → Event → Outcome
+abbrev pub outcome : Reception → Happening → Outcome
 outcome s (packet seq timestamp arrival) = came (verdict s seq)
 outcome s (block ssrc lsr dlsr) = asked
 
-unfoldable pub outcomes : Reception → List Event → List Outcome
+unfoldable pub outcomes : Reception → List Happening → List Outcome
 outcomes s [] = []
-outcomes s (e ∷ es) = outcome s e ∷ outcomes (afterEvent s e) es
+outcomes s (e ∷ es) = outcome s e ∷ outcomes (receptionAfter s e) es
 
 abbrev pub isStart : Outcome → Bool
 isStart (came (waits n)) = false
@@ -72,11 +73,7 @@ packetsIn (asked ∷ os) = packetsIn os
 
 -- 1 for a packet that A.1 accepts as valid
 abbrev pub counts : Verdict → ℕ
-counts (waits n) = 0
-counts starts = 1
-counts (ahead d) = 1
-counts jumps = 0
-counts behind = 1
+counts v = pick (accepted v) 1 0
 
 -- A.1's difference, where it is below 3000
 abbrev pub moves : Verdict → ℕ

@@ -78,7 +78,8 @@ pub data Verdict : Type 0 where
   jumps : Verdict
   behind : Verdict
 
--- MIN_SEQUENTIAL 2, MAX_DROPOUT 3000, MAX_MISORDER 100; udelta is the difference from max_seq, "the successor test in probation likewise"
+-- MIN_SEQUENTIAL is 2, MAX_DROPOUT 3000 and MAX_MISORDER 100, which is 65,536 − 65,436; udelta is the difference from max_seq, "the successor test
+-- in probation likewise"
 abbrev pub verdictBy : ℕ → Reception → ℕ → Verdict
 verdictBy udelta s seq =
     pick (ltb 0 (s .probation))

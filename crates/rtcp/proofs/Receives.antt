@@ -5,7 +5,7 @@ use Rattle.rfc3550.specs.Packet.{Block, Reporter, All}
 use Rattle.rfc3550.specs.Write.{listsOf, giveReport, write}
 use Rattle.rfc3550.specs.Writer.{add, call}
 use Rattle.rfc3550.specs.Reception.{Reception, newReception, starts, verdict, update, Reported, in-probation, made, reportBlock}
-use Rattle.rfc3550.specs.History.{EventTyped, afterEvents, took, gave, saidTo, outcomes, noStart, packetsIn, movedIn, receivedSince, blockSince}
+use Rattle.rfc3550.specs.History.{HappeningTyped, receptionAfterAll, packetReply, blockReply, replies, outcomes, noStart, packetsIn, movedIn, receivedSince, blockSince}
 use Rattle.rfc3550.specs.Returned.{Ran}
 use Rattle.rfc3550.proofs.Answers.{true≢false, Never}
 use Rattle.rfc3550.proofs.Receptions.{Gave, write-never, call-never}
@@ -24,7 +24,7 @@ use Rattle.rtcp.specs.declared.write_result.RtcpWritten.{RtcpWritten}
 use Rattle.rtcp.specs.declared.write_compound.RtcpCall.{RtcpCall}
 use Rattle.rtcp.specs.Report.{blockResult}
 use Rattle.rtcp.specs.Receive.{receptionIn, receptionResult, updateResult, noBlock, reportResult}
-use Rattle.rtcp.specs.Received.{Call, «rtcp_reception_update», «rtcp_reception_report_block», eventOf, blockIn, saidOf, receptions}
+use Rattle.rtcp.specs.Received.{Call, «rtcp_reception_update», «rtcp_reception_report_block», happeningOf, blockIn, replyOf, receptions}
 use Rattle.rtcp.specs.declared.read_report.RtcpBlock.{RtcpBlock}
 use Rattle.rtcp.specs.declared.receive.RtcpReception.{RtcpReception}
 use Rattle.rtcp.specs.declared.receive.RtcpReceptionUpdate.{RtcpReceptionUpdate}
@@ -59,31 +59,31 @@ pub ruleset receives = (needs, new-out, update-out, made-out, none-out, report-o
 update-back : (x : Reception × Bool) → (receptionIn (updateResult x .reception), eqb (updateResult x .accepted) 1) ≡ x
 update-back x = ap (λ (b : Bool). (x .0, b)) (bit-back (x .1))
 
-report-back : (ssrc lsr dlsr : ℕ) (x : Reported × Reception) → (receptionIn (reportResult x .reception) ≡ x .1) × (saidOf («rtcp_reception_report_block» ssrc lsr dlsr (reportResult x)) ≡ gave (x .0))
+report-back : (ssrc lsr dlsr : ℕ) (x : Reported × Reception) → (receptionIn (reportResult x .reception) ≡ x .1) × (replyOf («rtcp_reception_report_block» ssrc lsr dlsr (reportResult x)) ≡ blockReply (x .0))
 report-back ssrc lsr dlsr (in-probation, s) = (refl, refl)
 report-back ssrc lsr dlsr (made b, s) = (refl, refl)
 
 pub updateResult-injective : (x y : Reception × Bool) → updateResult x ≡ updateResult y → x ≡ y
 updateResult-injective x y e = sym (update-back x) ∙ ap (λ (r : RtcpReceptionUpdate). (receptionIn (r .reception), eqb (r .accepted) 1)) e ∙ update-back y
 
-pub reportResult-injective : (x y : Reported × Reception) → reportResult x ≡ reportResult y → (gave (x .0) ≡ gave (y .0)) × (x .1 ≡ y .1)
+pub reportResult-injective : (x y : Reported × Reception) → reportResult x ≡ reportResult y → (blockReply (x .0) ≡ blockReply (y .0)) × (x .1 ≡ y .1)
 reportResult-injective x y e = (
-  sym (report-back 0 0 0 x .1) ∙ ap (λ (r : RtcpReceptionBlock). saidOf («rtcp_reception_report_block» 0 0 0 r)) e ∙ report-back 0 0 0 y .1,
+  sym (report-back 0 0 0 x .1) ∙ ap (λ (r : RtcpReceptionBlock). replyOf («rtcp_reception_report_block» 0 0 0 r)) e ∙ report-back 0 0 0 y .1,
   sym (report-back 0 0 0 x .0) ∙ ap (λ (r : RtcpReceptionBlock). receptionIn (r .reception)) e ∙ report-back 0 0 0 y .0,
 )
 
-follows : Follows receptions receptionIn eventOf saidOf
+follows : Follows receptions receptionIn happeningOf replyOf
 follows s («rtcp_reception_update» seq timestamp arrival u) m =
     let w = update-back (update (receptionIn s) seq timestamp arrival) in
-    (m .0, ap (λ (u : RtcpReceptionUpdate). receptionIn (u .reception)) (m .1) ∙ ap (λ (x : Reception × Bool). x .0) w, ap (λ (u : RtcpReceptionUpdate). took (eqb (u .accepted) 1)) (m .1) ∙ ap (λ (x : Reception × Bool). took (x .1)) w)
+    (m .0, ap (λ (u : RtcpReceptionUpdate). receptionIn (u .reception)) (m .1) ∙ ap (λ (x : Reception × Bool). x .0) w, ap (λ (u : RtcpReceptionUpdate). packetReply (eqb (u .accepted) 1)) (m .1) ∙ ap (λ (x : Reception × Bool). packetReply (x .1)) w)
 follows s («rtcp_reception_report_block» ssrc lsr dlsr r) m =
     let w = report-back ssrc lsr dlsr (reportBlock (receptionIn s) ssrc lsr dlsr) in
-    (tt, ap (λ (r : RtcpReceptionBlock). receptionIn (r .reception)) m ∙ w .0, ap (λ (r : RtcpReceptionBlock). saidOf («rtcp_reception_report_block» ssrc lsr dlsr r)) m ∙ w .1)
+    (tt, ap (λ (r : RtcpReceptionBlock). receptionIn (r .reception)) m ∙ w .0, ap (λ (r : RtcpReceptionBlock). replyOf («rtcp_reception_report_block» ssrc lsr dlsr r)) m ∙ w .1)
 
 -- from the state that `rtcp_reception_new` returned, each answer and the last state are those of the history
 pub answers-returned : (seq : ℕ) (s : RtcpReception) → s ≡ receptionResult (newReception seq) → (rs : List Call) → Ran receptions rs s
-    → All EventTyped (map eventOf rs) × (receptionIn (last receptions receptionIn eventOf saidOf rs s) ≡ afterEvents (newReception seq) (map eventOf rs)) × (map saidOf rs ≡ saidTo (newReception seq) (map eventOf rs))
-answers-returned seq s e rs m = let q : newReception seq ≡ receptionIn s = sym (ap receptionIn e) in rw q (ran receptions receptionIn eventOf saidOf follows rs s m)
+    → All HappeningTyped (map happeningOf rs) × (receptionIn (last receptions receptionIn happeningOf replyOf rs s) ≡ receptionAfterAll (newReception seq) (map happeningOf rs)) × (map replyOf rs ≡ replies (newReception seq) (map happeningOf rs))
+answers-returned seq s e rs m = let q : newReception seq ≡ receptionIn s = sym (ap receptionIn e) in rw q (ran receptions receptionIn happeningOf replyOf follows rs s m)
 
 made-result : (x : Reported × Reception) (b : Block) → x .0 ≡ made b → (reportResult x .«in_probation» ≡ 0) × (reportResult x .block ≡ blockResult (ok (blockView b)))
 made-result (in-probation, s) b e = absurd (let z : true ≡ false = cc in true≢false z)
@@ -92,17 +92,17 @@ made-result (made c, s) b e = let z : c ≡ b = cc in (refl, ap (λ (b : Block).
 -- `rtcp_reception_update` returned u, with which the source starts; after calls rs, none of which starts, `rtcp_reception_report_block` returned r
 module _ (s : RtcpReception) (seq timestamp arrival : ℕ) (u : RtcpReceptionUpdate) (rs : List Call) where
   abbrev before : RtcpReception
-  before = last receptions receptionIn eventOf saidOf rs (u .reception)
+  before = last receptions receptionIn happeningOf replyOf rs (u .reception)
 
   pub figures-returned : seq < 65536 → u ≡ updateResult (update (receptionIn s) seq timestamp arrival) → verdict (receptionIn s) seq ≡ starts → Ran receptions rs (u .reception)
-      → noStart (outcomes (receptionIn (u .reception)) (map eventOf rs)) ≡ true
-      → packetsIn (outcomes (receptionIn (u .reception)) (map eventOf rs)) < 2147483648 → movedIn (outcomes (receptionIn (u .reception)) (map eventOf rs)) < 2147483648
+      → noStart (outcomes (receptionIn (u .reception)) (map happeningOf rs)) ≡ true
+      → packetsIn (outcomes (receptionIn (u .reception)) (map happeningOf rs)) < 2147483648 → movedIn (outcomes (receptionIn (u .reception)) (map happeningOf rs)) < 2147483648
       → (ssrc lsr dlsr : ℕ) (r : RtcpReceptionBlock) → r ≡ reportResult (reportBlock (receptionIn before) ssrc lsr dlsr)
-      → (before .received ≡ receivedSince (outcomes (receptionIn (u .reception)) (map eventOf rs)))
+      → (before .received ≡ receivedSince (outcomes (receptionIn (u .reception)) (map happeningOf rs)))
       × (r .«in_probation» ≡ 0)
-      × (r .block ≡ blockResult (ok (blockView (blockSince seq (outcomes (receptionIn (u .reception)) (map eventOf rs)) (before .jitter / 16) ssrc lsr dlsr))))
+      × (r .block ≡ blockResult (ok (blockView (blockSince seq (outcomes (receptionIn (u .reception)) (map happeningOf rs)) (before .jitter / 16) ssrc lsr dlsr))))
   figures-returned h mu st m none few near ssrc lsr dlsr r mr =
-      let g = returned receptions receptionIn eventOf saidOf follows s («rtcp_reception_update» seq timestamp arrival u) seq timestamp arrival (h, mu) refl st rs m none few near ssrc lsr dlsr in
+      let g = returned receptions receptionIn happeningOf replyOf follows s («rtcp_reception_update» seq timestamp arrival u) seq timestamp arrival (h, mu) refl st rs m none few near ssrc lsr dlsr in
       let w = made-result (reportBlock (receptionIn before) ssrc lsr dlsr) _ (g .1) in
       (g .0, ap (λ (r : RtcpReceptionBlock). r .«in_probation») mr ∙ w .0, ap (λ (r : RtcpReceptionBlock). r .block) mr ∙ w .1)
 

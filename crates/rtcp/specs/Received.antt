@@ -5,7 +5,7 @@ use lib.Dec.{eqb}
 use Rattle.rfc3550.specs.Answer.{pick}
 use Rattle.rfc3550.specs.Packet.{Block}
 use Rattle.rfc3550.specs.Reception.{in-probation, made, update, reportBlock}
-use Rattle.rfc3550.specs.History.{Event, packet, block, Said, took, gave}
+use Rattle.rfc3550.specs.History.{Happening, packet, block, Reply, packetReply, blockReply}
 use Rattle.rfc3550.specs.Returned.{Stepper}
 use Rattle.rtcp.specs.Receive.{receptionIn, updateResult, reportResult}
 use Rattle.rtcp.specs.declared.read_report.RtcpBlock.{RtcpBlock}
@@ -18,9 +18,9 @@ pub data Call : Type 0 where
   «rtcp_reception_update» : ℕ → ℕ → ℕ → RtcpReceptionUpdate → Call
   «rtcp_reception_report_block» : ℕ → ℕ → ℕ → RtcpReceptionBlock → Call
 
-abbrev pub eventOf : Call → Event
-eventOf («rtcp_reception_update» seq timestamp arrival u) = packet seq timestamp arrival
-eventOf («rtcp_reception_report_block» ssrc lsr dlsr r) = block ssrc lsr dlsr
+abbrev pub happeningOf : Call → Happening
+happeningOf («rtcp_reception_update» seq timestamp arrival u) = packet seq timestamp arrival
+happeningOf («rtcp_reception_report_block» ssrc lsr dlsr r) = block ssrc lsr dlsr
 
 abbrev pub blockIn : RtcpBlock → Block
 blockIn b =
@@ -35,9 +35,9 @@ blockIn b =
     }
 
 -- 1 is yes
-abbrev pub saidOf : Call → Said
-saidOf («rtcp_reception_update» seq timestamp arrival u) = took (eqb (u .accepted) 1)
-saidOf («rtcp_reception_report_block» ssrc lsr dlsr r) = gave (pick (eqb (r .«in_probation») 1) in-probation (made (blockIn (r .block))))
+abbrev pub replyOf : Call → Reply
+replyOf («rtcp_reception_update» seq timestamp arrival u) = packetReply (eqb (u .accepted) 1)
+replyOf («rtcp_reception_report_block» ssrc lsr dlsr r) = blockReply (pick (eqb (r .«in_probation») 1) in-probation (made (blockIn (r .block))))
 
 abbrev pub Meets : RtcpReception → Call → Type 0
 Meets s («rtcp_reception_update» seq timestamp arrival u) = (seq < 65536) × (u ≡ updateResult (update (receptionIn s) seq timestamp arrival))
