@@ -51,6 +51,7 @@ unfoldable pub outcomes : Reception → List Happening → List Outcome
 outcomes s [] = []
 outcomes s (e ∷ es) = outcome s e ∷ outcomes (receptionAfter s e) es
 
+-- "the last start (probation's end or A.1's restart)"
 abbrev pub isStart : Outcome → Bool
 isStart (came (waits n)) = false
 isStart (came starts) = true
@@ -75,7 +76,7 @@ packetsIn (asked ∷ os) = packetsIn os
 abbrev pub counts : Verdict → ℕ
 counts v = pick (accepted v) 1 0
 
--- A.1's difference, where it is below 3000
+-- "A.1 differences below 3000"
 abbrev pub moves : Verdict → ℕ
 moves (waits n) = 0
 moves starts = 0
@@ -88,6 +89,7 @@ acceptedIn [] = 0
 acceptedIn (came v ∷ os) = counts v + acceptedIn os
 acceptedIn (asked ∷ os) = acceptedIn os
 
+-- "the extended sequence moved by fewer than 2^31"
 unfoldable pub movedIn : List Outcome → ℕ
 movedIn [] = 0
 movedIn (came v ∷ os) = moves v + movedIn os
@@ -101,9 +103,11 @@ interval e r (asked ∷ os) = interval 0 0 os
 
 -- ---- the figures, from the number of the starting packet and what came after it; that packet is expected and received too
 
+-- "received is the number of packets that A.1 accepts as valid from the starting one on"
 abbrev pub receivedSince : List Outcome → ℕ
 receivedSince os = 1 + acceptedIn os
 
+-- "The extended sequence is that one's number plus the sum of the later ones' A.1 differences below 3000"
 abbrev pub sequenceSince : ℕ → List Outcome → ℕ
 sequenceSince seq os = seq + movedIn os
 

@@ -29,7 +29,7 @@ plus32 a b = (a + b) % 4294967296
 abbrev pub signed32 : ℕ → ℤ
 signed32 n = pick (ltb n 2147483648) (pos n) (subℕ n 4294967296)
 
--- ---- the state
+-- ---- "Keep, per source, the state of RFC 3550 A.1, A.3 and A.8"
 
 pub record Reception : Type 0 where
   -- the highest sequence number seen
@@ -78,8 +78,8 @@ pub data Verdict : Type 0 where
   jumps : Verdict
   behind : Verdict
 
--- MIN_SEQUENTIAL is 2, MAX_DROPOUT 3000 and MAX_MISORDER 100, which is 65,536 − 65,436; udelta is the difference from max_seq, "the successor test
--- in probation likewise"
+-- "Constants: 3000, 100 and 2, as in A.1": MIN_SEQUENTIAL is 2, MAX_DROPOUT 3000 and MAX_MISORDER 100, which is 65,536 − 65,436; udelta is the
+-- difference from max_seq, "the successor test in probation likewise"
 abbrev pub verdictBy : ℕ → Reception → ℕ → Verdict
 verdictBy udelta s seq =
     pick (ltb 0 (s .probation))
@@ -89,6 +89,7 @@ verdictBy udelta s seq =
 unfoldable pub verdict : Reception → ℕ → Verdict
 verdict s seq = verdictBy (minus16 seq (s .«max_seq»)) s seq
 
+-- "the packets that A.1 accepts"
 abbrev pub accepted : Verdict → Bool
 accepted (waits n) = false
 accepted starts = true
@@ -180,7 +181,7 @@ abbrev pub fractionLost : ℤ → ℕ → ℕ
 fractionLost (pos lost) expected = pick (eqb expected 0) 0 (min (lost * 256 / expected) 255)
 fractionLost (negsuc lost) expected = 0
 
--- since the last block, or the start
+-- "since the last block or that start"
 abbrev pub expectedInterval : Reception → ℕ
 expectedInterval s = minus32 (expected s) (s .«expected_prior»)
 
