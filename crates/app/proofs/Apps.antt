@@ -1,5 +1,5 @@
 -- Reading an APP packet, from what a reader has tested, and its parts by place.
-use Rattle.rfc3550.proofs.Prelude.{needs, ◌≡◌, refl, ap, ◌∙◌, sym, List, ℕ, ◌+◌, ◌-◌, ◌<◌, ◌≤◌, arith, length, take, drop, length-drop, drop-drop, length-take-le}
+use Rattle.rfc3550.proofs.Prelude.{rules, ◌≡◌, refl, ap, ◌∙◌, sym, List, ℕ, ◌+◌, ◌-◌, ◌<◌, ◌≤◌, arith, length, take, drop, length-drop, drop-drop, length-take-le}
 use Rattle.rfc3550.specs.Answer.{Refusal, ok, refused, map_ok}
 use Rattle.rfc3550.specs.Bytes.{val}
 use Rattle.rfc3550.specs.Packet.{Content, app, Packet}
@@ -90,4 +90,4 @@ parts s p e =
 pub data_none : (b : ℕ) (s : List ℕ) → b < 12 → take 0 s ≡ take (b - 12) (drop 12 s)
 data_none b s h = let z : b - 12 ≡ 0 = omega arith in rw z
 
-pub ruleset apps = (needs, app_none, app_header, app_enough, app_within, app_read, app_why, app_refused, app_parsed, data_none)
+pub ruleset apps = (rules, app_none, app_header, app_enough, app_within, app_read, app_why, app_refused, app_parsed, data_none)

@@ -37,7 +37,7 @@ pub use denote.Signature.{plain, named_lft}
 pub use denote.Steps.{owned, nothing}
 pub use denote.Triple.Entry.{on_entry, Vals}
 pub use denote.Triple.Table.{cited}
-pub use denote.Triple.Walked.{says, Stays, stay_none_slice, stay_none, walk_of, Goes-none_slice, Goes-none, ends_at, walked, gave_slice, Goes-gave_slice, needs, stay_slice, Goes-slice}
+pub use denote.Triple.Walked.{says, Stays, stay_none_slice, stay_none, walk_of, Goes-none_slice, Goes-none, ends_at, walked, gave_slice, Goes-gave_slice, rules, stay_slice, Goes-slice}
 pub use denote.Exit.{yes}
 pub use denote.Memory.{pointee}
 pub use contract.Lifetimes.{Lfts}

@@ -1,5 +1,5 @@
 -- Reading a BYE packet, from what a reader has tested, its sources, and its parts by place.
-use Rattle.rfc3550.proofs.Prelude.{needs, ◌≡◌, refl, ap, ◌∙◌, sym, subst, true, false, List, [], ◌∷◌, ⊎_elim, ℕ, ◌+◌, ◌-◌, ◌*◌, ◌<◌, ◌≤◌, ◌^◌, mod-lt, add-zero, add-one, arith, le-leb, lt-leb, length, get_or, take, drop, replicate, length-drop, length-replicate, drop-drop, length-take-le, take_all, slice_empty, slice-cons}
+use Rattle.rfc3550.proofs.Prelude.{rules, ◌≡◌, refl, ap, ◌∙◌, sym, subst, true, false, List, [], ◌∷◌, ⊎_elim, ℕ, ◌+◌, ◌-◌, ◌*◌, ◌<◌, ◌≤◌, ◌^◌, mod-lt, add-zero, add-one, arith, le-leb, lt-leb, length, get_or, take, drop, replicate, length-drop, length-replicate, drop-drop, length-take-le, take_all, slice_empty, slice-cons}
 use Rattle.rfc3550.specs.Answer.{Refusal, refusal, Answer, ok, refused, refuse, need, ◌>>◌, ◌>>=◌, map_ok}
 use Rattle.rfc3550.specs.Bytes.{val, get}
 use Rattle.rfc3550.specs.Packet.{Leaving, no_reason, reason, bye, Content, Packet}
@@ -313,4 +313,4 @@ module _ (b r n : ℕ) (s : List ℕ) where
   pub tail_is : (l : List ℕ) → n ≤ b - r → l ≡ take (b - r - n) (drop (r + n) s) → l ≡ take (b - (r + n)) (drop (r + n) s)
   tail_is l h e = let z : b - r - n ≡ b - (r + n) = omega arith in e ∙ rw z
 
-pub ruleset byes = (needs, none_header, why_header, bye_header, bye_body, none_cut, why_cut, reason_none, why_bare, length_there, none_over, why_over, reason_there, why_said, bye_refused, bye_parsed, source_refused, source_none, source_there, source_scaled, source_fits, source_within, tail_before, tail_within, tail_is)
+pub ruleset byes = (rules, none_header, why_header, bye_header, bye_body, none_cut, why_cut, reason_none, why_bare, length_there, none_over, why_over, reason_there, why_said, bye_refused, bye_parsed, source_refused, source_none, source_there, source_scaled, source_fits, source_within, tail_before, tail_within, tail_is)

@@ -1,5 +1,5 @@
 -- A datagram: the steps of a packet's frame, the packet behind it, and the loop over the packets.
-use Rattle.rfc3550.proofs.Prelude.{needs, ◌≡◌, refl, sym, ap, ◌∙◌, subst, Bool, true, false, ◌||◌, not, List, [], ◌∷◌, ℕ, zero, suc, ◌+◌, ◌-◌, ◌<◌, ◌≤◌, ◌^◌, zero-add, add-zero, arith, lt-leb, le-leb, lt-ltb, le-ltb, eq-eqb, ne_eqb, eqb-true, leb-true, ltb-true, not-true, not-false, length, take, drop, get_or, length-drop, drop_of_length-le, length-take-le, take_all, drop-drop, get_or-take, drop-cons, eqb, ltb}
+use Rattle.rfc3550.proofs.Prelude.{rules, ◌≡◌, refl, sym, ap, ◌∙◌, subst, Bool, true, false, ◌||◌, not, List, [], ◌∷◌, ℕ, zero, suc, ◌+◌, ◌-◌, ◌<◌, ◌≤◌, ◌^◌, zero-add, add-zero, arith, lt-leb, le-leb, lt-ltb, le-ltb, eq-eqb, ne_eqb, eqb-true, leb-true, ltb-true, not-true, not-false, length, take, drop, get_or, length-drop, drop_of_length-le, length-take-le, take_all, drop-drop, get_or-take, drop-cons, eqb, ltb}
 use Rattle.rfc3550.specs.Answer.{Refusal, refusal, Answer, ok, refused, refuse, need, ◌>>◌, ◌>>=◌, map_ok, pick}
 use Rattle.rfc3550.specs.Packet.{Packet as Read, has_cname, some}
 use Rattle.rfc3550.specs.Read.{kind_of, version_in, padded, type_in, low_in, stated, read_as}
@@ -481,6 +481,6 @@ module _ (s : List ℕ) (q : ParsedCompound) (g : parsed_compound_of q ≡ answe
   unfolding open_walk ◌>>=◌ map_ok
   open_ok x e = rw (map_ok_inv compound_view (read_compound s) (sym g ∙ ap parsed_compound_of e)).1
 
-pub ruleset frames = (needs, not-true, not-false, padding_set, padding_clear, later, sender_first, receiver_first, frame_short_len, frame_short_why, frame_version_len, frame_version_why, frame_past_len, frame_past_why, frame_padding_len, frame_padding_why, frame_report_len, frame_report_why, frame_passed_len, frame_passed_why, frame_refused, frame_within, frame_length, verdict_refused, verdict_passed)
+pub ruleset frames = (rules, not-true, not-false, padding_set, padding_clear, later, sender_first, receiver_first, frame_short_len, frame_short_why, frame_version_len, frame_version_why, frame_past_len, frame_past_why, frame_padding_len, frame_padding_why, frame_report_len, frame_report_why, frame_passed_len, frame_passed_why, frame_refused, frame_within, frame_length, verdict_refused, verdict_passed)
 
-pub ruleset compounds = (needs, not-true, not-false, no_byte, loop_start, loop_named, loop_unnamed, loop_refused, loop_fits, loop_counts, loop_less, loop_again, len_none, len_none_why, len_here, len_here_why, step_none, step_start, step_within, step_fits, step_refused, step_some, open_refused, open_ok)
+pub ruleset compounds = (rules, not-true, not-false, no_byte, loop_start, loop_named, loop_unnamed, loop_refused, loop_fits, loop_counts, loop_less, loop_again, len_none, len_none_why, len_here, len_here_why, step_none, step_start, step_within, step_fits, step_refused, step_some, open_refused, open_ok)

@@ -1,5 +1,5 @@
 -- The packets of an accepted datagram as rows of three numbers, laid into a list.
-use Rattle.rfc3550.proofs.Prelude.{needs, ◌≡◌, refl, sym, ap, ◌∙◌, subst, List, [], ◌∷◌, ◌++◌, ℕ, suc, ◌+◌, ◌-◌, ◌*◌, ◌<◌, ◌≤◌, ◌^◌, arith, length, take, drop, set, get_or, length-append, length-drop, drop-drop, drop-append_seam}
+use Rattle.rfc3550.proofs.Prelude.{rules, ◌≡◌, refl, sym, ap, ◌∙◌, subst, List, [], ◌∷◌, ◌++◌, ℕ, suc, ◌+◌, ◌-◌, ◌*◌, ◌<◌, ◌≤◌, ◌^◌, arith, length, take, drop, set, get_or, length-append, length-drop, drop-drop, drop-append_seam}
 use Rattle.rfc3550.specs.Answer.{Refusal, refusal, ok, refused, map_ok}
 use Rattle.rfc3550.specs.Bytes.{store}
 use Rattle.rfc3550.specs.Packet.{Packet as Read, type, layout, layouts, Valid, All}
@@ -175,4 +175,4 @@ module _ (s l : List ℕ) (q : ParsedCompound) (g : parsed_compound_of q ≡ map
         let n : length m.0 ≡ c.n_packets = ap (λ (c : Compound). c.n_packets) m.2 in
         lay_short (map_ok packet_rows (read_compound s)) (packet_rows m.0) l (c.n_packets * 3) (ap (map_ok packet_rows) m.1) (length_rows 0 m.0 ∙ ap (λ (k : ℕ). k * 3) n) h
 
-pub ruleset listings = (needs, rest_long, row_length, row_laid, rows_few, rows_start, rows_room, rows_scaled, rows_fits, rows_again, rows_done, packets_refused, packets_read, packets_few, packets_short)
+pub ruleset listings = (rules, rest_long, row_length, row_laid, rows_few, rows_start, rows_room, rows_scaled, rows_fits, rows_again, rows_done, packets_refused, packets_read, packets_few, packets_short)

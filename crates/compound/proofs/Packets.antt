@@ -1,5 +1,5 @@
 -- A packet of any kind, from the answer of its kind's reader.
-use Rattle.rfc3550.proofs.Prelude.{needs, ◌≡◌, refl, sym, ap, ◌∙◌, arith, eqb, Bool, true, false, List, ℕ, ◌<◌, ne_eqb}
+use Rattle.rfc3550.proofs.Prelude.{rules, ◌≡◌, refl, sym, ap, ◌∙◌, arith, eqb, Bool, true, false, List, ℕ, ◌<◌, ne_eqb}
 use Rattle.rfc3550.specs.Answer.{Refusal, Answer, ok, refused, map_ok, pick}
 use Rattle.rfc3550.specs.Packet.{Content, report, sdes, bye, app, unknown, receiver, sender, Packet as Read, has_cname}
 use Rattle.rfc3550.specs.Read.{Kind, SR, RR, SDES, BYE, APP, UNKNOWN, kind_for, kind_of, type_in, low_in, read_as}
@@ -65,7 +65,7 @@ module _ (s : List ℕ) (c : Kinds) (h : kind_in c ≡ kind_of (type_in s) (low_
 pub why_found : (s : List ℕ) (c d : Kinds) (r : Refusal) → kind_in c ≡ kind_of (type_in s) (low_in s) → c ≡ d → r ≡ refusal_in (read_as (kind_in d) s) → r ≡ refusal_in (read_as (kind_of (type_in s) (low_in s)) s)
 why_found s c d r h e q = q ∙ ap (λ (k : Kind). refusal_in (read_as k s)) (kind_found s c d h e)
 
-pub ruleset packets = (needs, why_found, sr_read, rr_read, sdes_read, bye_read, app_read, unknown_read)
+pub ruleset packets = (rules, why_found, sr_read, rr_read, sdes_read, bye_read, app_read, unknown_read)
 
 -- ---- what the check of a datagram asks of a packet
 
@@ -143,4 +143,4 @@ module _ (b : ℕ) (c : Bool) (z : b ≡ 0 → ⊥) where
   pub verdict_unnamed : c ≡ false → ◌≡◌ {A = ℕ} 1 (pick (eqb b 0) 0 (verdict_of c))
   verdict_unnamed e = rw (ne_eqb b 0 z, e)
 
-pub ruleset verdicts = (needs, verdict_none, verdict_named, verdict_unnamed, sr_verdict, rr_verdict, sdes_verdict, bye_verdict, app_verdict, unknown_verdict, verdict_found)
+pub ruleset verdicts = (rules, verdict_none, verdict_named, verdict_unnamed, sr_verdict, rr_verdict, sdes_verdict, bye_verdict, app_verdict, unknown_verdict, verdict_found)

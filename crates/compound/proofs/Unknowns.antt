@@ -1,5 +1,5 @@
 -- Reading an unknown packet, from what a reader has tested, and what the parts of an accepted one are.
-use Rattle.rfc3550.proofs.Prelude.{needs, ◌≡◌, refl, ap, ◌∙◌, sym, Bool, List, ℕ, ◌+◌, ◌-◌, ◌≤◌, arith, length, take, drop, length-drop, length-take-le}
+use Rattle.rfc3550.proofs.Prelude.{rules, ◌≡◌, refl, ap, ◌∙◌, sym, Bool, List, ℕ, ◌+◌, ◌-◌, ◌≤◌, arith, length, take, drop, length-drop, length-take-le}
 use Rattle.rfc3550.specs.Answer.{Refusal, Answer, ok, refused, ◌>>=◌, map_ok}
 use Rattle.rfc3550.specs.Packet.{Content, unknown, Packet}
 use Rattle.rfc3550.specs.Read.{UNKNOWN, of_kind, low_in, type_in, check_header, check_packet, read_content, read_as}
@@ -55,7 +55,7 @@ module _ (s : List ℕ) (o : Unknown) (h : o ≡ value_or no_unknown unknown_vie
   pub parsed_read : (o.body ≡ 0 → ⊥) → ok o ≡ map_ok unknown_view (read_as UNKNOWN s)
   parsed_read = parse_read UNKNOWN s no_unknown unknown_view (λ o. o.body) refl o h
 
-pub ruleset unknowns = (needs, unknown_none, unknown_body, unknown_read, unknown_why, parsed_none, parsed_read)
+pub ruleset unknowns = (rules, unknown_none, unknown_body, unknown_read, unknown_why, parsed_none, parsed_read)
 
 -- ---- the parts of an accepted packet
 

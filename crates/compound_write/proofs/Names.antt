@@ -1,5 +1,5 @@
 -- Some chunk of the lists lent has a CNAME exactly if some item lent is one.
-use Rattle.rfc3550.proofs.Prelude.{ℕ, zero, suc, ◌+◌, ◌<◌, ◌≤◌, ◌≡◌, refl, sym, ap, ◌∙◌, Bool, true, false, ◌&&◌, ◌||◌, List, [], ◌∷◌, add-zero, add-one, arith, needs, eqb-true, length, take, drop, get_or, length-drop, drop_of_length-le, drop-cons, drop-drop, get_or-drop, length-take-le, eqb}
+use Rattle.rfc3550.proofs.Prelude.{ℕ, zero, suc, ◌+◌, ◌<◌, ◌≤◌, ◌≡◌, refl, sym, ap, ◌∙◌, Bool, true, false, ◌&&◌, ◌||◌, List, [], ◌∷◌, add-zero, add-one, arith, rules, eqb-true, length, take, drop, get_or, length-drop, drop_of_length-le, drop-cons, drop-drop, get_or-drop, length-take-le, eqb}
 use Rattle.rfc3550.specs.Answer.{pick}
 use Rattle.rfc3550.specs.Bytes.{sum}
 use Rattle.rfc3550.specs.Packet.{Item, item, priv, item_type, item_rest, is_cname, some, chunk_has_cname}
@@ -124,4 +124,4 @@ module _ (ts vs : List ℕ) where
       let z : drop i ts ≡ [] = drop_of_length-le ts {i = i} h in
       rw z at w.rest
 
-pub ruleset namings = (needs, testing_start, testing_again, testing_found, testing_done)
+pub ruleset namings = (rules, testing_start, testing_again, testing_found, testing_done)

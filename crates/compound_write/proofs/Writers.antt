@@ -1,5 +1,5 @@
 -- What every add shares, over the packet given, and closing.
-use Rattle.rfc3550.proofs.Prelude.{needs, ℕ, ◌+◌, ◌-◌, ◌^◌, ◌<◌, ◌≤◌, ◌≡◌, refl, sym, ap, ◌∙◌, Bool, true, false, ◌&&◌, ◌||◌, not, List, [], ◌++◌, arith, le-leb, lt-leb, leb-true, leb-false, lt-ltb, le-ltb, ltb-true, eq-eqb, ne_eqb, not-true, not-false, length, take, drop, length-take, length-drop, leb, ltb, eqb}
+use Rattle.rfc3550.proofs.Prelude.{rules, ℕ, ◌+◌, ◌-◌, ◌^◌, ◌<◌, ◌≤◌, ◌≡◌, refl, sym, ap, ◌∙◌, Bool, true, false, ◌&&◌, ◌||◌, not, List, [], ◌++◌, arith, le-leb, lt-leb, leb-true, leb-false, lt-ltb, le-ltb, ltb-true, eq-eqb, ne_eqb, not-true, not-false, length, take, drop, length-take, length-drop, leb, ltb, eqb}
 use Rattle.rfc3550.specs.Answer.{Refusal, refusal, Answer, ok, refused, need, ◌>>◌, capped, pick}
 use Rattle.rfc3550.specs.Bytes.{store}
 use Rattle.rfc3550.specs.Loss.{Loss}
@@ -261,4 +261,4 @@ pub report_again : (r : Reporter) (fs : List ℕ) (ls : List Loss) (ws : List �
     → give_report r (block_lists (take (length fs - 0) (drop 0 fs)) (take (length ls - 0) (drop 0 ls)) (take (length ws - 0) (drop 0 ws))) k ≡ give_report r (block_lists fs ls ws) k
 report_again r fs ls ws k = rw (lent_again fs, lent_again ls, lent_again ws)
 
-pub ruleset adds = (needs, not-true, not-false, starts_behind, starts_sender, starts_receiver, admit_closed, admit_padded, admit_first, admit_none, admit_short, admit_fits, why_closed, why_padded, why_first, why_own, why_short, why_over, admitted_some, admitted_starts, admitted_sum, admitted_part, add_refused, add_done, close_closed, close_done, close_unnamed, bye_again, app_again, sdes_again, report_again, report_number, report_reason, bye_fits, app_fits, report_fits, size_fits, sdes_values, sdes_names)
+pub ruleset adds = (rules, not-true, not-false, starts_behind, starts_sender, starts_receiver, admit_closed, admit_padded, admit_first, admit_none, admit_short, admit_fits, why_closed, why_padded, why_first, why_own, why_short, why_over, admitted_some, admitted_starts, admitted_sum, admitted_part, add_refused, add_done, close_closed, close_done, close_unnamed, bye_again, app_again, sdes_again, report_again, report_number, report_reason, bye_fits, app_fits, report_fits, size_fits, sdes_values, sdes_names)

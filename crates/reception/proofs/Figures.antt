@@ -1,6 +1,6 @@
 -- A number read as signed, jitter, loss and fraction, one law for each way through the code.
 use Rattle.std.proofs.Common.{pos, negsuc, nat_abs}
-use Rattle.rfc3550.proofs.Prelude.{needs, ℕ, suc, ◌-◌, ◌*◌, ◌/◌, ◌%◌, ◌<◌, ◌≤◌, ◌^◌, min, ◌≡◌, sym, ap, ◌∙◌, Bool, true, false, arith, ltb, lt-ltb, le-ltb, eq-eqb, ne_eqb}
+use Rattle.rfc3550.proofs.Prelude.{rules, ℕ, suc, ◌-◌, ◌*◌, ◌/◌, ◌%◌, ◌<◌, ◌≤◌, ◌^◌, min, ◌≡◌, sym, ap, ◌∙◌, Bool, true, false, arith, ltb, lt-ltb, le-ltb, eq-eqb, ne_eqb}
 use Rattle.rfc3550.specs.Answer.{pick}
 use Rattle.rfc3550.specs.Loss.{Loss, loss_of}
 use Rattle.rfc3550.specs.Reception.{minus32, plus32, signed32, jitter_after, clamped, fraction_lost}
@@ -52,4 +52,4 @@ module _ (lost expected : ℕ) where
     pub fraction_full : (expected ≡ 0 → ⊥) → 255 ≤ lost * 256 / expected → 255 ≡ fraction_lost (signed32 lost) expected
     fraction_full e k = rw (signed_low lost h, ne_eqb expected 0 e) (omega arith)
 
-pub ruleset figures = (needs, size_low, size_high, cycles_wrapped, cycles_stay, jitter_first, jitter_next, clamp_low, clamp_high, fraction_below, fraction_none, fraction_some, fraction_full)
+pub ruleset figures = (rules, size_low, size_high, cycles_wrapped, cycles_stay, jitter_first, jitter_next, clamp_low, clamp_high, fraction_below, fraction_none, fraction_some, fraction_full)

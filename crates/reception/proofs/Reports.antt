@@ -1,5 +1,5 @@
 -- The block, and the state after it.
-use Rattle.rfc3550.proofs.Prelude.{needs, ℕ, ◌/◌, ◌<◌, ◌≤◌, ◌≡◌, arith, lt-ltb, le-ltb}
+use Rattle.rfc3550.proofs.Prelude.{rules, ℕ, ◌/◌, ◌<◌, ◌≤◌, ◌≡◌, arith, lt-ltb, le-ltb}
 use Rattle.std.proofs.Common.{ℤ, pos, negsuc, w32, to_z, of_z}
 use lib.Signed.{mag}
 use Rattle.rfc3550.specs.Loss.{Loss}
@@ -28,4 +28,4 @@ module _ (s : Reception) (ssrc lsr dlsr : ℕ) where
   unfolding report_block
   report_made b u h p q = rw (le-ltb 0 s.probation h, p, q)
 
-pub ruleset reports = (needs, report_none, report_made)
+pub ruleset reports = (rules, report_none, report_made)

@@ -1,5 +1,5 @@
 -- The state after a packet, one law for each way through the code.
-use Rattle.rfc3550.proofs.Prelude.{needs, ℕ, ◌-◌, ◌<◌, ◌≤◌, ◌≡◌, sym, ap, ◌∙◌, Bool, true, false, ltb, lt-ltb, le-ltb, le-leb, lt-leb, eq-eqb, ne_eqb}
+use Rattle.rfc3550.proofs.Prelude.{rules, ℕ, ◌-◌, ◌<◌, ◌≤◌, ◌≡◌, sym, ap, ◌∙◌, Bool, true, false, ltb, lt-ltb, le-ltb, le-leb, lt-leb, eq-eqb, ne_eqb}
 use Rattle.rfc3550.specs.Reception.{minus16, minus32, Reception, new_reception, Verdict, waits, starts, ahead, jumps, behind, verdict, accepted, update_seq, timed, update}
 use Rattle.reception.specs.Reception.{after_verdict}
 
@@ -62,4 +62,4 @@ module _ (s u : Reception) (seq timestamp arrival : ℕ) (t : Bool) (e : (u, t) 
       let b : u ≡ update_seq (verdict s seq) s seq = ap (λ (x : Reception × Bool). x.0) e in
       rw (a, r, p, q, b)
 
-pub ruleset updates = (needs, new_is, way_anew, way_next, way_start, way_ahead, way_behind, way_restart, way_jumps, update_no, update_yes)
+pub ruleset updates = (rules, new_is, way_anew, way_next, way_start, way_ahead, way_behind, way_restart, way_jumps, update_no, update_yes)

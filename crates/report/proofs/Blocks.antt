@@ -1,5 +1,5 @@
 -- A report block from its seven numbers, a lone block's steps, and blocks in three lists.
-use Rattle.rfc3550.proofs.Prelude.{needs, ◌≡◌, refl, sym, ap, ◌∙◌, List, [], ◌∷◌, ◌++◌, append_assoc, append-nil, ℕ, zero, suc, ◌+◌, ◌*◌, ◌/◌, ◌%◌, ◌^◌, ◌<◌, ◌≤◌, mul-suc, mul-zero, add-one, arith, le-leb, lt-leb, length, get_or, take, drop, set, sets, length-append, length-drop, drop-drop, length-take-le}
+use Rattle.rfc3550.proofs.Prelude.{rules, ◌≡◌, refl, sym, ap, ◌∙◌, List, [], ◌∷◌, ◌++◌, append_assoc, append-nil, ℕ, zero, suc, ◌+◌, ◌*◌, ◌/◌, ◌%◌, ◌^◌, ◌<◌, ◌≤◌, mul-suc, mul-zero, add-one, arith, le-leb, lt-leb, length, get_or, take, drop, set, sets, length-append, length-drop, drop-drop, length-take-le}
 use lib.Seq.{length-sets}
 use Rattle.rfc3550.specs.Answer.{ok, refuse, need, ◌>>◌, map_ok}
 use Rattle.rfc3550.specs.Bytes.{val, get}
@@ -191,4 +191,4 @@ module _ (s : List ℕ) (at n : ℕ) (f : List ℕ) (l : List Loss) (w : List �
   lists_laid f₁ l₁ w₁ a b c e =
       rw (length_read_blocks n (drop at s), le-leb n (length f) a, le-leb n (length l) b, le-leb (n * 5) (length w) c, length_read_blocks n (drop at s), e.fractions, e.losses, e.words)
 
-pub ruleset blocks = (needs, block_is_lem, block_short, block_long, block_whole, block_laid, listing_start, listing_again, listing_done, fractions_short, losses_short, words_short, lists_laid)
+pub ruleset blocks = (rules, block_is_lem, block_short, block_long, block_whole, block_laid, listing_start, listing_again, listing_done, fractions_short, losses_short, words_short, lists_laid)

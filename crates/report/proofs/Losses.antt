@@ -6,7 +6,7 @@ use lib.Bits.{bit_and, and_mask}
 use mir.Syntax.{w32}
 use mir.Val.{to_z, of_z, Fits, SFits}
 use mir.ValLaws.{to_z_pos, to_z-of_z}
-use Rattle.rfc3550.proofs.Prelude.{needs, ℕ, zero, suc, ◌+◌, ◌-◌, ◌%◌, ◌<◌, ◌^◌, ◌≡◌, refl, sym, ap, ◌∙◌, subst, Bool, true, false, T, leb, ltb, lt-ltb, le-ltb, ltb-true, ltb-false, arith}
+use Rattle.rfc3550.proofs.Prelude.{rules, ℕ, zero, suc, ◌+◌, ◌-◌, ◌%◌, ◌<◌, ◌^◌, ◌≡◌, refl, sym, ap, ◌∙◌, subst, Bool, true, false, T, leb, ltb, lt-ltb, le-ltb, ltb-true, ltb-false, arith}
 use Rattle.rfc3550.specs.Loss.{loss_bits, loss_of, loss_in, loss_shown}
 use Rattle.rfc3550.proofs.Losses.{loss_bits_lt, loss_of_low, loss_of_high}
 
@@ -156,4 +156,4 @@ module _ (z : ℤ) (f : SFits w32 z) (m : ℕ) (e : m ≡ mag (to_z w32 (of_z w3
   pub shown_above : lt_z (to_z w32 (of_z w32 z)) (pos 0) ≡ false → m ≡ loss_shown z
   shown_above h = e ∙ ap mag (to_z-of_z w32 z f) ∙ low_above z f (subst (λ (x : ℤ). lt_z x (pos 0) ≡ false) (to_z-of_z w32 z f) h)
 
-pub ruleset losses = (needs, bits_sign, bits_fit, bits_below, bits_are, turned, turned_fits, same, magnitude_fits, magnitude_tested, masked_sign, masked_fits, masked_is, loss_bits_lt, raised_fits, difference_fits, read_is, shown_below, shown_above)
+pub ruleset losses = (rules, bits_sign, bits_fit, bits_below, bits_are, turned, turned_fits, same, magnitude_fits, magnitude_tested, masked_sign, masked_fits, masked_is, loss_bits_lt, raised_fits, difference_fits, read_is, shown_below, shown_above)

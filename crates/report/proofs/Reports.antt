@@ -1,5 +1,5 @@
 -- Reading a report, over the kind: from what a reader has tested, what an accepted one tells, and its parts.
-use Rattle.rfc3550.proofs.Prelude.{needs, ◌≡◌, refl, ap, ◌∙◌, sym, subst, List, ⊎_elim, ℕ, zero, suc, ◌+◌, ◌-◌, ◌*◌, ◌<◌, ◌≤◌, arith, le-leb, lt-leb, length, take, drop, length-drop, drop-drop, length-take-le, take_all}
+use Rattle.rfc3550.proofs.Prelude.{rules, ◌≡◌, refl, ap, ◌∙◌, sym, subst, List, ⊎_elim, ℕ, zero, suc, ◌+◌, ◌-◌, ◌*◌, ◌<◌, ◌≤◌, arith, le-leb, lt-leb, length, take, drop, length-drop, drop-drop, length-take-le, take_all}
 use Rattle.rfc3550.specs.Answer.{Refusal, refusal, Answer, ok, refused, refuse, need, ◌>>◌, ◌>>=◌, map_ok}
 use Rattle.rfc3550.specs.Bytes.{val, get, sum}
 use Rattle.rfc3550.specs.Loss.{Loss}
@@ -208,7 +208,7 @@ module _ {k : Kind} {ws : List ℕ} {who : List ℕ → Reporter} (m : ReporterK
           pub index_within : (x : ℕ) → x ≡ least k + 24 * i → x + 24 ≤ length s
           index_within x e = let a = is_whole in omega arith
 
-pub ruleset reports = (needs, receiver_maker, sender_maker, none_header, why_header, none_short, why_short, body_long, why_long, report_none, report_long, report_within, index_refused, index_past, index_there, index_within, lists_refused, blocks_within, lists_all)
+pub ruleset reports = (rules, receiver_maker, sender_maker, none_header, why_header, none_short, why_short, body_long, why_long, report_none, report_long, report_within, index_refused, index_past, index_there, index_within, lists_refused, blocks_within, lists_all)
 
 -- ---- the fields of each kind
 
@@ -256,7 +256,7 @@ module _ (s : List ℕ) (o : SenderReport) (h : o ≡ value_or no_sender sender_
   pub sender_parsed : (o.body ≡ 0 → ⊥) → ok o ≡ map_ok sender_view (read_as SR s)
   sender_parsed = parse_read SR s no_sender sender_view (λ o. o.body) refl o h
 
-pub ruleset fields = (needs, receiver_maker, sender_maker, report_none, report_long, report_within, receiver_read, sender_read, receiver_none, receiver_parsed, sender_none, sender_parsed)
+pub ruleset fields = (rules, receiver_maker, sender_maker, report_none, report_long, report_within, receiver_read, sender_read, receiver_none, receiver_parsed, sender_none, sender_parsed)
 
 -- ---- what the value that was read tells of the blocks, over the kind and its view
 

@@ -1,5 +1,5 @@
 -- The cases of a report's size and bytes, over the reporter, each from what the code has tested or called.
-use Rattle.rfc3550.proofs.Prelude.{ℕ, ◌+◌, ◌-◌, ◌*◌, ◌^◌, ◌≤◌, ◌<◌, ◌≡◌, refl, sym, ap, ◌∙◌, Bool, true, false, List, [], ◌∷◌, append-nil, arith, needs, le-leb, lt-leb, leb-true, not-true, not-false, length, take, drop, length-append, leb}
+use Rattle.rfc3550.proofs.Prelude.{ℕ, ◌+◌, ◌-◌, ◌*◌, ◌^◌, ◌≤◌, ◌<◌, ◌≡◌, refl, sym, ap, ◌∙◌, Bool, true, false, List, [], ◌∷◌, append-nil, arith, rules, le-leb, lt-leb, leb-true, not-true, not-false, length, take, drop, length-append, leb}
 use lib.Signed.{mag}
 use mir.Syntax.{w32}
 use mir.Val.{to_z, of_z}
@@ -67,7 +67,7 @@ module _ (n : ℕ) (x : Loss) (k : ℕ) where
   pub counted_in : (least : ℕ) (t : Bool) → least < 256 → n ≤ 31 → t ≡ padding_ok k → t ≡ true → least + n * 24 + k < 2 ^ 64
   counted_in least t h f e q = let m = padding_most t k e q in omega arith
 
-pub ruleset counts = (needs, not-true, not-false, count_none, padding_none, loss_none, counted_size_lem, counted_in)
+pub ruleset counts = (rules, not-true, not-false, count_none, padding_none, loss_none, counted_size_lem, counted_in)
 
 pub ruleset whys = (not-true, not-false, why_of, over_count, bad_padding_lem, counted_why)
 

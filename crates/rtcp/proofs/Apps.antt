@@ -1,5 +1,5 @@
 -- APP packets: what C gets, from what the reader answers.
-use Rattle.rfc3550.proofs.Prelude.{◌≡◌, refl, List, ℕ, ◌≤◌, arith, needs, take, drop}
+use Rattle.rfc3550.proofs.Prelude.{◌≡◌, refl, List, ℕ, ◌≤◌, arith, rules, take, drop}
 use Rattle.rfc3550.specs.Answer.{Answer, ok, map_ok}
 use Rattle.rfc3550.specs.Packet.{Packet}
 use Rattle.rfc3550.specs.Read.{APP, read_as}
@@ -25,4 +25,4 @@ pub places : (s : List ℕ) (p : Packet) → read_as APP s ≡ ok p → Places s
 unfolding map_ok
 places s p e = let h = parts s p e in rw e (record { name = h.name; payload = h.payload; padding = h.padding })
 
-pub ruleset apps = (needs, app_order)
+pub ruleset apps = (rules, app_order)

@@ -1,5 +1,5 @@
 -- BYE packets: what C gets, from what the readers answer.
-use Rattle.rfc3550.proofs.Prelude.{◌≡◌, refl, List, ℕ, ◌+◌, ◌^◌, ◌<◌, ◌≤◌, arith, needs, take, drop}
+use Rattle.rfc3550.proofs.Prelude.{◌≡◌, refl, List, ℕ, ◌+◌, ◌^◌, ◌<◌, ◌≤◌, arith, rules, take, drop}
 use Rattle.rfc3550.specs.Answer.{Answer, ok, map_ok}
 use Rattle.rfc3550.specs.Packet.{Packet}
 use Rattle.rfc3550.specs.Read.{BYE, read_as}
@@ -29,4 +29,4 @@ pub places : (s : List ℕ) (p : Packet) → read_as BYE s ≡ ok p → Places s
 unfolding map_ok
 places s p e = let h = parts s p e in rw e (record { because = h.because; tail = h.tail; padding = h.padding })
 
-pub ruleset byes = (needs, bye_order, bye_fits)
+pub ruleset byes = (rules, bye_order, bye_fits)

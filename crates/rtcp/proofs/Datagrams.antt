@@ -1,5 +1,5 @@
 -- Datagrams and their walk: what C gets, from what the readers answer.
-use Rattle.rfc3550.proofs.Prelude.{◌≡◌, refl, sym, ap, ◌∙◌, List, ℕ, ◌+◌, ◌-◌, arith, length, take, drop, needs}
+use Rattle.rfc3550.proofs.Prelude.{◌≡◌, refl, sym, ap, ◌∙◌, List, ℕ, ◌+◌, ◌-◌, arith, length, take, drop, rules}
 use Rattle.rfc3550.specs.Answer.{Refusal, ok, refused, map_ok}
 use Rattle.rfc3550.specs.Packet.{Packet as Read}
 use Rattle.rfc3550.specs.Read.{Kind, SR, RR, SDES, BYE, APP, UNKNOWN, kind_of, type_in, low_in, read_as}
@@ -138,4 +138,4 @@ module _ (s : List ℕ) (at n : ℕ) (h : n ≡ or_zero (frame_at s at)) where
         let v : x ≡ numbers_of (packet_view w.0) = e ∙ sym w.2 ∙ ap (λ (k : Kind). numbers_of (view_as k w.0)) (sym (read_as_kind kind packet w.1)) in
         step_of_lem at n x (packet_view w.0) v ∙ ap (step_result at) (stepped s at n h z (ok (packet_view w.0)) (sym (ap (map_ok packet_view) w.1)))
 
-pub ruleset datagrams = (needs, sr_numbers_lem, rr_numbers_lem, sdes_numbers_lem, bye_numbers_lem, app_numbers_lem, unknown_numbers_lem, numbers_found, step_within, step_fits, walk_none, walk_refused, packet_stepped)
+pub ruleset datagrams = (rules, sr_numbers_lem, rr_numbers_lem, sdes_numbers_lem, bye_numbers_lem, app_numbers_lem, unknown_numbers_lem, numbers_found, step_within, step_fits, walk_none, walk_refused, packet_stepped)

@@ -1,5 +1,5 @@
 -- SDES packets, chunks, items and walks: what C gets, from what the readers answer.
-use Rattle.rfc3550.proofs.Prelude.{◌≡◌, refl, sym, ap, Bool, not, List, ℕ, ◌+◌, ◌-◌, ◌^◌, ◌<◌, ◌≤◌, arith, length, drop, get_or, eqb, ltb, needs, eq-eqb, ne_eqb}
+use Rattle.rfc3550.proofs.Prelude.{◌≡◌, refl, sym, ap, Bool, not, List, ℕ, ◌+◌, ◌-◌, ◌^◌, ◌<◌, ◌≤◌, arith, length, drop, get_or, eqb, ltb, rules, eq-eqb, ne_eqb}
 use Rattle.rfc3550.specs.Answer.{refusal, Answer, ok, refused, map_ok, pick}
 use Rattle.rfc3550.specs.Packet.{Item, item, priv, item_rest, item_bytes}
 use Rattle.rfc3550.specs.Read.{read_item, read_prefix}
@@ -109,4 +109,4 @@ pub chunk_stepped_lem : (at end : ℕ) (o : SteppedChunk) (c : SdesChunk) (w : C
     → chunk_step_result at end (ok (c, w)) ≡ chunk_step_result at end x
 chunk_stepped_lem at end o c w x = handed (chunk_step_result at end) stepped_chunk_of (λ (x : SdesChunk × ChunkWalk). steppedChunk.Chunk x.0 x.1) (λ x. refl) o (c, w) x
 
-pub ruleset descriptions = (needs, start_priv, start_plain, parts_of, item_order, item_fits, prefix_none, prefix_some, step_order, step_fits, chunk_stepped_lem)
+pub ruleset descriptions = (rules, start_priv, start_plain, parts_of, item_order, item_fits, prefix_none, prefix_some, step_order, step_fits, chunk_stepped_lem)

@@ -1,5 +1,5 @@
 -- What C gets of a source, and histories of what its functions returned.
-use Rattle.rfc3550.proofs.Prelude.{needs, ℕ, ◌/◌, ◌<◌, ◌≡◌, refl, sym, ap, ◌∙◌, subst, Bool, true, false, List, [], ◌∷◌, map, arith, eqb}
+use Rattle.rfc3550.proofs.Prelude.{rules, ℕ, ◌/◌, ◌<◌, ◌≡◌, refl, sym, ap, ◌∙◌, subst, Bool, true, false, List, [], ◌∷◌, map, arith, eqb}
 use Rattle.rfc3550.specs.Answer.{refusal, Answer, ok, refused}
 use Rattle.rfc3550.specs.Packet.{Block, Reporter, All}
 use Rattle.rfc3550.specs.Write.{lists_of, give_report, write}
@@ -51,7 +51,7 @@ pub report_out : (s : RtcpReception) (c : code.Reception) (ssrc lsr dlsr : ℕ) 
     → r ≡ report_result (report_of (reception_in s) o) → r ≡ report_result (report_block (reception_in s) ssrc lsr dlsr)
 report_out s c ssrc lsr dlsr o r e m h = h ∙ ap report_result (ap (λ (x : Reception). report_of x o) (sym e) ∙ m ∙ ap (λ (x : Reception). report_block x ssrc lsr dlsr) e)
 
-pub ruleset receives = (needs, new_out, update_out, made_out, none_out, report_out)
+pub ruleset receives = (rules, new_out, update_out, made_out, none_out, report_out)
 
 -- ---- histories
 

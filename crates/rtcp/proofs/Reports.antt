@@ -1,5 +1,5 @@
 -- Reports: what C gets, from what the readers answer.
-use Rattle.rfc3550.proofs.Prelude.{◌≡◌, refl, sym, ap, ◌∙◌, List, ℕ, ◌+◌, ◌-◌, ◌*◌, ◌<◌, ◌≤◌, arith, needs, length, take, drop}
+use Rattle.rfc3550.proofs.Prelude.{◌≡◌, refl, sym, ap, ◌∙◌, List, ℕ, ◌+◌, ◌-◌, ◌*◌, ◌<◌, ◌≤◌, arith, rules, length, take, drop}
 use lib.Signed.{mag}
 use mir.Syntax.{w32}
 use mir.Val.{to_z, of_z}
@@ -139,4 +139,4 @@ module _ (s : List ℕ) (o : SenderReport) (h : o ≡ value_or no_sender sender_
         → (r, f₁, l₁, w₁) ≡ read_both sr_result (map_ok sender_view (read_as SR s)) (lay_blocks (map_ok report_blocks (read_as SR s)) f l w)
     sr_both_read = both_read sender_maker no_sender sender_view (λ o. o.body) (λ o. o.n_reports) refl (λ p. refl) (λ p. refl) sr_result s o h f l w
 
-pub ruleset reports = (needs, lists_out, rr_order, rr_within, rr_refused, rr_read, rr_both_refused, rr_both_read, sr_order, sr_within, sr_refused, sr_read, sr_both_refused, sr_both_read)
+pub ruleset reports = (rules, lists_out, rr_order, rr_within, rr_refused, rr_read, rr_both_refused, rr_both_read, sr_order, sr_within, sr_refused, sr_read, sr_both_refused, sr_both_read)

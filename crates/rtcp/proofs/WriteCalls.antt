@@ -1,5 +1,5 @@
 -- The compound writer: what C gets of a call, from what the writer answers. Stated once, over the call.
-use Rattle.rfc3550.proofs.Prelude.{ℕ, needs, ◌≡◌, refl, ap, ◌∙◌, Bool, true, false, List, [], ◌∷◌}
+use Rattle.rfc3550.proofs.Prelude.{ℕ, rules, ◌≡◌, refl, ap, ◌∙◌, Bool, true, false, List, [], ◌∷◌}
 use Rattle.rfc3550.specs.Answer.{Refusal, refused}
 use Rattle.rfc3550.specs.Writer.{Writer, fresh, Request, call}
 use Rattle.utils.specs.Error.{write_refusal, code_refusal}
@@ -51,4 +51,4 @@ module _ (s : List ℕ) (o : Call) where
   out_called r s₁ v l₁ h e q l p =
       ap (λ (x : RtcpCall × List ℕ). (x.0, x.1, l₁)) h ∙ ap (call_with_buffer s) p ∙ ap (λ (u : Writer). call_with_buffer s (call q u l)) e
 
-pub ruleset calls = (needs, state_laid, out_fresh, out_done, out_refused, out_called)
+pub ruleset calls = (rules, state_laid, out_fresh, out_done, out_refused, out_called)

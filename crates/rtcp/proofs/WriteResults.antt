@@ -1,5 +1,5 @@
 -- What C gets of a write and of a size, from what a kind's function answers. Stated once, over what is written.
-use Rattle.rfc3550.proofs.Prelude.{ℕ, ◌≡◌, refl, sym, ap, ◌∙◌, List, length, length-append, needs}
+use Rattle.rfc3550.proofs.Prelude.{ℕ, ◌≡◌, refl, sym, ap, ◌∙◌, List, length, length-append, rules}
 use Rattle.rfc3550.specs.Answer.{Refusal, Answer, refused}
 use Rattle.rfc3550.specs.Packet.{content_bytes, chunk_bytes}
 use Rattle.rfc3550.specs.Write.{Given, give_app, content_given, padding_given, packet_given, own_tests, tests, size_given, calculate_size, chunk_size}
@@ -73,4 +73,4 @@ module _ (w : Written) (r : RtcpWritten) (h : r ≡ written_result (written_of w
   pub out_chunk : (ts ps vs bs : List ℕ) → written_of w ≡ chunk_size 0 ts ps vs bs → (ssrc : ℕ) → r ≡ written_result (chunk_size ssrc ts ps vs bs)
   out_chunk ts ps vs bs q ssrc = out_size w r h _ (q ∙ chunk_same 0 ssrc ts ps vs bs)
 
-pub ruleset outs = (needs, size_out, refused_out, listed_out, short_out, unlisted_out, out_listed, out_size, out_written, out_app, out_chunk)
+pub ruleset outs = (rules, size_out, refused_out, listed_out, short_out, unlisted_out, out_listed, out_size, out_written, out_app, out_chunk)

@@ -1,5 +1,5 @@
 -- The turns that count and lay the rows, and the cases of the whole call.
-use Rattle.rfc3550.proofs.Prelude.{ℕ, zero, suc, ◌+◌, ◌-◌, ◌*◌, ◌/◌, ◌^◌, ◌<◌, ◌≤◌, ◌≡◌, refl, sym, ap, ◌∙◌, subst, List, [], ◌∷◌, zero-add, arith, needs, le-leb, lt-leb, length, get_or, set, take, drop, length-take-le, leb}
+use Rattle.rfc3550.proofs.Prelude.{ℕ, zero, suc, ◌+◌, ◌-◌, ◌*◌, ◌/◌, ◌^◌, ◌<◌, ◌≤◌, ◌≡◌, refl, sym, ap, ◌∙◌, subst, List, [], ◌∷◌, zero-add, arith, rules, le-leb, lt-leb, length, get_or, set, take, drop, length-take-le, leb}
 use Rattle.rfc3550.specs.Answer.{Refusal, Answer, ok, refused, refusal, map_ok}
 use Rattle.rfc3550.specs.Bytes.{store}
 use Rattle.rfc3550.specs.Packet.{Packet, fill}
@@ -249,4 +249,4 @@ module _ (s : List ℕ) (p : Sdes) (h : p ≡ value_or no_sdes sdes_view (read_a
           let q = c.enough m in
           sym (laid ∙ in_room (sdes_rows found.0) l r y (omega arith) ∙ ap (λ (xs : List ℕ). (ok r, store 0 xs l)) (sym (same w.n w.rows)) ∙ ap (λ (k : List ℕ). (ok r, k)) (sym w.laid))
 
-pub ruleset rows = (needs, chunk_none, chunk_some, after_zero, after_less, row_end, row_zero, item_within, item_next, item_less, item_stands, item_some, row_length, row_plain, row_prefix, row_value, row_one, row_rest, row_rest_fits, row_priv, count_start, count_done, count_fits, count_has, count_again, room_sure, room_counted, row_laid, row_stored, row_ended, lay_left, lay_more, items_start, items_has, items_room, items_within, items_zero, items_again, chunk_laid, rows_start, rows_done, chunk_less, items_refused, items_inside, items_body, items_short, items_laid)
+pub ruleset rows = (rules, chunk_none, chunk_some, after_zero, after_less, row_end, row_zero, item_within, item_next, item_less, item_stands, item_some, row_length, row_plain, row_prefix, row_value, row_one, row_rest, row_rest_fits, row_priv, count_start, count_done, count_fits, count_has, count_again, room_sure, room_counted, row_laid, row_stored, row_ended, lay_left, lay_more, items_start, items_has, items_room, items_within, items_zero, items_again, chunk_laid, rows_start, rows_done, chunk_less, items_refused, items_inside, items_body, items_short, items_laid)

@@ -1,5 +1,5 @@
 -- The turns over a packet's chunks, and the packet.
-use Rattle.rfc3550.proofs.Prelude.{ℕ, zero, suc, ◌+◌, ◌-◌, ◌<◌, ◌≤◌, ◌≡◌, refl, sym, ap, ◌∙◌, Bool, ◌||◌, List, [], ◌∷◌, arith, needs, lt-ltb, ltb, length, take, drop, length-drop, drop-drop, length-take-le}
+use Rattle.rfc3550.proofs.Prelude.{ℕ, zero, suc, ◌+◌, ◌-◌, ◌<◌, ◌≤◌, ◌≡◌, refl, sym, ap, ◌∙◌, Bool, ◌||◌, List, [], ◌∷◌, arith, rules, lt-ltb, ltb, length, take, drop, length-drop, drop-drop, length-take-le}
 use Rattle.rfc3550.specs.Answer.{Refusal, refusal, Answer, ok, refused, refuse, ◌>>=◌, map_ok}
 use Rattle.rfc3550.specs.Packet.{some, Chunk, chunk_bytes, chunk_has_cname, Content, Packet, sdes, content_bytes}
 use Rattle.rfc3550.specs.Read.{SDES, low_in, check_packet, read_chunk, read_chunks, read_content, read_as}
@@ -241,4 +241,4 @@ padding_field s p e =
     let n : length s - g.body ≡ length p.padding = sym (length-drop g.body s) ∙ ap length g.padding in
     rw (sdes_body s p g, ← n) (padding_is SDES s p g)
 
-pub ruleset packets = (needs, body_long, body_within, body_least, chunks_inside, none_at_chunk, why_at_chunk, none_at_end, why_at_end, sdes_read, why_none, none_header, why_header, sdes_refused, sdes_parsed)
+pub ruleset packets = (rules, body_long, body_within, body_least, chunks_inside, none_at_chunk, why_at_chunk, none_at_end, why_at_end, sdes_read, why_none, none_header, why_header, sdes_refused, sdes_parsed)

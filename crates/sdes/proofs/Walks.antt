@@ -1,5 +1,5 @@
 -- The steps of the walk over a packet's chunks.
-use Rattle.rfc3550.proofs.Prelude.{ℕ, zero, suc, ◌+◌, ◌-◌, ◌^◌, ◌<◌, ◌≤◌, ◌≡◌, refl, sym, ap, ◌∙◌, List, [], ◌∷◌, arith, needs, lt-ltb, le-ltb, length, take, drop, length-take, length-drop, length-take-le, take_all}
+use Rattle.rfc3550.proofs.Prelude.{ℕ, zero, suc, ◌+◌, ◌-◌, ◌^◌, ◌<◌, ◌≤◌, ◌≡◌, refl, sym, ap, ◌∙◌, List, [], ◌∷◌, arith, rules, lt-ltb, le-ltb, length, take, drop, length-take, length-drop, length-take-le, take_all}
 use Rattle.rfc3550.specs.Answer.{Refusal, ok, refused, refuse, need, ◌>>◌, ◌>>=◌, map_ok}
 use Rattle.rfc3550.specs.Packet.{Chunk, chunk_bytes, Packet, content_bytes}
 use Rattle.rfc3550.specs.Read.{SDES, read_chunk, read_as}
@@ -96,4 +96,4 @@ module _ (s : List ℕ) (n : ℕ) (r : n ≡ length (take 262144 s)) where
                 → ok (c, record { at = w.at + c.length; end = w.end }) ≡ map_ok chunk_stepped (sdes_step s (sdes_walk w))
             go x q a = rw (← r, lt-ltb w.at n l, lt-ltb w.at w.end m, q, ← a)
 
-pub ruleset walks = (needs, chunks_not_opened, chunks_opened, limit_all, limit_most, chunk_past_limit, chunk_past_end, chunk_not_stepped, chunk_fits, chunk_stepped_lem)
+pub ruleset walks = (rules, chunks_not_opened, chunks_opened, limit_all, limit_most, chunk_past_limit, chunk_past_end, chunk_not_stepped, chunk_fits, chunk_stepped_lem)

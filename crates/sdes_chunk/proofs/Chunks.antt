@@ -1,5 +1,5 @@
 -- The turns over a chunk's items and over its closing zeros, and the chunk.
-use Rattle.rfc3550.proofs.Prelude.{ℕ, zero, suc, ◌+◌, ◌-◌, ◌*◌, ◌/◌, ◌%◌, ◌^◌, ◌<◌, ◌≤◌, ◌≡◌, refl, sym, ap, ◌∙◌, subst, ◌≢◌, ◌↔◌, Bool, true, false, ◌&&◌, ◌||◌, ltb, eqb, List, [], ◌∷◌, arith, add-zero, add_assoc, add-one, needs, le-leb, lt-leb, lt-ltb, le-ltb, ltb-true, ltb-false, eq-eqb, ne_eqb, eqb-true, eqb-false, not-true, not-false, length, get_or, take, drop, length-append, length-drop, length-replicate, drop_of_length-le, drop-cons, drop-drop, get_or-drop}
+use Rattle.rfc3550.proofs.Prelude.{ℕ, zero, suc, ◌+◌, ◌-◌, ◌*◌, ◌/◌, ◌%◌, ◌^◌, ◌<◌, ◌≤◌, ◌≡◌, refl, sym, ap, ◌∙◌, subst, ◌≢◌, ◌↔◌, Bool, true, false, ◌&&◌, ◌||◌, ltb, eqb, List, [], ◌∷◌, arith, add-zero, add_assoc, add-one, rules, le-leb, lt-leb, lt-ltb, le-ltb, ltb-true, ltb-false, eq-eqb, ne_eqb, eqb-true, eqb-false, not-true, not-false, length, get_or, take, drop, length-append, length-drop, length-replicate, drop_of_length-le, drop-cons, drop-drop, get_or-drop}
 use Rattle.rfc3550.specs.Answer.{Refusal, refusal, Answer, ok, refused, refuse, need, ◌>>◌, ◌>>=◌, map_ok, pick}
 use Rattle.rfc3550.specs.Bytes.{val}
 use Rattle.rfc3550.specs.Packet.{Item, item_type, item_rest, item_bytes, items_bytes, is_cname, some, Chunk, chunk_bytes, chunk_has_cname, fill}
@@ -600,4 +600,4 @@ module _ (s : List ℕ) (c : SdesChunk) (h : c ≡ value_or no_chunk chunk_first
   pub chunk_parsed : (c.length ≡ 0 → ⊥) → ok c ≡ map_ok chunk_first (read_chunk s)
   chunk_parsed z = value_is no_chunk chunk_first (λ c. c.length) refl (read_chunk s) c h z
 
-pub ruleset chunks = (needs, not-true, not-false, boundary_is, cname_known, cname_here, cname_none, zero_behind, zero_inside, items_start, items_halt, items_rest, items_inside, items_after, items_two, items_less, items_again, zeros_behind, zeros_below, zeros_short, zeros_stop, zeros_more, zeros_all, filled_one, second_inside, second_not, filled_two, third_inside, third_not, filled_three, fourth_inside, filled_last, chunk_within, chunk_inside, chunk_zero, none_short, why_short, none_open, none_cut, why_ended, why_item, none_zeros, why_zeros, chunk_ends, why_read, run_start, run_inside, run_done, run_refused, run_fits, run_again, lone_refused, lone_long, lone_read, chunk_refused, chunk_parsed)
+pub ruleset chunks = (rules, not-true, not-false, boundary_is, cname_known, cname_here, cname_none, zero_behind, zero_inside, items_start, items_halt, items_rest, items_inside, items_after, items_two, items_less, items_again, zeros_behind, zeros_below, zeros_short, zeros_stop, zeros_more, zeros_all, filled_one, second_inside, second_not, filled_two, third_inside, third_not, filled_three, fourth_inside, filled_last, chunk_within, chunk_inside, chunk_zero, none_short, why_short, none_open, none_cut, why_ended, why_item, none_zeros, why_zeros, chunk_ends, why_read, run_start, run_inside, run_done, run_refused, run_fits, run_again, lone_refused, lone_long, lone_read, chunk_refused, chunk_parsed)

@@ -1,5 +1,5 @@
 -- The steps of reading an item, each from what the code has tested.
-use Rattle.rfc3550.proofs.Prelude.{ℕ, zero, suc, ◌+◌, ◌-◌, ◌^◌, min, ◌<◌, ◌≤◌, ◌≡◌, refl, sym, ap, ◌∙◌, List, [], ◌∷◌, ◌++◌, arith, needs, le-leb, lt-leb, leb-true, leb-false, lt-ltb, le-ltb, ltb-true, ltb-false, eq-eqb, ne_eqb, eqb-true, eqb-false, Bool, true, false, leb, ltb, eqb, length, get_or, take, drop, length-drop, take-append-drop, drop_of_length-le, length-take-le}
+use Rattle.rfc3550.proofs.Prelude.{ℕ, zero, suc, ◌+◌, ◌-◌, ◌^◌, min, ◌<◌, ◌≤◌, ◌≡◌, refl, sym, ap, ◌∙◌, List, [], ◌∷◌, ◌++◌, arith, rules, le-leb, lt-leb, leb-true, leb-false, lt-ltb, le-ltb, ltb-true, ltb-false, eq-eqb, ne_eqb, eqb-true, eqb-false, Bool, true, false, leb, ltb, eqb, length, get_or, take, drop, length-drop, take-append-drop, drop_of_length-le, length-take-le}
 use Rattle.rfc3550.specs.Answer.{Refusal, refusal, Answer, ok, refused, refuse, need, ◌>>◌, ◌>>=◌, map_ok}
 use Rattle.rfc3550.specs.Packet.{Item, item, priv, item_type, item_bytes}
 use Rattle.rfc3550.specs.Read.{read_item, item_of, read_prefix}
@@ -384,4 +384,4 @@ module _ (s : List ℕ) (n : ℕ) (e : n ≡ size s) where
       pub answer_some : 0 ∷ 0 ∷ 0 ∷ [] ≡ answer_of (read_prefix s)
       answer_some = sym (ap answer_of is_priv_lem.1)
 
-pub ruleset items = (needs, size_short, size_end, why_short, why_past, why_plain, why_empty, why_over, why_whole, end_past, end_plain, end_empty, end_third, end_over, end_whole, end_few, end_last, end_stop, end_goes, step_none, step_zero, why_step, parse_refused, parse_some, item_first_lem, item_second, parse_plain, item_third, parse_whole, value_plain, value_none, value_priv, prefix_refused, answer_refused, prefix_none, answer_none, prefix_end, prefix_fits, prefix_part, answer_some)
+pub ruleset items = (rules, size_short, size_end, why_short, why_past, why_plain, why_empty, why_over, why_whole, end_past, end_plain, end_empty, end_third, end_over, end_whole, end_few, end_last, end_stop, end_goes, step_none, step_zero, why_step, parse_refused, parse_some, item_first_lem, item_second, parse_plain, item_third, parse_whole, value_plain, value_none, value_priv, prefix_refused, answer_refused, prefix_none, answer_none, prefix_end, prefix_fits, prefix_part, answer_some)

@@ -1,5 +1,5 @@
 -- The steps of the walk over a chunk's items.
-use Rattle.rfc3550.proofs.Prelude.{ℕ, ◌-◌, ◌<◌, ◌≤◌, arith, ◌≡◌, refl, sym, ap, ◌∙◌, not, List, ltb, eqb, needs, lt-ltb, ne_eqb, length, get_or, take, drop}
+use Rattle.rfc3550.proofs.Prelude.{ℕ, ◌-◌, ◌<◌, ◌≤◌, arith, ◌≡◌, refl, sym, ap, ◌∙◌, not, List, ltb, eqb, rules, lt-ltb, ne_eqb, length, get_or, take, drop}
 use Rattle.rfc3550.specs.Answer.{Refusal, Answer, ok, refused, need, ◌>>◌, ◌>>=◌, map_ok}
 use Rattle.rfc3550.specs.Packet.{Item}
 use Rattle.rfc3550.specs.Read.{read_item, read_chunk}
@@ -67,4 +67,4 @@ module _ (s : List ℕ) (at n : ℕ) (h : n ≡ step_end s at) where
             let v : i ≡ item_first x = ok_injective (q ∙ ap (λ (s : List ℕ). map_ok item_first (read_item s)) (rest_is s at) ∙ rw r) in
             rw (lt-ltb at (length s) l, ne_eqb (get_or s at 0) 0 z, r, v, ← m)
 
-pub ruleset walks = (needs, items_not_opened, items_opened, item_not_stepped, step_inside, step_some, item_stepped_lem)
+pub ruleset walks = (rules, items_not_opened, items_opened, item_not_stepped, step_inside, step_some, item_stepped_lem)

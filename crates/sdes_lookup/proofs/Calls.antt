@@ -1,5 +1,5 @@
 -- The call: what is refused, and what an accepted packet says of its body.
-use Rattle.rfc3550.proofs.Prelude.{ℕ, ◌-◌, ◌<◌, ◌≤◌, ◌≡◌, refl, sym, ap, ◌∙◌, List, arith, needs, length, take, drop, length-take-le}
+use Rattle.rfc3550.proofs.Prelude.{ℕ, ◌-◌, ◌<◌, ◌≤◌, ◌≡◌, refl, sym, ap, ◌∙◌, List, arith, rules, length, take, drop, length-take-le}
 use Rattle.rfc3550.specs.Answer.{Refusal, Answer, ok, refused, refuse, map_ok}
 use Rattle.rfc3550.specs.Packet.{Chunk, Packet, chunks_of, sdes}
 use Rattle.rfc3550.specs.Read.{SDES, low_in, read_chunks, read_as}
@@ -85,4 +85,4 @@ module _ (s : List ℕ) (o : Sdes) (e : o ≡ value_or no_sdes sdes_view (read_a
       let c : a.chunks ≡ chunks_of w.packet.content = ok_injective (sym a.read ∙ w.read) in
       (v, rw (← w.count) a.most, rw (lookup_packet (length l) s ssrcs h, w.accepted, ← c) (ap (λ (x : List ℕ). (ok v, x)) a.laid))
 
-pub ruleset calls = (needs, call_within, call_body)
+pub ruleset calls = (rules, call_within, call_body)

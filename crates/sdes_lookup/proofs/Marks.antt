@@ -1,5 +1,5 @@
 -- Answers before a pass, and the turns that mark those of one chunk.
-use Rattle.rfc3550.proofs.Prelude.{ℕ, zero, suc, ◌+◌, ◌-◌, ◌<◌, ◌≤◌, ◌≡◌, refl, sym, ap, ◌∙◌, ◌&&◌, List, [], ◌∷◌, ◌++◌, append_assoc, add-one, arith, needs, eq-eqb, ne_eqb, lt-ltb, eqb, ltb, length, get_or, set, take, drop, replicate, length-replicate, length-set, replicate-append-replicate, drop_of_length-le, drop-cons, set_at, take-append-drop}
+use Rattle.rfc3550.proofs.Prelude.{ℕ, zero, suc, ◌+◌, ◌-◌, ◌<◌, ◌≤◌, ◌≡◌, refl, sym, ap, ◌∙◌, ◌&&◌, List, [], ◌∷◌, ◌++◌, append_assoc, add-one, arith, rules, eq-eqb, ne_eqb, lt-ltb, eqb, ltb, length, get_or, set, take, drop, replicate, length-replicate, length-set, replicate-append-replicate, drop_of_length-le, drop-cons, set_at, take-append-drop}
 use lib.Seq.{take-suc, take-suc-set, drop-set-lt}
 use Rattle.rfc3550.specs.Answer.{pick}
 use Rattle.sdes_chunk.specs.declared.chunk.SdesChunk.{SdesChunk}
@@ -116,4 +116,4 @@ module _ (k : ℕ) (c : SdesChunk) (ssrcs l : List ℕ) where
   pub visit_answers : (l₁ : List ℕ) → (c.cname ≡ 0 → ⊥) → l₁ ≡ marked k c.ssrc ssrcs l → l₁ ≡ pick (ltb 0 c.cname) (marked k c.ssrc ssrcs l) l
   visit_answers l₁ z e = rw (lt-ltb 0 c.cname (omega arith)) e
 
-pub ruleset marks = (needs, blank_start, blank_room, blank_again, blank_done, mark_start, mark_long, mark_room, mark_some, visit_passes, visit_answers)
+pub ruleset marks = (rules, blank_start, blank_room, blank_again, blank_done, mark_start, mark_long, mark_room, mark_some, visit_passes, visit_answers)

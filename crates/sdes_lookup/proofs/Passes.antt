@@ -1,5 +1,5 @@
 -- The turns of the pass over the chunks of a body.
-use Rattle.rfc3550.proofs.Prelude.{ℕ, suc, ◌+◌, ◌-◌, ◌^◌, ◌<◌, ◌≤◌, ◌≡◌, refl, sym, ap, ◌∙◌, subst, Bool, true, false, ◌&&◌, ◌||◌, List, [], ◌∷◌, ◌++◌, map, add-one, arith, needs, ne_eqb, eqb, ltb, length, take, drop, replicate, length-drop, length-replicate, length-map, drop-drop, drop_at}
+use Rattle.rfc3550.proofs.Prelude.{ℕ, suc, ◌+◌, ◌-◌, ◌^◌, ◌<◌, ◌≤◌, ◌≡◌, refl, sym, ap, ◌∙◌, subst, Bool, true, false, ◌&&◌, ◌||◌, List, [], ◌∷◌, ◌++◌, map, add-one, arith, rules, ne_eqb, eqb, ltb, length, take, drop, replicate, length-drop, length-replicate, length-map, drop-drop, drop_at}
 use Rattle.rfc3550.specs.Answer.{ok, refused, pick}
 use Rattle.rfc3550.specs.Packet.{Chunk, chunk_bytes, chunk_has_cname, some}
 use Rattle.rfc3550.specs.Read.{read_chunk, read_chunks}
@@ -240,4 +240,4 @@ module _ (n : ℕ) (body ssrcs l₀ : List ℕ) (unanswered place k : ℕ) (l : 
               e ∙ ap (λ (b : Bool). pick b (marked k c.ssrc ssrcs l) l) (named ∙ x)
               ∙ g.is ∙ ap (λ (fs : List Found). map coded fs ++ drop (length ssrcs) l₀) (sym (visit_none k here.chunk ssrcs g.found x))
 
-pub ruleset passes = (needs, pass_start, pass_long, pass_inside, pass_answered, pass_ended, pass_low, pass_fits, pass_again)
+pub ruleset passes = (rules, pass_start, pass_long, pass_inside, pass_answered, pass_ended, pass_low, pass_fits, pass_again)

@@ -1,5 +1,5 @@
 -- A character, four octets of ASCII, and the pass over the bytes.
-use Rattle.rfc3550.proofs.Prelude.{ℕ, suc, ◌+◌, ◌-◌, ◌*◌, ◌/◌, ◌%◌, ◌<◌, ◌≤◌, ◌≡◌, refl, sym, ap, ◌∙◌, Bool, true, false, true≢false, List, [], ◌∷◌, ◌++◌, add-one, arith, needs, eqb, eqb-true, le-leb, lt-leb, length, get_or, take, drop, drop-cons, drop-drop, drop_of_length-le, take-append-drop, ◌^◌, ◌&&◌, eqb-false, leb, leb-true, take-add}
+use Rattle.rfc3550.proofs.Prelude.{ℕ, suc, ◌+◌, ◌-◌, ◌*◌, ◌/◌, ◌%◌, ◌<◌, ◌≤◌, ◌≡◌, refl, sym, ap, ◌∙◌, Bool, true, false, true≢false, List, [], ◌∷◌, ◌++◌, add-one, arith, rules, eqb, eqb-true, le-leb, lt-leb, length, get_or, take, drop, drop-cons, drop-drop, drop_of_length-le, take-append-drop, ◌^◌, ◌&&◌, eqb-false, leb, leb-true, take-add}
 use native.Mathlib.Nat.{div-div-eq-div-mul}
 use Rattle.rfc3550.specs.Utf8.{State, between, malformed, within, lead, next, run, ended, is_utf8}
 use Rattle.rfc3550.proofs.Texts.{Row, row_0, row_1, row_2, row_3}
@@ -164,4 +164,4 @@ module _ (s : List ℕ) (at : ℕ) (g : JudgedTo s at) where
   unfolding run
   judge_done h = sym (g.same ∙ ap (λ (l : List ℕ). ended (run between l)) (drop_of_length-le s {i = at} h))
 
-pub ruleset characters = (needs, char_ascii, char_1, char_2, char_3, char_alone, char_above, four_1, four_2, four_3, four_4, four_room, four_more, eight_on, eight_not, eights_start, eights_room, eights_again, judge_not, judge_again, judge_less, judge_done)
+pub ruleset characters = (rules, char_ascii, char_1, char_2, char_3, char_alone, char_above, four_1, four_2, four_3, four_4, four_room, four_more, eight_on, eight_not, eights_start, eights_room, eights_again, judge_not, judge_again, judge_less, judge_done)

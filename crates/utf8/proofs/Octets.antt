@@ -1,5 +1,5 @@
 -- What each octet does to the verdict, from what the code has tested.
-use Rattle.rfc3550.proofs.Prelude.{ℕ, zero, suc, ◌+◌, ◌-◌, ◌*◌, ◌^◌, ◌<◌, ◌≤◌, ◌≡◌, refl, sym, ap, ◌∙◌, Bool, true, false, ◌&&◌, List, [], ◌∷◌, add-one, arith, needs, leb, le-leb, lt-leb, length, get_or, drop, drop-cons, length-drop, pow-suc}
+use Rattle.rfc3550.proofs.Prelude.{ℕ, zero, suc, ◌+◌, ◌-◌, ◌*◌, ◌^◌, ◌<◌, ◌≤◌, ◌≡◌, refl, sym, ap, ◌∙◌, Bool, true, false, ◌&&◌, List, [], ◌∷◌, add-one, arith, rules, leb, le-leb, lt-leb, length, get_or, drop, drop-cons, length-drop, pow-suc}
 use native.Mathlib.Nat.{pow-le-pow_right}
 use Rattle.rfc3550.specs.Answer.{pick}
 use Rattle.rfc3550.specs.Utf8.{is_code_point, between, inside, malformed, within, next, run, ended}
@@ -135,4 +135,4 @@ module _ (s : List ℕ) (from n bits least : ℕ) where
             on = λ z. (omega (arith, g.is), done ∙ settles true (ap (λ (t : Bool). t && is_code_point v) (le-leb least v k) ∙ sym e ∙ f));
           }
 
-pub ruleset octets = (needs, point_low, point_surrogate, point_high, continue_cut, continue_start, continue_read, continue_fits, continue_sum, continue_below, continue_above, continue_again, continue_overlong, continue_none, continue_done)
+pub ruleset octets = (rules, point_low, point_surrogate, point_high, continue_cut, continue_start, continue_read, continue_fits, continue_sum, continue_below, continue_above, continue_again, continue_overlong, continue_none, continue_done)

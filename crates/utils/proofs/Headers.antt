@@ -1,5 +1,5 @@
 -- The cases of the header's steps, each from what a reader has tested, in numbers and why, and what an accepted header tells.
-use Rattle.rfc3550.proofs.Prelude.{needs, ◌≡◌, refl, ap, ◌∙◌, sym, Bool, true, false, ◌&&◌, List, [], ◌∷◌, ⊎_elim, ℕ, ◌+◌, ◌-◌, ◌%◌, ◌<◌, ◌≤◌, sub-zero, arith, lt-ltb, le-leb, lt-leb, eq-eqb, ne_eqb, leb-true, not-true, not-false, length, get_or, leb, ltb, eqb}
+use Rattle.rfc3550.proofs.Prelude.{rules, ◌≡◌, refl, ap, ◌∙◌, sym, Bool, true, false, ◌&&◌, List, [], ◌∷◌, ⊎_elim, ℕ, ◌+◌, ◌-◌, ◌%◌, ◌<◌, ◌≤◌, sub-zero, arith, lt-ltb, le-leb, lt-leb, eq-eqb, ne_eqb, leb-true, not-true, not-false, length, get_or, leb, ltb, eqb}
 use Rattle.rfc3550.specs.Answer.{Refusal, refusal, ok, refuse, need, ◌>>◌}
 use Rattle.rfc3550.specs.Read.{version_in, padded, low_in, type_in, stated, padding_count, padding_fits, check_header}
 use Rattle.rfc3550.proofs.Answers.{need_inv, ok_injective, and_inv, or_inv}
@@ -49,7 +49,7 @@ module _ (least : ℕ) (s : List ℕ) (b : Bool) (e : b ≡ padded s) where
         let f : p + least ≤ length s = omega arith in
         simp (← e, h, ← q, lt-ltb _ _ a, eq-eqb _ _ o, le-leb _ _ f)
 
-pub ruleset bodies = (needs, not-true, not-false, unpadded, padding_zero, padding_odd, padding_long, padding_right)
+pub ruleset bodies = (rules, not-true, not-false, unpadded, padding_zero, padding_odd, padding_long, padding_right)
 
 padding_held : (least : ℕ) (s : List ℕ) → least ≤ length s → padding_fits least s ≡ true → padding_count s + least ≤ length s
 unfolding padding_fits padding_count
@@ -140,7 +140,7 @@ pub unwanted_why : (least : ℕ) (wanted : Bool) (a r : ℕ) (s : List ℕ) (v :
     → refusal 6 a r ≡ refusal_in (check_header least wanted (a, r) s)
 unwanted_why least wanted a r s v h e w t = sym (ap refusal_in (unwanted least wanted (a, r) s v h e w t))
 
-pub ruleset headers = (needs, not-true, not-false, short_number, short_why, version_number, version_why, unwanted_number, unwanted_why, more_number, more_why, less_number, less_why, last_number, last_why, last_none)
+pub ruleset headers = (rules, not-true, not-false, short_number, short_why, version_number, version_why, unwanted_number, unwanted_why, more_number, more_why, less_number, less_why, last_number, last_why, last_none)
 
 -- ---- a kind that its type alone names
 
@@ -162,7 +162,7 @@ module _ (least type : ℕ) (s : List ℕ) (t : ℕ) (e : t ≡ type_in s) where
   pub why_type : (r : Refusal) → r ≡ refusal_in (check_header least (eqb t type) (t, type) s) → r ≡ refusal_in (check_header least (eqb (type_in s) type) (type_in s, type) s)
   why_type r h = h ∙ ap (λ (t : ℕ). refusal_in (check_header least (eqb t type) (t, type) s)) e
 
-pub ruleset types = (needs, of_type, why_type)
+pub ruleset types = (rules, of_type, why_type)
 
 -- ---- what an accepted header tells
 

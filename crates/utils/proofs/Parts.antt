@@ -1,5 +1,5 @@
 -- Parts of a list, fields of a part, and elements by index.
-use Rattle.rfc3550.proofs.Prelude.{◌≡◌, refl, ap, ◌∙◌, sym, Bool, true, false, List, [], ◌∷◌, ◌⊎◌, inl, inr, ℕ, zero, suc, ◌+◌, ◌-◌, ◌*◌, ◌<◌, ◌≤◌, sub-zero, zero-sub, suc-sub-suc, mul-suc, mul-zero, arith, needs, ltb-true, ltb-false, ltb, length, take, drop, replicate, length-drop, take-nil, take_all, take-take, drop-drop, length-take-le}
+use Rattle.rfc3550.proofs.Prelude.{◌≡◌, refl, ap, ◌∙◌, sym, Bool, true, false, List, [], ◌∷◌, ◌⊎◌, inl, inr, ℕ, zero, suc, ◌+◌, ◌-◌, ◌*◌, ◌<◌, ◌≤◌, sub-zero, zero-sub, suc-sub-suc, mul-suc, mul-zero, arith, rules, ltb-true, ltb-false, ltb, length, take, drop, replicate, length-drop, take-nil, take_all, take-take, drop-drop, length-take-le}
 use Rattle.rfc3550.specs.Answer.{ok, refuse}
 use Rattle.rfc3550.specs.Bytes.{val, get, sum}
 use Rattle.rfc3550.specs.Packet.{block_widths}
@@ -49,7 +49,7 @@ lent_again s = take_all (length s - 0) s (omega arith)
 pub part_none : {A : Type 0} (from to : ℕ) (s r : List A) → to < from → r ≡ take 0 (drop from s) → r ≡ take (to - from) (drop from s)
 part_none from to s r h e = let z : to - from ≡ 0 = omega arith in rw z e
 
-pub ruleset cuts = (needs, part_past, part_cut, part_within, part_none)
+pub ruleset cuts = (rules, part_past, part_cut, part_within, part_none)
 
 -- ---- nth
 

@@ -1,5 +1,5 @@
 -- The cases of what `writer` lays down, each from what the code has tested or called.
-use Rattle.rfc3550.proofs.Prelude.{needs, ℕ, zero, suc, ◌+◌, ◌-◌, ◌*◌, ◌/◌, ◌%◌, ◌^◌, ◌<◌, ◌≤◌, ◌≡◌, refl, sym, ap, ◌∙◌, Bool, true, false, List, [], ◌∷◌, ◌++◌, div-one, add-one, arith, eq-eqb, ne_eqb, ltb-true, ltb-false, le-leb, lt-leb, length, take, drop, set, get_or, replicate, length-drop, length-set, length-replicate, replicate-append-replicate, drop-cons, drop-drop, take-add, take-length, length-take-le, leb, ltb}
+use Rattle.rfc3550.proofs.Prelude.{rules, ℕ, zero, suc, ◌+◌, ◌-◌, ◌*◌, ◌/◌, ◌%◌, ◌^◌, ◌<◌, ◌≤◌, ◌≡◌, refl, sym, ap, ◌∙◌, Bool, true, false, List, [], ◌∷◌, ◌++◌, div-one, add-one, arith, eq-eqb, ne_eqb, ltb-true, ltb-false, le-leb, lt-leb, length, take, drop, set, get_or, replicate, length-drop, length-set, length-replicate, replicate-append-replicate, drop-cons, drop-drop, take-add, take-length, length-take-le, leb, ltb}
 use Rattle.rfc3550.specs.Bytes.{be, val, store}
 use Rattle.rfc3550.specs.Packet.{padding_bit, fill}
 use Rattle.rfc3550.specs.Write.{padding_ok, padding_bytes}
@@ -227,6 +227,6 @@ copying_again w at src l l₁ k l₂ c h s e =
     let v = group_more at l w k src l₁ l₂ h s e c.laid in
     record { within = omega arith; long = v.long; laid = v }
 
-pub ruleset writer = (needs, padding_odd, padding_even, first_plain, first_padded, padding_none, padding_laid, header_laid, u16_laid, reversed_laid, same_laid, swapped, four_read, swapped_read, eight_read, eight_laid, u64_laid, laid_none, zeros_more, zeros_done, group_more, group_last, byte_alone, bytes_none)
+pub ruleset writer = (rules, padding_odd, padding_even, first_plain, first_padded, padding_none, padding_laid, header_laid, u16_laid, reversed_laid, same_laid, swapped, four_read, swapped_read, eight_read, eight_laid, u64_laid, laid_none, zeros_more, zeros_done, group_more, group_last, byte_alone, bytes_none)
 
 pub ruleset fills = (writer, fill_four, fill_two, fill_three, fill_one)

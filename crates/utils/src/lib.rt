@@ -1,4 +1,6 @@
 // Numbers, headers and padding, and the refusals (utils.rs and lib.rs of rtcp-types).
+#![tactic(auto)]
+
 pub mod error;
 pub mod list;
 pub mod parser;

@@ -2,7 +2,7 @@
 use types.Logic.{Logic}
 use denote.Slice.{shr_slice_vals}
 use denote.Ref.{Bor}
-use Rattle.by_hand.proofs.Walking.{refl, sym, List, [], ◌∷◌, ℕ, ◌*◌, ◌<◌, ◌^◌, arith, length, get_or, calls_of, loops_of, meets, Ura, full_share, named, w64, ty_ptr, Val, vint, vptr, SProp, ent, Lft, Share, ftrue, flft, fat, GName, Memory, Routine, Calls, Loops, WpFn, Fun, ‵, ◌⊛◌, ⋆, ◌$◌, ◌∵◌, !, qed, by, move, use1, split, join, rewrite, fsplit, fjoin, suffices, frame, done, keep, whole, sub, look_in, look, init, forget, stop, fld, from, load, of_opd, assigns, returns, enter, alloc1, alloc0, params1, pass1, pass0, free1, free0, lit, bin, hop, look_raw, RattleType, owns, Is, shows, uint_vals, uint_Tells, usize, RefT, now, slice_val, ShrSlice, Room, slice-vals, shr_slice_Tells, plain, nothing, on_entry, Vals, says, Stays, stay_none_slice, stay_none, walk_of, Goes-none_slice, Goes-none, ends_at, walked, needs, yes, place_is, elem_out, elem_back, looks_slice, shuts_slice}
+use Rattle.by_hand.proofs.Walking.{refl, sym, List, [], ◌∷◌, ℕ, ◌*◌, ◌<◌, ◌^◌, arith, length, get_or, calls_of, loops_of, meets, Ura, full_share, named, w64, ty_ptr, Val, vint, vptr, SProp, ent, Lft, Share, ftrue, flft, fat, GName, Memory, Routine, Calls, Loops, WpFn, Fun, ‵, ◌⊛◌, ⋆, ◌$◌, ◌∵◌, !, qed, by, move, use1, split, join, rewrite, fsplit, fjoin, suffices, frame, done, keep, whole, sub, look_in, look, init, forget, stop, fld, from, load, of_opd, assigns, returns, enter, alloc1, alloc0, params1, pass1, pass0, free1, free0, lit, bin, hop, look_raw, RattleType, owns, Is, shows, uint_vals, uint_Tells, usize, RefT, now, slice_val, ShrSlice, Room, slice-vals, shr_slice_Tells, plain, nothing, on_entry, Vals, says, Stays, stay_none_slice, stay_none, walk_of, Goes-none_slice, Goes-none, ends_at, walked, rules, yes, place_is, elem_out, elem_back, looks_slice, shuts_slice}
 use denote.Struct.Laws as LL
 use Rattle.report.specs.declared.report_block.ReportBlock.{ReportBlock}
 use Rattle.report.specs.contracts.report_block.ReportBlock as T
@@ -80,4 +80,4 @@ block-unchecked-spec 𝓤 𝓛 𝓜 𝓡 =
     meets 𝓛 𝓜 𝓡 code.env #block-unchecked code.function (code.unfolded 𝓤 𝓛.H 𝓜 𝓡) block-unchecked.ended stayed (block-unchecked.clauses 𝓛 𝓜.mem 𝓡.run)
     (Goes-none_slice 𝓛 1 (0 ∷ []) tt (plain (λ _. R)) yes, (Goes-none 𝓛 1 (λ _. usize) yes (λ κs x f. refl), tt))
     (walked 𝓛 block-unchecked.ended stayed (block-unchecked.clauses 𝓛 𝓜.mem 𝓡.run) (WpFn 𝓤 𝓛.H (calls_of 𝓛 𝓜 𝓡 code.env) (loops_of 𝓛 𝓜 𝓡 code.env) code.function) (λ κs. (shr_slice_vals, (uint_vals w64, tt))) (λ κs. (shr_slice_Tells (named 0) κs.0 R, (uint_Tells w64, tt)))
-    (λ κs qs bounds a g are. needs 𝓤 _ _ (walk 𝓛 𝓜.mem 𝓡.run κs.0 qs.0 a.0.ref_ptr.0 a.0.ref_ptr.1 0 a.0.now a.1.0 (calls_of 𝓛 𝓜 𝓡 code.env) (loops_of 𝓛 𝓜 𝓡 code.env) are.0.0.1 are.1.0.1)))
+    (λ κs qs bounds a g are. rules 𝓤 _ _ (walk 𝓛 𝓜.mem 𝓡.run κs.0 qs.0 a.0.ref_ptr.0 a.0.ref_ptr.1 0 a.0.now a.1.0 (calls_of 𝓛 𝓜 𝓡 code.env) (loops_of 𝓛 𝓜 𝓡 code.env) are.0.0.1 are.1.0.1)))

@@ -2,7 +2,7 @@
 use types.Logic.{Logic}
 use denote.Slice.{shr_slice_vals, mut_slice_vals}
 use denote.Ref.{MutBor}
-use Rattle.by_hand.proofs.Walking.{◌≡◌, refl, sym, ◌∙◌, subst, Bool, List, [], ◌∷◌, ℕ, ◌+◌, ◌-◌, ◌*◌, ◌<◌, ◌≤◌, ◌^◌, arith, length, get_or, lit<, LentAgain, lends_again, comes_back, contract_of, calls_with, calls_lent, counting, calls_of, loops_of, framed, meets, Ura, full_share, named, w64, ty_int, Ty, imm, ty_bool, ty_ref, loop, erased, mut, w8, ty_unit, Val, vint, vbool, vunit, SProp, ent, id⊢, Lft, Share, Fml, ftrue, flft, fat, froom, fdies, GName, WpFn, Out, Env, after_seq, after_block, Wp, at_return, Running, Model, Item, ‵, raw, some, later, ◌⊛◌, ⋆, ◌$◌, ◌∵◌, !, qed, by, move, drop, use1, use2, split, join, pick, rewrite, fsplit, fjoin, suffices, frame, await, done, any_q, at_ret, keep, use3, feq_l, feq_i, whole, sub, look_in, agg, look, init, forget, stop, fld, from, load, of_opd, and_then, no_more, assigns, land, returns, enter, alloc1, alloc0, params1, pass1, pass0, free1, free0, store, lit, bin, assigns_last, stays, leaves_loop, exec, hop, addr, unit_lit, owns, Is, uint_Makes, uint_vals, uint_Tells, Nothing-Lawful, nothing_vals, Nothing-Tells, usize, u8, RefT, now, slice_val, ShrSlice, Room, slice-vals, shr_slice_Tells, shr_slice_copy, slice_ty, MutSlice, mut_slice_Tells, plain, owned, nothing, on_entry, cited, says, Stays, stay_none_slice, stay_none, walk_of, Goes-none_slice, Goes-none, ends_at, walked, needs, stay_slice, Goes-slice, yes, pointee, lft_new, lft_end, after_turn}
+use Rattle.by_hand.proofs.Walking.{◌≡◌, refl, sym, ◌∙◌, subst, Bool, List, [], ◌∷◌, ℕ, ◌+◌, ◌-◌, ◌*◌, ◌<◌, ◌≤◌, ◌^◌, arith, length, get_or, lit<, LentAgain, lends_again, comes_back, contract_of, calls_with, calls_lent, counting, calls_of, loops_of, framed, meets, Ura, full_share, named, w64, ty_int, Ty, imm, ty_bool, ty_ref, loop, erased, mut, w8, ty_unit, Val, vint, vbool, vunit, SProp, ent, id⊢, Lft, Share, Fml, ftrue, flft, fat, froom, fdies, GName, WpFn, Out, Env, after_seq, after_block, Wp, at_return, Running, Model, Item, ‵, raw, some, later, ◌⊛◌, ⋆, ◌$◌, ◌∵◌, !, qed, by, move, drop, use1, use2, split, join, pick, rewrite, fsplit, fjoin, suffices, frame, await, done, any_q, at_ret, keep, use3, feq_l, feq_i, whole, sub, look_in, agg, look, init, forget, stop, fld, from, load, of_opd, and_then, no_more, assigns, land, returns, enter, alloc1, alloc0, params1, pass1, pass0, free1, free0, store, lit, bin, assigns_last, stays, leaves_loop, exec, hop, addr, unit_lit, owns, Is, uint_Makes, uint_vals, uint_Tells, Nothing-Lawful, nothing_vals, Nothing-Tells, usize, u8, RefT, now, slice_val, ShrSlice, Room, slice-vals, shr_slice_Tells, shr_slice_copy, slice_ty, MutSlice, mut_slice_Tells, plain, owned, nothing, on_entry, cited, says, Stays, stay_none_slice, stay_none, walk_of, Goes-none_slice, Goes-none, ends_at, walked, rules, stay_slice, Goes-slice, yes, pointee, lft_new, lft_end, after_turn}
 use native.Mathlib.Numerals.{add-one}
 use borrow.Author.Tests.{lt-ltb, le-ltb}
 use denote.Struct.Laws as LL
@@ -191,5 +191,5 @@ write-blocks-unchecked-spec 𝓤 𝓛 𝓜 𝓡 =
     (Goes-slice 𝓛 2 0 tt (plain (λ _. u8)), (Goes-none 𝓛 2 (λ _. usize) yes (λ κs x f. refl), (Goes-none_slice 𝓛 2 (1 ∷ []) tt (plain (λ _. T.the_row)) yes, (Goes-none 𝓛 2 (λ _. usize) yes (λ κs x f. refl), tt))))
     (walked 𝓛 blocks.ended stayed (blocks.clauses 𝓛 𝓜.mem 𝓡.run) (WpFn 𝓤 𝓛.H (calls_of 𝓛 𝓜 𝓡 code.env) (loops_of 𝓛 𝓜 𝓡 code.env) code.function)
     (λ κs. (mut_slice_vals, (uint_vals w64, (shr_slice_vals, (uint_vals w64, tt))))) (λ κs. (mut_slice_Tells (named 0) κs.0 u8, (uint_Tells w64, (shr_slice_Tells (named 1) κs.1.0 T.the_row, (uint_Tells w64, tt)))))
-    (λ κs qs bounds a g are. needs 𝓤 ((a.1.1.1.0 ≤ length a.1.1.0.now) × (a.1.1.1.0 * 24 ≤ length a.0.now - a.1.0)) _ (λ asked. walk 𝓛 𝓜 𝓡 κs.0 κs.1.0 qs.0 qs.1.0 a.0.ref_ptr.0 a.0.ref_ptr.1 a.0.ghost_name a.0.now a.1.0 a.1.1.0 a.1.1.1.0
+    (λ κs qs bounds a g are. rules 𝓤 ((a.1.1.1.0 ≤ length a.1.1.0.now) × (a.1.1.1.0 * 24 ≤ length a.0.now - a.1.0)) _ (λ asked. walk 𝓛 𝓜 𝓡 κs.0 κs.1.0 qs.0 qs.1.0 a.0.ref_ptr.0 a.0.ref_ptr.1 a.0.ghost_name a.0.now a.1.0 a.1.1.0 a.1.1.1.0
     are.0.0.1 are.1.0.1 are.1.1.0.0.1 are.1.1.1.0.1 asked.0 asked.1)))

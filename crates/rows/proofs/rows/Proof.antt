@@ -1,4 +1,4 @@
-use Rattle.rfc3550.proofs.Prelude.{◌+◌, ◌-◌, ◌≤◌, ◌≡◌, length, needs}
+use Rattle.rfc3550.proofs.Prelude.{◌+◌, ◌-◌, ◌≤◌, ◌≡◌, length, rules}
 use Rattle.rows.proofs.rows.Tie as tie
 
 abbrev invariant-loop : tie.invariant-loop
@@ -9,7 +9,7 @@ decreases-loop lines state₀ out₀ n₀ w₀ l₀ space₀ first names at₀ n
 
 pub rows-spec : {M : Type 1} → Rattle.rows.proofs.rows.Statement.statement M
 rows-spec = tie.close
-    (tie.spec invariant-loop decreases-loop (λ c κs. search needs) (λ c. search needs) (λ c. search needs) (λ c. search needs) (λ c. search needs)
-    (λ c. search needs) (λ c κs. search needs) (λ c. search needs) (λ c. search needs) (λ c. search needs) (λ c κs. search needs)
-    (λ c κs. search needs) (λ c. search needs) (λ c κs. search needs) (λ c. search needs) (λ c. search needs) (λ c. search needs)
-    (λ c. search needs) (λ c. search needs) (λ c. search needs))
+    (tie.spec invariant-loop decreases-loop (λ c κs. search rules) (λ c. search rules) (λ c. search rules) (λ c. search rules) (λ c. search rules)
+    (λ c. search rules) (λ c κs. search rules) (λ c. search rules) (λ c. search rules) (λ c. search rules) (λ c κs. search rules)
+    (λ c κs. search rules) (λ c. search rules) (λ c κs. search rules) (λ c. search rules) (λ c. search rules) (λ c. search rules)
+    (λ c. search rules) (λ c. search rules) (λ c. search rules))

@@ -1,4 +1,4 @@
-use Rattle.rfc3550.proofs.Prelude.{arith, needs}
+use Rattle.rfc3550.proofs.Prelude.{arith, rules}
 use Rattle.chunk_write.proofs.Items.{priv_fits, plain_fits, priv_done, plain_done}
 use Rattle.chunk_write.proofs.item.write_into_unchecked.Tie as tie
 
@@ -19,5 +19,5 @@ returns-2 c = plain_done c.before.before.before.before.before.before.before.befo
 
 pub write-into-unchecked-spec : {M : Type 1} → Rattle.chunk_write.proofs.item.write_into_unchecked.Statement.statement M
 write-into-unchecked-spec {M} =
-    let answers = tie.spec {M = M} write-priv-requires (λ c. search needs) add-result-2 (λ c. search needs) returns write-other-unchecked-requires
-    (λ c. search needs) (λ c. search needs) returns-2 in tie.close answers
+    let answers = tie.spec {M = M} write-priv-requires (λ c. search rules) add-result-2 (λ c. search rules) returns write-other-unchecked-requires
+    (λ c. search rules) (λ c. search rules) returns-2 in tie.close answers

@@ -1,4 +1,4 @@
-use Rattle.rfc3550.proofs.Prelude.{length-set, ◌∙◌, arith, needs}
+use Rattle.rfc3550.proofs.Prelude.{length-set, ◌∙◌, arith, rules}
 use Rattle.chunk_write.proofs.Items.{items}
 use Rattle.chunk_write.proofs.item.write_other_unchecked.Tie as tie
 
@@ -10,5 +10,5 @@ same_length c = c.before.before.write-bytes-unchecked.auto.0 ∙ simp length-set
 
 pub write-other-unchecked-spec : {M : Type 1} → Rattle.chunk_write.proofs.item.write_other_unchecked.Statement.statement M
 write-other-unchecked-spec {M} =
-    let answers = tie.spec {M = M} (λ c. search needs) (λ c. search needs) slice-write-buf-2 (λ c κs. search needs) same_length (λ c. search items) in
+    let answers = tie.spec {M = M} (λ c. search rules) (λ c. search rules) slice-write-buf-2 (λ c κs. search rules) same_length (λ c. search items) in
     tie.close answers

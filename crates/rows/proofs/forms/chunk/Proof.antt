@@ -1,4 +1,4 @@
-use Rattle.rfc3550.proofs.Prelude.{◌-◌, ◌≤◌, needs}
+use Rattle.rfc3550.proofs.Prelude.{◌-◌, ◌≤◌, rules}
 use Rattle.rows.proofs.forms.chunk.Tie as tie
 
 abbrev invariant-loop : tie.invariant-loop
@@ -9,6 +9,6 @@ decreases-loop s n most place₀ i₀ place i = most - i
 
 pub chunk-spec : {M : Type 1} → Rattle.rows.proofs.forms.chunk.Statement.statement M
 chunk-spec = tie.close
-    (tie.spec invariant-loop decreases-loop (λ c κs. search needs) (λ c. search needs) (λ c. search needs) (λ c. search needs) (λ c κs. search needs)
-    (λ c. search needs) (λ c κs. search needs) (λ c. search needs) (λ c. search needs) (λ c. search needs) (λ c κs. search needs)
-    (λ c. search needs))
+    (tie.spec invariant-loop decreases-loop (λ c κs. search rules) (λ c. search rules) (λ c. search rules) (λ c. search rules) (λ c κs. search rules)
+    (λ c. search rules) (λ c κs. search rules) (λ c. search rules) (λ c. search rules) (λ c. search rules) (λ c κs. search rules)
+    (λ c. search rules))

@@ -2,7 +2,7 @@
 use types.Logic.{Logic}
 use denote.Slice.{mut_slice_vals}
 use Rattle.std.proofs.Common.{take, drop as behind, length-take-le, Bor, MutBor}
-use Rattle.by_hand.proofs.Walking.{◌≡◌, refl, sym, ℕ, ◌<◌, ◌≤◌, ◌^◌, arith, List, [], ◌∷◌, Holds, length, Ura, full_share, named, imm, erased, w64, ty_ref, Val, WT, has_ty, vint, SProp, ent, id⊢, Lft, GName, Share, Fml, ftrue, flft, flent, fat, froom, Model, WpFn, fact_i, Running, Item, ‵, raw, some, later, ◌⊛◌, ⋆, ◌$◌, ◌∵◌, !, qed, move, drop, use1, use2, use3, split, join, pick, rewrite, fsplit, fjoin, feq_l, feq_i, suffices, frame, await, done, whole, sub, look_in, agg, look, init, forget, stop, hop, fld, from, load, of_opd, addr, and_then, no_more, assigns, land, returns, enter, alloc1, alloc0, params1, pass1, pass0, free1, free0, owns, Is, uint_Makes, uint_vals, uint_Tells, u8, u64, usize, RefT, slice_val, slice_ty, ShrSlice, MutSlice, Room, slice-vals, mut_slice_Tells, shr_slice_copy, plain, owned, nothing, on_entry, cited, needs, Stays, stay_none, gave_slice, walk_of, Goes-none, Goes-gave_slice, ends_at, walked, yes, pointee, lft_new, lft_end, lent_back, lends_shr_slice, unsaid, contract_of, calls_with, calls_lent, calls_of, loops_of, framed, meets}
+use Rattle.by_hand.proofs.Walking.{◌≡◌, refl, sym, ℕ, ◌<◌, ◌≤◌, ◌^◌, arith, List, [], ◌∷◌, Holds, length, Ura, full_share, named, imm, erased, w64, ty_ref, Val, WT, has_ty, vint, SProp, ent, id⊢, Lft, GName, Share, Fml, ftrue, flft, flent, fat, froom, Model, WpFn, fact_i, Running, Item, ‵, raw, some, later, ◌⊛◌, ⋆, ◌$◌, ◌∵◌, !, qed, move, drop, use1, use2, use3, split, join, pick, rewrite, fsplit, fjoin, feq_l, feq_i, suffices, frame, await, done, whole, sub, look_in, agg, look, init, forget, stop, hop, fld, from, load, of_opd, addr, and_then, no_more, assigns, land, returns, enter, alloc1, alloc0, params1, pass1, pass0, free1, free0, owns, Is, uint_Makes, uint_vals, uint_Tells, u8, u64, usize, RefT, slice_val, slice_ty, ShrSlice, MutSlice, Room, slice-vals, mut_slice_Tells, shr_slice_copy, plain, owned, nothing, on_entry, cited, rules, Stays, stay_none, gave_slice, walk_of, Goes-none, Goes-gave_slice, ends_at, walked, yes, pointee, lft_new, lft_end, lent_back, lends_shr_slice, unsaid, contract_of, calls_with, calls_lent, calls_of, loops_of, framed, meets}
 use Rattle.report.specs.declared.report_block.ReportBlock.{ReportBlock}
 use types.Share.{arr_parts}
 use denote.Memory.{mem, shares}
@@ -172,4 +172,4 @@ size-write-add-spec 𝓤 𝓛 𝓜 𝓡 =
     (Goes-gave_slice 𝓛 2 0 tt (plain (λ _. u8)), (Goes-none 𝓛 2 (λ _. N₀.the_row) yes (λ κs x f. refl), (Goes-gave_slice 𝓛 2 1 tt (plain (λ _. u8)), (Goes-none 𝓛 2 (λ _. P.the_row) yes (λ κs x f. refl), (Goes-none 𝓛 2 (λ _. Arr) yes (λ κs x f. refl), (Goes-none 𝓛 2 (λ _. usize) yes (λ κs x f. refl), (Goes-none 𝓛 2 (λ _. u64) yes (λ κs x f. refl), tt)))))))
     (walked 𝓛 own-fn.ended stayed (own-fn.clauses 𝓛 𝓜.mem 𝓡.run) (WpFn 𝓤 𝓛.H (calls_of 𝓛 𝓜 𝓡 code.env) (loops_of 𝓛 𝓜 𝓡 code.env) code.function)
     (λ κs. (mut_slice_vals, (LL.vals N₀.the_type N₀'.the_laws, (mut_slice_vals, (EL.vals P.the_type P'.the_laws, (array_vals val, (uint_vals w64, (uint_vals w64, tt)))))))) (λ κs. (mut_slice_Tells (named 0) κs.0 u8, (LL.tells N₀.the_type N₀'.the_laws, (mut_slice_Tells (named 1) κs.1.0 u8, (EL.tells P.the_type P'.the_laws, (Array-Tells B val (LL.tells T.the_type T'.the_laws) N, (uint_Tells w64, (uint_Tells w64, tt))))))))
-    (λ κs qs bounds a g are. needs 𝓤 _ _ (λ few. walk 𝓛 𝓜 𝓡 κs.0 κs.1.0 qs.0 qs.1.0 a.0 a.1.0 a.1.1.0 a.1.1.1.0 a.1.1.1.1.0 a.1.1.1.1.1.0 a.1.1.1.1.1.1.0 _ _ _ are.0.0.1 are.1.0 are.1.1.0.0.1 are.1.1.1.0 are.1.1.1.1.0 are.1.1.1.1.1.0.1 are.1.1.1.1.1.1.0.1 few)))
+    (λ κs qs bounds a g are. rules 𝓤 _ _ (λ few. walk 𝓛 𝓜 𝓡 κs.0 κs.1.0 qs.0 qs.1.0 a.0 a.1.0 a.1.1.0 a.1.1.1.0 a.1.1.1.1.0 a.1.1.1.1.1.0 a.1.1.1.1.1.1.0 _ _ _ are.0.0.1 are.1.0 are.1.1.0.0.1 are.1.1.1.0 are.1.1.1.1.0 are.1.1.1.1.1.0.1 are.1.1.1.1.1.1.0.1 few)))

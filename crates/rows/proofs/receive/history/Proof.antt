@@ -1,4 +1,4 @@
-use Rattle.rfc3550.proofs.Prelude.{◌-◌, ◌≤◌, needs}
+use Rattle.rfc3550.proofs.Prelude.{◌-◌, ◌≤◌, rules}
 use Rattle.rows.proofs.receive.history.Tie as tie
 
 abbrev invariant-loop : tie.invariant-loop
@@ -9,6 +9,6 @@ decreases-loop w end s₀ i₀ s i = end - i
 
 pub history-spec : {M : Type 1} → Rattle.rows.proofs.receive.history.Statement.statement M
 history-spec = tie.close
-    (tie.spec invariant-loop decreases-loop (λ c κs. search needs) (λ c. search needs) (λ c κs. search needs) (λ c κs. search needs) (λ c κs. search needs)
-    (λ c κs. search needs) (λ c. search needs) (λ c κs. search needs) (λ c. search needs) (λ c. search needs) (λ c. search needs)
-    (λ c κs. search needs) (λ c. search needs))
+    (tie.spec invariant-loop decreases-loop (λ c κs. search rules) (λ c. search rules) (λ c κs. search rules) (λ c κs. search rules) (λ c κs. search rules)
+    (λ c κs. search rules) (λ c. search rules) (λ c κs. search rules) (λ c. search rules) (λ c. search rules) (λ c. search rules)
+    (λ c κs. search rules) (λ c. search rules))

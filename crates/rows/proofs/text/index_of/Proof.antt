@@ -1,4 +1,4 @@
-use Rattle.rfc3550.proofs.Prelude.{◌+◌, ◌-◌, ◌≤◌, length, needs}
+use Rattle.rfc3550.proofs.Prelude.{◌+◌, ◌-◌, ◌≤◌, length, rules}
 use Rattle.rows.proofs.text.index_of.Tie as tie
 
 abbrev invariant-loop : tie.invariant-loop
@@ -9,5 +9,5 @@ decreases-loop word words at₀ i₀ at i = length words - at
 
 pub index-of-spec : {M : Type 1} → Rattle.rows.proofs.text.index_of.Statement.statement M
 index-of-spec = tie.close
-    (tie.spec invariant-loop decreases-loop (λ c. search needs) (λ c κs. search needs) (λ c. search needs) (λ c. search needs) (λ c. search needs)
-    (λ c κs. search needs) (λ c. search needs) (λ c. search needs) (λ c. search needs) (λ c. search needs) (λ c. search needs) (λ c. search needs))
+    (tie.spec invariant-loop decreases-loop (λ c. search rules) (λ c κs. search rules) (λ c. search rules) (λ c. search rules) (λ c. search rules)
+    (λ c κs. search rules) (λ c. search rules) (λ c. search rules) (λ c. search rules) (λ c. search rules) (λ c. search rules) (λ c. search rules))

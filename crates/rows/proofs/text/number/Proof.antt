@@ -1,4 +1,4 @@
-use Rattle.rfc3550.proofs.Prelude.{◌-◌, ◌≤◌, length, needs}
+use Rattle.rfc3550.proofs.Prelude.{◌-◌, ◌≤◌, length, rules}
 use Rattle.rows.proofs.text.number.Tie as tie
 
 abbrev invariant-loop : tie.invariant-loop
@@ -9,5 +9,5 @@ decreases-loop s n₀ i₀ n i = length s - i
 
 pub number-spec : {M : Type 1} → Rattle.rows.proofs.text.number.Statement.statement M
 number-spec = tie.close
-    (tie.spec invariant-loop decreases-loop (λ c. search needs) (λ c. search needs) (λ c. search needs) (λ c κs. search needs) (λ c κs. search needs)
-    (λ c. search needs) (λ c. search needs) (λ c. search needs) (λ c. search needs))
+    (tie.spec invariant-loop decreases-loop (λ c. search rules) (λ c. search rules) (λ c. search rules) (λ c κs. search rules) (λ c κs. search rules)
+    (λ c. search rules) (λ c. search rules) (λ c. search rules) (λ c. search rules))

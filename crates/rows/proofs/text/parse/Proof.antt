@@ -1,5 +1,5 @@
 use Rattle.io.proofs.Counting.{prefix_len_of_le}
-use Rattle.rfc3550.proofs.Prelude.{◌+◌, ◌-◌, ◌≤◌, ◌≡◌, length, needs}
+use Rattle.rfc3550.proofs.Prelude.{◌+◌, ◌-◌, ◌≤◌, ◌≡◌, length, rules}
 use Rattle.rows.proofs.text.parse.Tie as tie
 
 abbrev invariant-loop : tie.invariant-loop
@@ -9,10 +9,10 @@ abbrev decreases-loop : tie.decreases-loop
 decreases-loop line numbers₀ words₀ losses₀ bytes₀ n₀ i₀ at₀ numbers words losses bytes n i at = length line - at
 
 returns : tie.Need-returns invariant-loop decreases-loop
-returns c = search (needs, prefix_len_of_le)
+returns c = search (rules, prefix_len_of_le)
 
 pub parse-spec : {M : Type 1} → Rattle.rows.proofs.text.parse.Statement.statement M
 parse-spec = tie.close
-    (tie.spec invariant-loop decreases-loop (λ c. search needs) (λ c κs. search needs) (λ c. search needs) (λ c. search needs) (λ c. search needs)
-    (λ c κs. search needs) (λ c. search needs) (λ c. search needs) (λ c. search needs) (λ c κs. search needs) (λ c. search needs)
-    (λ c. search needs) (λ c. search needs) (λ c. search needs) returns)
+    (tie.spec invariant-loop decreases-loop (λ c. search rules) (λ c κs. search rules) (λ c. search rules) (λ c. search rules) (λ c. search rules)
+    (λ c κs. search rules) (λ c. search rules) (λ c. search rules) (λ c. search rules) (λ c κs. search rules) (λ c. search rules)
+    (λ c. search rules) (λ c. search rules) (λ c. search rules) returns)

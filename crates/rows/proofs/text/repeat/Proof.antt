@@ -1,4 +1,4 @@
-use Rattle.rfc3550.proofs.Prelude.{◌≤◌, ◌≡◌, length, needs}
+use Rattle.rfc3550.proofs.Prelude.{◌≤◌, ◌≡◌, length, rules}
 use Rattle.rows.proofs.text.repeat.Tie as tie
 
 abbrev invariant-loop : tie.invariant-loop
@@ -9,5 +9,5 @@ decreases-loop out₀ from b count at₀ left₀ out at left = left
 
 pub repeat-spec : {M : Type 1} → Rattle.rows.proofs.text.repeat.Statement.statement M
 repeat-spec = tie.close
-    (tie.spec invariant-loop decreases-loop (λ c. search needs) (λ c. search needs) (λ c. search needs) (λ c. search needs) (λ c. search needs)
-    (λ c. search needs) (λ c. search needs) (λ c. search needs) (λ c. search needs) (λ c. search needs))
+    (tie.spec invariant-loop decreases-loop (λ c. search rules) (λ c. search rules) (λ c. search rules) (λ c. search rules) (λ c. search rules)
+    (λ c. search rules) (λ c. search rules) (λ c. search rules) (λ c. search rules) (λ c. search rules))

@@ -1,4 +1,4 @@
-use Rattle.rfc3550.proofs.Prelude.{◌-◌, ◌≤◌, ◌≡◌, length, needs}
+use Rattle.rfc3550.proofs.Prelude.{◌-◌, ◌≤◌, ◌≡◌, length, rules}
 use Rattle.rows.proofs.text.unhex.Tie as tie
 
 abbrev invariant-loop : tie.invariant-loop
@@ -9,7 +9,7 @@ decreases-loop s out₀ from at₀ i₀ out at i = length s - i
 
 pub unhex-spec : {M : Type 1} → Rattle.rows.proofs.text.unhex.Statement.statement M
 unhex-spec = tie.close
-    (tie.spec invariant-loop decreases-loop (λ c. search needs) (λ c. search needs) (λ c. search needs) (λ c. search needs) (λ c. search needs)
-    (λ c. search needs) (λ c. search needs) (λ c κs. search needs) (λ c. search needs) (λ c. search needs) (λ c. search needs)
-    (λ c κs. search needs) (λ c. search needs) (λ c. search needs) (λ c. search needs) (λ c. search needs) (λ c. search needs) (λ c. search needs)
-    (λ c. search needs) (λ c. search needs))
+    (tie.spec invariant-loop decreases-loop (λ c. search rules) (λ c. search rules) (λ c. search rules) (λ c. search rules) (λ c. search rules)
+    (λ c. search rules) (λ c. search rules) (λ c κs. search rules) (λ c. search rules) (λ c. search rules) (λ c. search rules)
+    (λ c κs. search rules) (λ c. search rules) (λ c. search rules) (λ c. search rules) (λ c. search rules) (λ c. search rules) (λ c. search rules)
+    (λ c. search rules) (λ c. search rules))

@@ -1,4 +1,4 @@
-use Rattle.rfc3550.proofs.Prelude.{needs}
+use Rattle.rfc3550.proofs.Prelude.{rules}
 use Rattle.rtcp.proofs.Lookups.{lookup_out}
 use Rattle.rtcp.proofs.read_lookup.rtcp_sdes_lookup.Tie as tie
 
@@ -9,4 +9,4 @@ returns c =
 
 pub rtcp-sdes-lookup-spec : {M : Type 1} → Rattle.rtcp.proofs.read_lookup.rtcp_sdes_lookup.Statement.statement M
 rtcp-sdes-lookup-spec {M} =
-    let answers = tie.spec {M = M} (λ c κs. search needs) (λ c κs. search needs) (λ c. search needs) returns in tie.close answers
+    let answers = tie.spec {M = M} (λ c κs. search rules) (λ c κs. search rules) (λ c. search rules) returns in tie.close answers
