@@ -1,4 +1,6 @@
 // APP: application-defined packets (app.rs of rtcp-types).
+#![tactic(auto)]
+
 pub mod write;
 
 ghost use Rattle.std.specs.Prelude.{◌≡◌, ◌-◌, take, drop};

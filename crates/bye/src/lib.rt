@@ -1,4 +1,6 @@
 // BYE: goodbye packets (bye.rs of rtcp-types).
+#![tactic(auto)]
+
 pub mod write;
 
 ghost use Rattle.std.specs.Prelude.{◌≡◌, ◌+◌, ◌-◌, take, drop};

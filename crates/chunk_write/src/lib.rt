@@ -1,4 +1,6 @@
 // SDES items and chunks, written.
+#![tactic(auto)]
+
 pub mod chunk;
 pub mod chunks;
 pub mod item;

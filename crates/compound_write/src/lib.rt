@@ -1,3 +1,5 @@
 // Compounds, written.
+#![tactic(auto)]
+
 pub mod cname;
 pub mod writer;

@@ -1,6 +1,8 @@
 // Rows of document 01, each a line `NAME OPERATION NUMBER.. xBYTES`. The first line names the operations, in the order of their numbers here.
 // An operation is a C function, a part of a packet, or a form that lends records or holds its bytes; the program writes NAME, the answer's numbers and
 // the bytes.
+#![tactic(auto)]
+
 mod forms;
 mod held;
 mod lend;

@@ -1,4 +1,6 @@
 // The C functions. Nothing here decides: each hands on what the crate of its kind answers, as numbers.
+#![tactic(auto)]
+
 pub mod read_app;
 pub mod read_bye;
 pub mod read_compound;

@@ -1,4 +1,6 @@
 // Which chunks of a source description name the SSRCs of a list (document 02, order 2).
+#![tactic(auto)]
+
 ghost use Rattle.std.specs.Prelude.{◌≡◌, List, ◌++◌, ℕ, ◌<◌, ◌≤◌, ltb, length, replicate, drop};
 ghost use Rattle.rfc3550.specs.Answer.{ok, pick};
 ghost use Rattle.rfc3550.specs.Packet.{Chunk};

@@ -1,4 +1,6 @@
 // A walk over the chunks of a source description that holds the packet's bytes: thin functions over the walk of crate sdes, which decides everything.
+#![tactic(auto)]
+
 ghost use Rattle.std.specs.Prelude.{◌≡◌};
 ghost use Rattle.rfc3550.specs.Answer.{map_ok};
 ghost use Rattle.rfc3550.specs.Walk.{open_sdes, walk_after};

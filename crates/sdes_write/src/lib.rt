@@ -1,4 +1,6 @@
 // SDES packets, written (sdes.rs, `SdesBuilder`). One SSRC and one item count for each chunk, and the lists of all items.
+#![tactic(auto)]
+
 ghost use Rattle.std.specs.Prelude.{◌≡◌, ◌-◌, length};
 ghost use Rattle.rfc3550.specs.Bytes.{store};
 ghost use Rattle.rfc3550.specs.Packet.{layout};

@@ -1,4 +1,6 @@
 // Whether bytes are well-formed UTF-8 (RFC 3629; document 02, order 4).
+#![tactic(auto)]
+
 ghost use Rattle.std.specs.Prelude.{◌≡◌, ◌+◌, ◌<◌, ◌≤◌, length, take, drop};
 ghost use Rattle.rfc3550.specs.Utf8.{is_code_point, between, within, is_utf8};
 ghost use Rattle.utils.specs.Writer.{reversed};

@@ -1,0 +1,5 @@
+use Rattle.report.proofs.Losses.{losses}
+use Rattle.report.proofs.loss.loss_bits.Goals as goal
+
+pub returns : goal.returns
+returns c = search losses

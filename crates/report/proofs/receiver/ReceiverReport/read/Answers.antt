@@ -1,0 +1,11 @@
+use Rattle.report.proofs.Reports.{fields}
+use Rattle.report.proofs.receiver.ReceiverReport.read.Goals as goal
+
+pub parse_ssrc-requires : goal.parse_ssrc-requires
+parse_ssrc-requires c = search fields
+
+pub overflow_sub-result : goal.overflow_sub-result
+overflow_sub-result c = search fields
+
+pub returns : goal.returns
+returns c = search fields
