@@ -1,7 +1,0 @@
-use Rattle.sdes_chunk.proofs.Items.{items}
-use Rattle.sdes_chunk.proofs.item.item_end.Tie as tie
-
-pub item-end-spec : {M : Type 1} → Rattle.sdes_chunk.proofs.item.item_end.Statement.statement M
-item-end-spec {M} =
-    let answers = tie.spec {M = M} (λ c. search items) (λ c. search items) (λ c. search items) (λ c. search items) (λ c. search items)
-    (λ c κs. search items) (λ c. search items) in tie.close answers

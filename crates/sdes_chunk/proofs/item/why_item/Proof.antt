@@ -1,8 +1,0 @@
-use Rattle.sdes_chunk.proofs.Items.{items}
-use Rattle.sdes_chunk.proofs.item.why_item.Tie as tie
-
-pub why-item-spec : {M : Type 1} → Rattle.sdes_chunk.proofs.item.why_item.Statement.statement M
-why-item-spec {M} =
-    let answers = tie.spec {M = M} (λ c. search items) (λ c. search items) (λ c κs. search items) (λ c. search items) (λ c. search items)
-    (λ c. search items) (λ c. search items) (λ c. search items) (λ c. search items) (λ c. search items) (λ c κs. search items) (λ c. search items)
-    (λ c. search items) (λ c. search items) in tie.close answers
