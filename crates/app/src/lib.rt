@@ -12,7 +12,7 @@ ghost use Rattle.app.specs.App.{parsed_of, app_view, no_app};
 use utils::error::RtcpParseError;
 
 // The data follow the name; body is their end, where the padding starts.
-#[derive(Drop)]
+#[derive(Clone, Copy)]
 pub struct App {
     pub ssrc: u32,
     pub subtype: u8,
@@ -20,7 +20,7 @@ pub struct App {
     pub padding_len: usize,
 }
 
-#[derive(Drop)]
+#[derive(Clone, Copy)]
 pub enum ParsedApp {
     App(App),
     Refused(RtcpParseError),

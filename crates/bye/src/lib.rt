@@ -13,7 +13,7 @@ use utils::error::RtcpParseError;
 
 // reason is the place of the reason's first byte or, where there is none, the end of the sources; the tail lies between the reason's end
 // and body, where the padding starts.
-#[derive(Drop)]
+#[derive(Clone, Copy)]
 pub struct Bye {
     pub n_sources: usize,
     pub has_reason: bool,
@@ -23,13 +23,13 @@ pub struct Bye {
     pub padding_len: usize,
 }
 
-#[derive(Drop)]
+#[derive(Clone, Copy)]
 pub enum ParsedBye {
     Bye(Bye),
     Refused(RtcpParseError),
 }
 
-#[derive(Drop)]
+#[derive(Clone, Copy)]
 pub enum ParsedSource {
     Source(u32),
     Refused(RtcpParseError),

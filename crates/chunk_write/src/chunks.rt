@@ -95,7 +95,7 @@ fn element_unchecked(xs: &[u64], i: usize) -> usize
 }
 
 // The index after some items, and how many bytes are left after theirs; both 0 where an item is refused or takes more bytes than are left.
-#[derive(Drop)]
+#[derive(Clone, Copy)]
 pub struct ItemsEnd {
     pub end: usize,
     pub left: u64,
@@ -209,7 +209,7 @@ fn write_item_at(
 }
 
 // The index after what was laid, and the index after the lent bytes that it took.
-#[derive(Drop)]
+#[derive(Clone, Copy)]
 pub struct LaidEnd {
     pub end: usize,
     pub taken: usize,

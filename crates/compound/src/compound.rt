@@ -115,7 +115,7 @@ pub fn why_len(s: &[u8], at: usize) -> RtcpParseError
 }
 
 // Whether the packet at the start of the bytes left has a CNAME, and its length.
-#[derive(Drop)]
+#[derive(Clone, Copy)]
 enum CheckedPacket {
     Packet(bool, usize),
     Refused(RtcpParseError),
@@ -147,12 +147,12 @@ fn check_packet(rest: &[u8], first: bool) -> CheckedPacket
 }
 
 // An accepted datagram: the number of its packets.
-#[derive(Drop)]
+#[derive(Clone, Copy)]
 pub struct Compound {
     pub n_packets: usize,
 }
 
-#[derive(Drop)]
+#[derive(Clone, Copy)]
 pub enum ParsedCompound {
     Compound(Compound),
     Refused(RtcpParseError),
@@ -247,18 +247,18 @@ fn list_all_unchecked(s: &[u8], compound: Compound, list: &mut [u64])
 }
 
 // A walk over the packets of a datagram: the place of the next one.
-#[derive(Drop)]
+#[derive(Clone, Copy)]
 pub struct Walk {
     pub at: usize,
 }
 
-#[derive(Drop)]
+#[derive(Clone, Copy)]
 pub enum OpenedWalk {
     Walk(Walk),
     Refused(RtcpParseError),
 }
 
-#[derive(Drop)]
+#[derive(Clone, Copy)]
 pub enum Stepped {
     Packet(Packet, Walk),
     Refused(RtcpParseError),

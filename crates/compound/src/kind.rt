@@ -10,7 +10,7 @@ use report::sender::SenderReport;
 use sdes::sdes::Sdes;
 use utils::parser;
 
-#[derive(Drop)]
+#[derive(Clone, Copy)]
 pub enum Kind {
     Sr,
     Rr,

@@ -14,7 +14,7 @@ use report::sender::{ParsedSenderReport, SenderReport};
 use sdes::sdes::{ParsedSdes, Sdes};
 use utils::error::RtcpParseError;
 
-#[derive(Drop)]
+#[derive(Clone, Copy)]
 pub enum Packet {
     Sr(SenderReport),
     Rr(ReceiverReport),
@@ -24,7 +24,7 @@ pub enum Packet {
     Unknown(Unknown),
 }
 
-#[derive(Drop)]
+#[derive(Clone, Copy)]
 pub enum ParsedPacket {
     Packet(Packet),
     Refused(RtcpParseError),

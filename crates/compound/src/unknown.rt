@@ -10,7 +10,7 @@ use utils::error::RtcpParseError;
 use utils::parser;
 
 // count is the low 5 bits; body is the end of the body, where the padding starts.
-#[derive(Drop)]
+#[derive(Clone, Copy)]
 pub struct Unknown {
     pub packet_type: u8,
     pub count: u8,
@@ -18,7 +18,7 @@ pub struct Unknown {
     pub padding_len: usize,
 }
 
-#[derive(Drop)]
+#[derive(Clone, Copy)]
 pub enum ParsedUnknown {
     Unknown(Unknown),
     Refused(RtcpParseError),

@@ -20,7 +20,7 @@ use sdes::sdes::Sdes;
 use utils::error::RtcpWriteError;
 use utils::parser::either;
 
-#[derive(Drop)]
+#[derive(Clone, Copy)]
 pub struct Writer {
     pub len: usize,
     pub padded: bool,
@@ -28,14 +28,14 @@ pub struct Writer {
     pub closed: bool,
 }
 
-#[derive(Drop)]
+#[derive(Clone, Copy)]
 pub enum Outcome {
     Done,
     Refused(RtcpWriteError),
 }
 
 // The answer to a call, and the writer after it.
-#[derive(Drop)]
+#[derive(Clone, Copy)]
 pub struct Call {
     pub answer: Outcome,
     pub writer: Writer,

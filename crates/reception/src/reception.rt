@@ -7,7 +7,7 @@ use super::figure::{clamped, cycles_after, fraction_lost, jitter_after};
 use super::wrap::{minus_16, minus_32, plus_32};
 use report::report_block::ReportBlock;
 
-#[derive(Drop)]
+#[derive(Clone, Copy)]
 pub struct Reception {
     pub max_seq: u16,
     pub cycles: u32,
@@ -22,14 +22,14 @@ pub struct Reception {
 }
 
 // The state after a packet, and whether A.1 accepts the packet.
-#[derive(Drop)]
+#[derive(Clone, Copy)]
 pub struct Update {
     pub reception: Reception,
     pub accepted: bool,
 }
 
 // The block and the state after it; none in probation, and the state stays.
-#[derive(Drop)]
+#[derive(Clone, Copy)]
 pub enum ReportedBlock {
     Block(ReportBlock, Reception),
     InProbation,

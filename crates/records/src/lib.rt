@@ -26,7 +26,7 @@ use utils::writer;
 use utils::writer::Written;
 
 // Who reports: a receiver, by its SSRC, or a sender.
-#[derive(Drop)]
+#[derive(Clone, Copy)]
 pub enum Reporter {
     Receiver(u32),
     Sender(SenderInfo),

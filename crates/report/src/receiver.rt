@@ -12,7 +12,7 @@ use utils::error::RtcpParseError;
 use utils::list::Listed;
 
 // The extension lies between the places extension and body, where the padding starts.
-#[derive(Drop)]
+#[derive(Clone, Copy)]
 pub struct ReceiverReport {
     pub ssrc: u32,
     pub n_reports: usize,
@@ -21,7 +21,7 @@ pub struct ReceiverReport {
     pub padding_len: usize,
 }
 
-#[derive(Drop)]
+#[derive(Clone, Copy)]
 pub enum ParsedReceiverReport {
     Report(ReceiverReport),
     Refused(RtcpParseError),

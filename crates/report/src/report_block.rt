@@ -12,7 +12,7 @@ use utils::error::RtcpParseError;
 use utils::list::Listed;
 use utils::parser::u32_from_be_bytes;
 
-#[derive(Drop)]
+#[derive(Clone, Copy)]
 pub struct ReportBlock {
     pub ssrc: u32,
     pub fraction_lost: u8,
@@ -23,7 +23,7 @@ pub struct ReportBlock {
     pub delay_since_last_sender_report_timestamp: u32,
 }
 
-#[derive(Drop)]
+#[derive(Clone, Copy)]
 pub enum ParsedReportBlock {
     Block(ReportBlock),
     Refused(RtcpParseError),

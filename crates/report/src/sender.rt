@@ -12,7 +12,7 @@ use utils::error::RtcpParseError;
 use utils::list::Listed;
 
 // The extension lies between the places extension and body, where the padding starts.
-#[derive(Drop)]
+#[derive(Clone, Copy)]
 pub struct SenderReport {
     pub ssrc: u32,
     pub ntp_timestamp: u64,
@@ -25,7 +25,7 @@ pub struct SenderReport {
     pub padding_len: usize,
 }
 
-#[derive(Drop)]
+#[derive(Clone, Copy)]
 pub enum ParsedSenderReport {
     Report(SenderReport),
     Refused(RtcpParseError),

@@ -14,7 +14,7 @@ use utils::writer;
 use utils::writer::Written;
 
 // Who sends, and what was sent.
-#[derive(Drop)]
+#[derive(Clone, Copy)]
 pub struct SenderInfo {
     pub ssrc: u32,
     pub ntp_timestamp: u64,

@@ -3,7 +3,7 @@ use sdes::sdes::{ChunkWalk, OpenedChunks, SteppedChunk};
 use sdes_walk::SdesWalk;
 
 // The two answers, and where the walk that each hands back stands.
-#[derive(Drop)]
+#[derive(Clone, Copy)]
 pub struct Held {
     pub opened: OpenedChunks,
     pub start: ChunkWalk,

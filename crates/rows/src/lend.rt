@@ -6,7 +6,7 @@ use records::Reporter;
 use report::report_block::ReportBlock;
 use utils::writer::Written;
 
-#[derive(Drop)]
+#[derive(Clone, Copy)]
 pub struct Lent {
     pub size: Written,
     pub written: Written,

@@ -8,7 +8,7 @@ ghost use Rattle.rtcp.specs.App.{app_result};
 use app::{App, ParsedApp};
 
 #[repr(C)]
-#[derive(Drop)]
+#[derive(Clone, Copy)]
 pub struct RtcpApp {
     pub number: u64,
     pub first: u64,

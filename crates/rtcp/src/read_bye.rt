@@ -9,7 +9,7 @@ use super::result::bit;
 use bye::{Bye, ParsedBye, ParsedSource};
 
 #[repr(C)]
-#[derive(Drop)]
+#[derive(Clone, Copy)]
 pub struct RtcpBye {
     pub number: u64,
     pub first: u64,
@@ -25,7 +25,7 @@ pub struct RtcpBye {
 }
 
 #[repr(C)]
-#[derive(Drop)]
+#[derive(Clone, Copy)]
 pub struct RtcpSource {
     pub number: u64,
     pub first: u64,

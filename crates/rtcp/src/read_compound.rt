@@ -24,7 +24,7 @@ use sdes::sdes::Sdes;
 use utils::error::Code;
 
 #[repr(C)]
-#[derive(Drop)]
+#[derive(Clone, Copy)]
 pub struct RtcpCompound {
     pub number: u64,
     pub first: u64,
@@ -33,7 +33,7 @@ pub struct RtcpCompound {
 }
 
 #[repr(C)]
-#[derive(Drop)]
+#[derive(Clone, Copy)]
 pub struct RtcpWalk {
     pub number: u64,
     pub first: u64,
@@ -44,7 +44,7 @@ pub struct RtcpWalk {
 // The packet has `len` bytes from `offset`. Every other place is counted from the packet's start, so the numbers are those that the function of
 // its kind gives of these bytes; 0 where its kind has no such field.
 #[repr(C)]
-#[derive(Drop)]
+#[derive(Clone, Copy)]
 pub struct RtcpStep {
     pub number: u64,
     pub first: u64,
@@ -101,7 +101,7 @@ impl RtcpStep {
 }
 
 // A packet of any kind as numbers. The kind is its packet type, or 0 where the type has no layout.
-#[derive(Drop)]
+#[derive(Clone, Copy)]
 struct PacketNumbers {
     kind: u64,
     packet_type: u64,

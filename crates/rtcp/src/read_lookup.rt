@@ -7,7 +7,7 @@ ghost use Rattle.sdes_lookup.specs.Lookup.{looked_up_of};
 use sdes_lookup::LookedUp;
 
 #[repr(C)]
-#[derive(Drop)]
+#[derive(Clone, Copy)]
 pub struct RtcpLookup {
     pub number: u64,
     pub first: u64,

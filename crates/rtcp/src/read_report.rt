@@ -16,7 +16,7 @@ use utils::error::Code;
 use utils::list::Listed;
 
 #[repr(C)]
-#[derive(Drop)]
+#[derive(Clone, Copy)]
 pub struct RtcpBlock {
     pub number: u64,
     pub first: u64,
@@ -31,7 +31,7 @@ pub struct RtcpBlock {
 }
 
 #[repr(C)]
-#[derive(Drop)]
+#[derive(Clone, Copy)]
 pub struct RtcpRr {
     pub number: u64,
     pub first: u64,
@@ -45,7 +45,7 @@ pub struct RtcpRr {
 }
 
 #[repr(C)]
-#[derive(Drop)]
+#[derive(Clone, Copy)]
 pub struct RtcpSr {
     pub number: u64,
     pub first: u64,

@@ -16,7 +16,7 @@ use sdes_chunk::chunk::{ItemWalk, OpenedItems, ParsedChunk, SdesChunk, SteppedIt
 use sdes_chunk::item::{ParsedItem, SdesItem};
 
 #[repr(C)]
-#[derive(Drop)]
+#[derive(Clone, Copy)]
 pub struct RtcpSdes {
     pub number: u64,
     pub first: u64,
@@ -28,7 +28,7 @@ pub struct RtcpSdes {
 }
 
 #[repr(C)]
-#[derive(Drop)]
+#[derive(Clone, Copy)]
 pub struct RtcpItem {
     pub number: u64,
     pub first: u64,
@@ -42,7 +42,7 @@ pub struct RtcpItem {
 }
 
 #[repr(C)]
-#[derive(Drop)]
+#[derive(Clone, Copy)]
 pub struct RtcpPart {
     pub number: u64,
     pub first: u64,
@@ -52,7 +52,7 @@ pub struct RtcpPart {
 }
 
 #[repr(C)]
-#[derive(Drop)]
+#[derive(Clone, Copy)]
 pub struct RtcpChunk {
     pub number: u64,
     pub first: u64,
@@ -63,7 +63,7 @@ pub struct RtcpChunk {
 }
 
 #[repr(C)]
-#[derive(Drop)]
+#[derive(Clone, Copy)]
 pub struct RtcpChunkWalk {
     pub number: u64,
     pub first: u64,
@@ -73,7 +73,7 @@ pub struct RtcpChunkWalk {
 }
 
 #[repr(C)]
-#[derive(Drop)]
+#[derive(Clone, Copy)]
 pub struct RtcpChunkStep {
     pub number: u64,
     pub first: u64,
@@ -86,7 +86,7 @@ pub struct RtcpChunkStep {
 }
 
 #[repr(C)]
-#[derive(Drop)]
+#[derive(Clone, Copy)]
 pub struct RtcpItemWalk {
     pub number: u64,
     pub first: u64,
@@ -95,7 +95,7 @@ pub struct RtcpItemWalk {
 }
 
 #[repr(C)]
-#[derive(Drop)]
+#[derive(Clone, Copy)]
 pub struct RtcpItemStep {
     pub number: u64,
     pub first: u64,
@@ -118,7 +118,7 @@ fn prefix_start(item: SdesItem) -> usize
 }
 
 // The parts of an item that stands at a place: the value follows the prefix and ends with the item.
-#[derive(Drop)]
+#[derive(Clone, Copy)]
 struct ItemParts {
     prefix: u64,
     value: u64,

@@ -10,7 +10,7 @@ use reception::reception::{Reception, ReportedBlock};
 use report::report_block::ParsedReportBlock;
 
 #[repr(C)]
-#[derive(Drop)]
+#[derive(Clone, Copy)]
 pub struct RtcpReception {
     pub max_seq: u16,
     pub cycles: u32,
@@ -25,14 +25,14 @@ pub struct RtcpReception {
 }
 
 #[repr(C)]
-#[derive(Drop)]
+#[derive(Clone, Copy)]
 pub struct RtcpReceptionUpdate {
     pub reception: RtcpReception,
     pub accepted: u64,
 }
 
 #[repr(C)]
-#[derive(Drop)]
+#[derive(Clone, Copy)]
 pub struct RtcpReceptionBlock {
     pub reception: RtcpReception,
     pub in_probation: u64,

@@ -15,7 +15,7 @@ use report_write::sender::SenderInfo;
 
 // What a call answers: 0, or the refusal and its details, which leaves the writer and the buffer as they were.
 #[repr(C)]
-#[derive(Drop)]
+#[derive(Clone, Copy)]
 pub struct RtcpCall {
     pub number: u64,
     pub first: u64,

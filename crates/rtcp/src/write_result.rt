@@ -8,7 +8,7 @@ use utils::list::Listed;
 use utils::writer::Written;
 
 #[repr(C)]
-#[derive(Drop)]
+#[derive(Clone, Copy)]
 pub struct RtcpWritten {
     pub number: u64,
     pub first: u64,

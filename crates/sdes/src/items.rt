@@ -18,7 +18,7 @@ use utils::parser;
 pub const ITEM_ROW: usize = 5;
 
 // The numbers of one row.
-#[derive(Drop)]
+#[derive(Clone, Copy)]
 struct Row {
     ssrc: u32,
     type_: u32,
@@ -28,7 +28,7 @@ struct Row {
 }
 
 // A place where an item stands, or the zero that ends a chunk's items, and the SSRC of the chunk.
-#[derive(Drop)]
+#[derive(Clone, Copy)]
 struct Place {
     ssrc: u32,
     at: usize,
@@ -145,7 +145,7 @@ fn needed(body: &[u8], room: usize) -> usize
 }
 
 // The place of the next row, and its index in the list.
-#[derive(Drop)]
+#[derive(Clone, Copy)]
 struct Next {
     place: Place,
     i: usize,

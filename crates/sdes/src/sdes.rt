@@ -14,7 +14,7 @@ use utils::parser;
 use utils::writer::MAX_PACKET_LEN;
 
 // The number of chunks, whether one has a CNAME, the end of the body, where the padding starts, and the length of the padding.
-#[derive(Drop)]
+#[derive(Clone, Copy)]
 pub struct Sdes {
     pub n_chunks: usize,
     pub has_cname: bool,
@@ -22,7 +22,7 @@ pub struct Sdes {
     pub padding_len: usize,
 }
 
-#[derive(Drop)]
+#[derive(Clone, Copy)]
 pub enum ParsedSdes {
     Sdes(Sdes),
     Refused(RtcpParseError),
@@ -112,19 +112,19 @@ impl Sdes {
 }
 
 // A walk over the chunks of a packet: the place of the next one, and the end of the body that it opened on.
-#[derive(Drop)]
+#[derive(Clone, Copy)]
 pub struct ChunkWalk {
     pub at: usize,
     pub end: usize,
 }
 
-#[derive(Drop)]
+#[derive(Clone, Copy)]
 pub enum OpenedChunks {
     Walk(ChunkWalk),
     Refused(RtcpParseError),
 }
 
-#[derive(Drop)]
+#[derive(Clone, Copy)]
 pub enum SteppedChunk {
     Chunk(SdesChunk, ChunkWalk),
     Refused(RtcpParseError),

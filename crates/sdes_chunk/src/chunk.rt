@@ -13,14 +13,14 @@ use utils::error::RtcpParseError;
 use utils::parser;
 
 // The SSRC, the number of bytes that the chunk takes, and the place of its first CNAME, counted from its start: 0 where there is none.
-#[derive(Drop)]
+#[derive(Clone, Copy)]
 pub struct SdesChunk {
     pub ssrc: u32,
     pub length: usize,
     pub cname: usize,
 }
 
-#[derive(Drop)]
+#[derive(Clone, Copy)]
 pub enum ParsedChunk {
     Chunk(SdesChunk),
     Refused(RtcpParseError),
@@ -49,7 +49,7 @@ fn first_cname(known: usize, at: usize, type_: u8, length: usize) -> usize
 
 // The place where no further item follows, that of the first CNAME, and whether a zero stands there: if not, it is the end of the bytes, or an item
 // that is refused.
-#[derive(Drop)]
+#[derive(Clone, Copy)]
 struct Items {
     at: usize,
     cname: usize,
@@ -130,7 +130,7 @@ fn filled(chunk: &[u8], at: usize, end: usize) -> bool
 }
 
 // How many bytes a chunk takes, 0 where it is refused, and the place of the first CNAME up to its end, counted from the start of the chunk that has it.
-#[derive(Drop)]
+#[derive(Clone, Copy)]
 struct ChunkEnd {
     length: usize,
     cname: usize,
@@ -170,7 +170,7 @@ fn chunk_end(chunk: &[u8], known: usize) -> ChunkEnd
 }
 
 // The place up to which chunks were read, how many are left, and the place of the first CNAME, counted from the start of its chunk: 0 where there is none.
-#[derive(Drop)]
+#[derive(Clone, Copy)]
 pub struct Chunks {
     pub at: usize,
     pub left: usize,
@@ -267,18 +267,18 @@ impl SdesChunk {
 }
 
 // A walk over the items of a chunk: the place of the next one, counted from the chunk's start.
-#[derive(Drop)]
+#[derive(Clone, Copy)]
 pub struct ItemWalk {
     pub at: usize,
 }
 
-#[derive(Drop)]
+#[derive(Clone, Copy)]
 pub enum OpenedItems {
     Walk(ItemWalk),
     Refused(RtcpParseError),
 }
 
-#[derive(Drop)]
+#[derive(Clone, Copy)]
 pub enum SteppedItem {
     Item(SdesItem, ItemWalk),
     Refused(RtcpParseError),

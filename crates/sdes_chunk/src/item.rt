@@ -11,14 +11,14 @@ use utils::error::{Code, RtcpParseError};
 use utils::parser;
 
 // The type, the length of what follows the first two bytes, and of that the prefix (0 where the type is not PRIV).
-#[derive(Drop)]
+#[derive(Clone, Copy)]
 pub struct SdesItem {
     pub type_: u8,
     pub length: usize,
     pub prefix_len: usize,
 }
 
-#[derive(Drop)]
+#[derive(Clone, Copy)]
 pub enum ParsedItem {
     Item(SdesItem),
     Refused(RtcpParseError),

@@ -16,7 +16,7 @@ use utils::error::RtcpParseError;
 pub const NO_CHUNK: u8 = 255;
 
 // The number of chunks visited.
-#[derive(Drop)]
+#[derive(Clone, Copy)]
 pub enum LookedUp {
     Visits(usize),
     Refused(RtcpParseError),

@@ -9,21 +9,21 @@ ghost use Rattle.sdes_walk.specs.Walk.{start_of, step_at, opened_on, moved_on};
 
 use sdes::sdes::{ChunkWalk, OpenedChunks, SteppedChunk};
 
-#[derive(Drop)]
+#[derive(Clone, Copy)]
 pub struct SdesWalk<'a> {
     pub data: &'a [u8],
     pub position: ChunkWalk,
 }
 
 // The answer to opening, and the walk. Of a packet that is refused there is nothing to walk.
-#[derive(Drop)]
+#[derive(Clone, Copy)]
 pub struct OpenedWalk<'a> {
     pub answer: OpenedChunks,
     pub walk: SdesWalk<'a>,
 }
 
 // The answer to a step, and the walk after it. A refusal leaves the walk as it was.
-#[derive(Drop)]
+#[derive(Clone, Copy)]
 pub struct SteppedWalk<'a> {
     pub answer: SteppedChunk,
     pub walk: SdesWalk<'a>,

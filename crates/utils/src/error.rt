@@ -4,7 +4,7 @@ ghost use Rattle.rfc3550.specs.Answer.{refusal};
 ghost use Rattle.utils.specs.Error.{parse_refusal, write_refusal, code_refusal};
 
 // From the input, reading (1 to 6) and compound reading (7 to 9); from the state (25, 30); from the list lent to a lookup (31).
-#[derive(Drop)]
+#[derive(Clone, Copy)]
 pub enum RtcpParseError {
     UnsupportedVersion(u8),
     Truncated { expected: usize, actual: usize },
@@ -21,7 +21,7 @@ pub enum RtcpParseError {
 }
 
 // From the input, writing (10 to 24); from the state of a writer (26 to 29).
-#[derive(Drop)]
+#[derive(Clone, Copy)]
 pub enum RtcpWriteError {
     OutputTooSmall(u64),
     InvalidPadding { padding: u64 },
@@ -45,7 +45,7 @@ pub enum RtcpWriteError {
 }
 
 // A refusal's number and its two details.
-#[derive(Drop)]
+#[derive(Clone, Copy)]
 pub struct Code {
     pub number: u64,
     pub first: u64,

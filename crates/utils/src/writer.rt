@@ -16,7 +16,7 @@ pub const MAX_COUNT: usize = 31;
 pub const MAX_PACKET_LEN: usize = 262144;
 
 // The size of what was written, or why nothing was.
-#[derive(Drop)]
+#[derive(Clone, Copy)]
 pub enum Written {
     Size(usize),
     Refused(RtcpWriteError),

@@ -1,0 +1,4 @@
+use Rattle.reception.proofs.reception.Reception.reported.Goals as goal
+
+pub returns : goal.returns
+returns c = cc

@@ -1,7 +1,0 @@
-use Rattle.sdes.proofs.Walks.{walks}
-use Rattle.sdes.proofs.sdes.ChunkWalk.open.Tie as tie
-
-pub open_spec : {M : Type 1} → Rattle.sdes.proofs.sdes.ChunkWalk.open.Statement.statement M
-open_spec {M} =
-    let answers = tie.spec {M = M} (λ c κs. search walks) (λ c. search walks) (λ c. search walks) (λ c. search walks) (λ c κs. search walks)
-    (λ c. search walks) (λ c. search walks) in tie.close answers

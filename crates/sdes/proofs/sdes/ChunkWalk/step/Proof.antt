@@ -1,8 +1,0 @@
-use Rattle.sdes.proofs.Walks.{walks}
-use Rattle.sdes.proofs.sdes.ChunkWalk.step.Tie as tie
-
-pub step_spec : {M : Type 1} → Rattle.sdes.proofs.sdes.ChunkWalk.step.Statement.statement M
-step_spec {M} =
-    let answers = tie.spec {M = M} (λ c κs. search walks) (λ c. search walks) (λ c. search walks) (λ c. search walks) (λ c. search walks)
-    (λ c. search walks) (λ c κs. search walks) (λ c. search walks) (λ c. search walks) (λ c. search walks) (λ c κs. search walks) (λ c. search walks)
-    (λ c. search walks) (λ c. search walks) in tie.close answers
