@@ -1,0 +1,27 @@
+use Rattle.rfc3550.proofs.Prelude.{◌-◌}
+use Rattle.compound.proofs.Compounds.{compounds}
+use Rattle.compound.proofs.compound.Compound.parse.Goals as goal
+
+pub returns-then-s-eq0 : goal.returns-then-s-eq0
+returns-then-s-eq0 c = search compounds
+
+pub loop-at-init : goal.loop-at-init
+loop-at-init c = search compounds
+
+pub returns-in_default : goal.returns-in_default
+returns-in_default c = search compounds
+
+pub overflow_add-at : goal.overflow_add-at
+overflow_add-at c = search compounds
+
+pub loop-at-smaller : goal.loop-at-smaller
+loop-at-smaller c = search compounds
+
+pub loop-at-preserved : goal.loop-at-preserved
+loop-at-preserved c = search compounds
+
+pub returns-then-not-has_cname : goal.returns-then-not-has_cname
+returns-then-not-has_cname c = search compounds
+
+pub returns : goal.returns
+returns c = search compounds

@@ -1,7 +1,0 @@
-use Rattle.report_write.proofs.Reports.{reports}
-use Rattle.report_write.proofs.report_block.why_size.Tie as tie
-
-pub why-size-spec : {M : Type 1} → Rattle.report_write.proofs.report_block.why_size.Statement.statement M
-why-size-spec {M} =
-    let answers = tie.spec {M = M} (λ c κs. search reports) (λ c. search reports) (λ c κs. search reports) (λ c κs. search reports)
-    (λ c. search reports) in tie.close answers
