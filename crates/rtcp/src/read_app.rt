@@ -23,8 +23,7 @@ pub struct RtcpApp {
     pub padding_len: u64,
 }
 
-#[unsafe(no_mangle)]
-pub extern "C" fn rtcp_app_parse(s: &[u8]) -> RtcpApp
+pub fn rtcp_app_parse(s: &[u8]) -> RtcpApp
     ensures { result ≡ app_result (map_ok app_view (read_as APP s.now)) }
 {
     match App::parse(s) {

@@ -33,8 +33,7 @@ pub struct RtcpSource {
     pub ssrc: u64,
 }
 
-#[unsafe(no_mangle)]
-pub extern "C" fn rtcp_bye_parse(s: &[u8]) -> RtcpBye
+pub fn rtcp_bye_parse(s: &[u8]) -> RtcpBye
     ensures { result ≡ bye_result (map_ok bye_view (read_as BYE s.now)) }
 {
     match Bye::parse(s) {
@@ -71,8 +70,7 @@ pub extern "C" fn rtcp_bye_parse(s: &[u8]) -> RtcpBye
 }
 
 // The source with an index, from 0.
-#[unsafe(no_mangle)]
-pub extern "C" fn rtcp_bye_source(s: &[u8], i: u64) -> RtcpSource
+pub fn rtcp_bye_source(s: &[u8], i: u64) -> RtcpSource
     ensures { result ≡ source_result (read_source_at s.now i) }
 {
     match Bye::source(s, i as usize) {

@@ -235,8 +235,7 @@ impl PacketNumbers {
     }
 }
 
-#[unsafe(no_mangle)]
-pub extern "C" fn rtcp_compound_parse(s: &[u8]) -> RtcpCompound
+pub fn rtcp_compound_parse(s: &[u8]) -> RtcpCompound
     ensures { result ≡ compound_result (map_ok compound_view (read_compound s.now)) }
 {
     match Compound::parse(s) {
@@ -259,15 +258,13 @@ pub extern "C" fn rtcp_compound_parse(s: &[u8]) -> RtcpCompound
 }
 
 // Three numbers for each packet, in order, into a lent list: its type, its offset in the datagram and its length.
-#[unsafe(no_mangle)]
-pub extern "C" fn rtcp_compound_packets(s: &[u8], packets: &mut [u64]) -> RtcpWritten
+pub fn rtcp_compound_packets(s: &[u8], packets: &mut [u64]) -> RtcpWritten
     ensures { (result, packets.new) ≡ written_with_buffer (lay_list (map_ok packet_rows (read_compound s.now)) packets.old) }
 {
     RtcpWritten::from_listed(Compound::packets(s, packets))
 }
 
-#[unsafe(no_mangle)]
-pub extern "C" fn rtcp_walk_open(s: &[u8]) -> RtcpWalk
+pub fn rtcp_walk_open(s: &[u8]) -> RtcpWalk
     ensures { result ≡ walk_result (map_ok walk_at (open_walk s.now)) }
 {
     match Walk::open(s) {
@@ -289,8 +286,7 @@ pub extern "C" fn rtcp_walk_open(s: &[u8]) -> RtcpWalk
     }
 }
 
-#[unsafe(no_mangle)]
-pub extern "C" fn rtcp_walk_step(s: &[u8], at: u64) -> RtcpStep
+pub fn rtcp_walk_step(s: &[u8], at: u64) -> RtcpStep
     ensures { result ≡ step_result at (map_ok step_view (step s.now at)) }
 {
     let from = at as usize;

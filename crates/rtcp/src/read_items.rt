@@ -9,8 +9,7 @@ ghost use Rattle.rtcp.specs.WriteResult.{written_with_buffer};
 use super::write_result::RtcpWritten;
 
 // Rows of five numbers: SSRC, type, place of the value, lengths of prefix and value. A row of type 0 ends each chunk.
-#[unsafe(no_mangle)]
-pub extern "C" fn rtcp_sdes_items(s: &[u8], rows: &mut [u32]) -> RtcpWritten
+pub fn rtcp_sdes_items(s: &[u8], rows: &mut [u32]) -> RtcpWritten
     ensures { (result, rows.new) ≡ written_with_buffer (lay_list (map_ok sdes_rows (read_as SDES s.now)) rows.old) }
 {
     RtcpWritten::from_listed(sdes::items::items(s, rows))

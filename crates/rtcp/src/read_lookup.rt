@@ -40,8 +40,7 @@ impl RtcpLookup {
 }
 
 // An answer for each SSRC: the index of the first chunk with that SSRC and a CNAME in it, or 255.
-#[unsafe(no_mangle)]
-pub extern "C" fn rtcp_sdes_lookup(s: &[u8], ssrcs: &[u32], answers: &mut [u8]) -> RtcpLookup
+pub fn rtcp_sdes_lookup(s: &[u8], ssrcs: &[u32], answers: &mut [u8]) -> RtcpLookup
     ensures { (visits : ℕ) × Visited s.now ssrcs.now visits × ((result, answers.new) ≡ lookup_with_answers (lookup_with visits s.now ssrcs.now answers.old)) }
 {
     RtcpLookup::from_looked_up(sdes_lookup::lookup(s, ssrcs, answers))

@@ -210,15 +210,13 @@ impl RtcpSr {
     }
 }
 
-#[unsafe(no_mangle)]
-pub extern "C" fn rtcp_block_parse(s: &[u8]) -> RtcpBlock
+pub fn rtcp_block_parse(s: &[u8]) -> RtcpBlock
     ensures { result ≡ block_result (map_ok block_view (read_block s.now)) }
 {
     RtcpBlock::from_parsed(ReportBlock::parse(s))
 }
 
-#[unsafe(no_mangle)]
-pub extern "C" fn rtcp_rr_parse(s: &[u8]) -> RtcpRr
+pub fn rtcp_rr_parse(s: &[u8]) -> RtcpRr
     ensures { result ≡ rr_result (map_ok receiver_view (read_as RR s.now)) }
 {
     let rr = ReceiverReport::read(s);
@@ -229,8 +227,7 @@ pub extern "C" fn rtcp_rr_parse(s: &[u8]) -> RtcpRr
     RtcpRr::from_report(rr)
 }
 
-#[unsafe(no_mangle)]
-pub extern "C" fn rtcp_sr_parse(s: &[u8]) -> RtcpSr
+pub fn rtcp_sr_parse(s: &[u8]) -> RtcpSr
     ensures { result ≡ sr_result (map_ok sender_view (read_as SR s.now)) }
 {
     let sr = SenderReport::read(s);
@@ -242,23 +239,20 @@ pub extern "C" fn rtcp_sr_parse(s: &[u8]) -> RtcpSr
 }
 
 // The block with an index, from 0.
-#[unsafe(no_mangle)]
-pub extern "C" fn rtcp_rr_report_block(s: &[u8], i: u64) -> RtcpBlock
+pub fn rtcp_rr_report_block(s: &[u8], i: u64) -> RtcpBlock
     ensures { result ≡ block_result (map_ok block_view (read_block_at RR s.now i)) }
 {
     RtcpBlock::from_parsed(ReceiverReport::report_block(s, i as usize))
 }
 
-#[unsafe(no_mangle)]
-pub extern "C" fn rtcp_sr_report_block(s: &[u8], i: u64) -> RtcpBlock
+pub fn rtcp_sr_report_block(s: &[u8], i: u64) -> RtcpBlock
     ensures { result ≡ block_result (map_ok block_view (read_block_at SR s.now i)) }
 {
     RtcpBlock::from_parsed(SenderReport::report_block(s, i as usize))
 }
 
 // All blocks, into three lent lists: a fraction and a loss for each, and the five words that follow.
-#[unsafe(no_mangle)]
-pub extern "C" fn rtcp_rr_report_blocks(
+pub fn rtcp_rr_report_blocks(
     s: &[u8],
     fractions: &mut [u8],
     losses: &mut [i32],
@@ -269,8 +263,7 @@ pub extern "C" fn rtcp_rr_report_blocks(
     RtcpWritten::from_listed(ReceiverReport::report_blocks(s, fractions, losses, words))
 }
 
-#[unsafe(no_mangle)]
-pub extern "C" fn rtcp_sr_report_blocks(
+pub fn rtcp_sr_report_blocks(
     s: &[u8],
     fractions: &mut [u8],
     losses: &mut [i32],
@@ -282,13 +275,7 @@ pub extern "C" fn rtcp_sr_report_blocks(
 }
 
 // The report's own numbers, and its blocks as rtcp_rr_report_blocks lays them, in one reading of the packet.
-#[unsafe(no_mangle)]
-pub extern "C" fn rtcp_rr_read(
-    s: &[u8],
-    fractions: &mut [u8],
-    losses: &mut [i32],
-    words: &mut [u32],
-) -> RtcpRr
+pub fn rtcp_rr_read(s: &[u8], fractions: &mut [u8], losses: &mut [i32], words: &mut [u32]) -> RtcpRr
     ensures { (result, fractions.new, losses.new, words.new) ≡ read_both rr_result (map_ok receiver_view (read_as RR s.now)) (lay_blocks (map_ok report_blocks (read_as RR s.now)) fractions.old losses.old words.old) }
 {
     let rr = ReceiverReport::read(s);
@@ -307,13 +294,7 @@ pub extern "C" fn rtcp_rr_read(
     RtcpRr::from_listed(rr, listed)
 }
 
-#[unsafe(no_mangle)]
-pub extern "C" fn rtcp_sr_read(
-    s: &[u8],
-    fractions: &mut [u8],
-    losses: &mut [i32],
-    words: &mut [u32],
-) -> RtcpSr
+pub fn rtcp_sr_read(s: &[u8], fractions: &mut [u8], losses: &mut [i32], words: &mut [u32]) -> RtcpSr
     ensures { (result, fractions.new, losses.new, words.new) ≡ read_both sr_result (map_ok sender_view (read_as SR s.now)) (lay_blocks (map_ok report_blocks (read_as SR s.now)) fractions.old losses.old words.old) }
 {
     let sr = SenderReport::read(s);

@@ -140,8 +140,7 @@ impl ItemParts {
     }
 }
 
-#[unsafe(no_mangle)]
-pub extern "C" fn rtcp_sdes_parse(s: &[u8]) -> RtcpSdes
+pub fn rtcp_sdes_parse(s: &[u8]) -> RtcpSdes
     ensures { result ≡ sdes_result (map_ok sdes_view (read_as SDES s.now)) }
 {
     match Sdes::parse(s) {
@@ -170,8 +169,7 @@ pub extern "C" fn rtcp_sdes_parse(s: &[u8]) -> RtcpSdes
 }
 
 // A lone item.
-#[unsafe(no_mangle)]
-pub extern "C" fn rtcp_item_parse(s: &[u8]) -> RtcpItem
+pub fn rtcp_item_parse(s: &[u8]) -> RtcpItem
     ensures { result ≡ item_result (map_ok item_first (read_item s.now)) }
 {
     match SdesItem::parse(s) {
@@ -207,8 +205,7 @@ pub extern "C" fn rtcp_item_parse(s: &[u8]) -> RtcpItem
 }
 
 // The prefix of a lone item.
-#[unsafe(no_mangle)]
-pub extern "C" fn rtcp_item_priv_prefix(s: &[u8]) -> RtcpPart
+pub fn rtcp_item_priv_prefix(s: &[u8]) -> RtcpPart
     ensures { result ≡ prefix_result (map_ok length (read_prefix s.now)) }
 {
     let mut answer: [u64; 3] = [0, 0, 0];
@@ -233,8 +230,7 @@ pub extern "C" fn rtcp_item_priv_prefix(s: &[u8]) -> RtcpPart
 }
 
 // The chunk at the start of the bytes.
-#[unsafe(no_mangle)]
-pub extern "C" fn rtcp_chunk_parse(s: &[u8]) -> RtcpChunk
+pub fn rtcp_chunk_parse(s: &[u8]) -> RtcpChunk
     ensures { result ≡ chunk_result (map_ok chunk_first (read_chunk s.now)) }
 {
     match SdesChunk::parse(s) {
@@ -260,8 +256,7 @@ pub extern "C" fn rtcp_chunk_parse(s: &[u8]) -> RtcpChunk
     }
 }
 
-#[unsafe(no_mangle)]
-pub extern "C" fn rtcp_chunk_walk_open(s: &[u8]) -> RtcpChunkWalk
+pub fn rtcp_chunk_walk_open(s: &[u8]) -> RtcpChunkWalk
     ensures { result ≡ chunk_walk_result (map_ok chunk_walk (open_sdes s.now)) }
 {
     match ChunkWalk::open(s) {
@@ -285,8 +280,7 @@ pub extern "C" fn rtcp_chunk_walk_open(s: &[u8]) -> RtcpChunkWalk
     }
 }
 
-#[unsafe(no_mangle)]
-pub extern "C" fn rtcp_chunk_walk_step(s: &[u8], at: u64, end: u64) -> RtcpChunkStep
+pub fn rtcp_chunk_walk_step(s: &[u8], at: u64, end: u64) -> RtcpChunkStep
     ensures { result ≡ chunk_step_result at end (map_ok chunk_stepped (sdes_step s.now (record { at = at; end = end }))) }
 {
     let walk = ChunkWalk {
@@ -320,8 +314,7 @@ pub extern "C" fn rtcp_chunk_walk_step(s: &[u8], at: u64, end: u64) -> RtcpChunk
     }
 }
 
-#[unsafe(no_mangle)]
-pub extern "C" fn rtcp_item_walk_open(s: &[u8]) -> RtcpItemWalk
+pub fn rtcp_item_walk_open(s: &[u8]) -> RtcpItemWalk
     ensures { result ≡ item_walk_result (map_ok item_walk (open_items s.now)) }
 {
     match ItemWalk::open(s) {
@@ -344,8 +337,7 @@ pub extern "C" fn rtcp_item_walk_open(s: &[u8]) -> RtcpItemWalk
 }
 
 // Offsets are counted from the chunk's start, as the walk's place is.
-#[unsafe(no_mangle)]
-pub extern "C" fn rtcp_item_walk_step(s: &[u8], at: u64) -> RtcpItemStep
+pub fn rtcp_item_walk_step(s: &[u8], at: u64) -> RtcpItemStep
     ensures { result ≡ item_step_result at (map_ok item_stepped (item_step s.now at)) }
 {
     let walk = ItemWalk { at: at as usize };

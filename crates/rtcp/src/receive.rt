@@ -113,16 +113,14 @@ impl RtcpReceptionBlock {
 }
 
 // The state of a source that is heard for the first time, from its first packet's sequence number; rtcp_reception_update then takes that packet too.
-#[unsafe(no_mangle)]
-pub extern "C" fn rtcp_reception_new(seq: u16) -> RtcpReception
+pub fn rtcp_reception_new(seq: u16) -> RtcpReception
     ensures { result ≡ reception_result (new_reception seq) }
 {
     RtcpReception::from_reception(Reception::new(seq))
 }
 
 // The state after a packet, and whether A.1 accepts it.
-#[unsafe(no_mangle)]
-pub extern "C" fn rtcp_reception_update(
+pub fn rtcp_reception_update(
     reception: RtcpReception,
     seq: u16,
     timestamp: u32,
@@ -138,8 +136,7 @@ pub extern "C" fn rtcp_reception_update(
 }
 
 // The block and the state after it, or that the source is in probation.
-#[unsafe(no_mangle)]
-pub extern "C" fn rtcp_reception_report_block(
+pub fn rtcp_reception_report_block(
     reception: RtcpReception,
     ssrc: u32,
     last_sender_report_timestamp: u32,

@@ -5,8 +5,7 @@ ghost use Rattle.rtcp.specs.WriteResult.{written_result, written_with_buffer};
 
 use super::write_result::RtcpWritten;
 
-#[unsafe(no_mangle)]
-pub extern "C" fn rtcp_app_write(
+pub fn rtcp_app_write(
     buf: &mut [u8],
     subtype: u64,
     ssrc: u32,
@@ -20,8 +19,7 @@ pub extern "C" fn rtcp_app_write(
 }
 
 // The size is the same for every SSRC.
-#[unsafe(no_mangle)]
-pub extern "C" fn rtcp_app_size(subtype: u64, name: &[u8], data: &[u8], padding: u64) -> RtcpWritten
+pub fn rtcp_app_size(subtype: u64, name: &[u8], data: &[u8], padding: u64) -> RtcpWritten
     ensures { (ssrc : ℕ) → result ≡ written_result (calculate_size (give_app subtype ssrc name.now «data».now padding)) }
 {
     RtcpWritten::from_written(app::write::calculate_size(subtype, 0, name, data, padding))

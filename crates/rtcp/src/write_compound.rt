@@ -67,15 +67,13 @@ fn hand_on(state: &mut [u64; 4], call: Call) -> RtcpCall
     }
 }
 
-#[unsafe(no_mangle)]
-pub extern "C" fn rtcp_writer_new(writer: &mut [u64; 4])
+pub fn rtcp_writer_new(writer: &mut [u64; 4])
     ensures { writer.new ≡ writer_out fresh }
 {
     writer_out(writer, Writer::new());
 }
 
-#[unsafe(no_mangle)]
-pub extern "C" fn rtcp_writer_add_rr(
+pub fn rtcp_writer_add_rr(
     writer: &mut [u64; 4],
     buf: &mut [u8],
     ssrc: u32,
@@ -93,8 +91,7 @@ pub extern "C" fn rtcp_writer_add_rr(
     )
 }
 
-#[unsafe(no_mangle)]
-pub extern "C" fn rtcp_writer_add_sr(
+pub fn rtcp_writer_add_sr(
     writer: &mut [u64; 4],
     buf: &mut [u8],
     ssrc: u32,
@@ -123,8 +120,7 @@ pub extern "C" fn rtcp_writer_add_sr(
     )
 }
 
-#[unsafe(no_mangle)]
-pub extern "C" fn rtcp_writer_add_sdes(
+pub fn rtcp_writer_add_sdes(
     writer: &mut [u64; 4],
     buf: &mut [u8],
     ssrcs: &[u32],
@@ -144,8 +140,7 @@ pub extern "C" fn rtcp_writer_add_sdes(
     )
 }
 
-#[unsafe(no_mangle)]
-pub extern "C" fn rtcp_writer_add_bye(
+pub fn rtcp_writer_add_bye(
     writer: &mut [u64; 4],
     buf: &mut [u8],
     sources: &[u32],
@@ -158,8 +153,7 @@ pub extern "C" fn rtcp_writer_add_bye(
     hand_on(writer, w.add_bye(buf, sources, reason, padding))
 }
 
-#[unsafe(no_mangle)]
-pub extern "C" fn rtcp_writer_add_app(
+pub fn rtcp_writer_add_app(
     writer: &mut [u64; 4],
     buf: &mut [u8],
     subtype: u64,
@@ -174,8 +168,7 @@ pub extern "C" fn rtcp_writer_add_app(
     hand_on(writer, w.add_app(buf, subtype, ssrc, name, data, padding))
 }
 
-#[unsafe(no_mangle)]
-pub extern "C" fn rtcp_writer_close(writer: &mut [u64; 4]) -> RtcpCall
+pub fn rtcp_writer_close(writer: &mut [u64; 4]) -> RtcpCall
     ensures { (result, writer.new, []) ≡ call_with_buffer writer.old (call close (writer_in writer.old) []) }
 {
     let w = writer_in(writer);

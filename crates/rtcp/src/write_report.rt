@@ -9,8 +9,7 @@ use super::write_result::RtcpWritten;
 use report_write::sender::SenderInfo;
 use report_write::{receiver, sender};
 
-#[unsafe(no_mangle)]
-pub extern "C" fn rtcp_rr_write(
+pub fn rtcp_rr_write(
     buf: &mut [u8],
     ssrc: u32,
     fractions: &[u8],
@@ -24,20 +23,13 @@ pub extern "C" fn rtcp_rr_write(
 }
 
 // The size is the same for every SSRC.
-#[unsafe(no_mangle)]
-pub extern "C" fn rtcp_rr_size(
-    fractions: &[u8],
-    losses: &[i32],
-    words: &[u32],
-    padding: u64,
-) -> RtcpWritten
+pub fn rtcp_rr_size(fractions: &[u8], losses: &[i32], words: &[u32], padding: u64) -> RtcpWritten
     ensures { (ssrc : ℕ) → result ≡ written_result (calculate_size (give_report (receiver ssrc) (block_lists fractions.now losses.now words.now) padding)) }
 {
     RtcpWritten::from_written(receiver::calculate_size(fractions, losses, words, padding))
 }
 
-#[unsafe(no_mangle)]
-pub extern "C" fn rtcp_sr_write(
+pub fn rtcp_sr_write(
     buf: &mut [u8],
     ssrc: u32,
     ntp_timestamp: u64,
@@ -62,13 +54,7 @@ pub extern "C" fn rtcp_sr_write(
 }
 
 // The size is the same for everything that a sender says of itself.
-#[unsafe(no_mangle)]
-pub extern "C" fn rtcp_sr_size(
-    fractions: &[u8],
-    losses: &[i32],
-    words: &[u32],
-    padding: u64,
-) -> RtcpWritten
+pub fn rtcp_sr_size(fractions: &[u8], losses: &[i32], words: &[u32], padding: u64) -> RtcpWritten
     ensures { (ssrc ntp rtp packets octets : ℕ) → result ≡ written_result (calculate_size (give_report (sender ssrc ntp rtp packets octets) (block_lists fractions.now losses.now words.now) padding)) }
 {
     RtcpWritten::from_written(sender::calculate_size(fractions, losses, words, padding))

@@ -9,28 +9,20 @@ use super::write_result::RtcpWritten;
 use chunk_write::{chunk, item};
 
 // A lone item.
-#[unsafe(no_mangle)]
-pub extern "C" fn rtcp_item_write(
-    buf: &mut [u8],
-    type_: u8,
-    prefix: &[u8],
-    value: &[u8],
-) -> RtcpWritten
+pub fn rtcp_item_write(buf: &mut [u8], type_: u8, prefix: &[u8], value: &[u8]) -> RtcpWritten
     ensures { (result, buf.new) ≡ written_with_buffer (write_item (lent type_ prefix.now value.now) buf.old) }
 {
     RtcpWritten::from_written(item::write_into(buf, type_, prefix, value))
 }
 
-#[unsafe(no_mangle)]
-pub extern "C" fn rtcp_item_size(type_: u8, prefix: &[u8], value: &[u8]) -> RtcpWritten
+pub fn rtcp_item_size(type_: u8, prefix: &[u8], value: &[u8]) -> RtcpWritten
     ensures { result ≡ written_result (item_size (lent type_ prefix.now value.now)) }
 {
     RtcpWritten::from_written(item::calculate_size(type_, prefix, value))
 }
 
 // A lone chunk.
-#[unsafe(no_mangle)]
-pub extern "C" fn rtcp_chunk_write(
+pub fn rtcp_chunk_write(
     buf: &mut [u8],
     ssrc: u32,
     types: &[u8],
@@ -44,20 +36,13 @@ pub extern "C" fn rtcp_chunk_write(
 }
 
 // The size is the same for every SSRC.
-#[unsafe(no_mangle)]
-pub extern "C" fn rtcp_chunk_size(
-    types: &[u8],
-    prefixes: &[u64],
-    values: &[u64],
-    bytes: &[u8],
-) -> RtcpWritten
+pub fn rtcp_chunk_size(types: &[u8], prefixes: &[u64], values: &[u64], bytes: &[u8]) -> RtcpWritten
     ensures { (ssrc : ℕ) → result ≡ written_result (chunk_size ssrc types.now prefixes.now values.now bytes.now) }
 {
     RtcpWritten::from_written(chunk::calculate_size(0, types, prefixes, values, bytes))
 }
 
-#[unsafe(no_mangle)]
-pub extern "C" fn rtcp_sdes_write(
+pub fn rtcp_sdes_write(
     buf: &mut [u8],
     ssrcs: &[u32],
     counts: &[u64],
@@ -74,8 +59,7 @@ pub extern "C" fn rtcp_sdes_write(
     ))
 }
 
-#[unsafe(no_mangle)]
-pub extern "C" fn rtcp_sdes_size(
+pub fn rtcp_sdes_size(
     ssrcs: &[u32],
     counts: &[u64],
     types: &[u8],

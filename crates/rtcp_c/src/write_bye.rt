@@ -1,0 +1,26 @@
+// BYE packets, written.
+ghost use Rattle.std.specs.Prelude.{◌≡◌};
+ghost use Rattle.rfc3550.specs.Write.{give_bye, calculate_size, write};
+ghost use Rattle.rtcp.specs.WriteResult.{written_result, written_with_buffer};
+
+use rtcp::write_bye;
+use rtcp::write_result::RtcpWritten;
+
+#[unsafe(no_mangle)]
+pub extern "C" fn rtcp_bye_write(
+    buf: &mut [u8],
+    sources: &[u32],
+    reason: &[u8],
+    padding: u64,
+) -> RtcpWritten
+    ensures { (result, buf.new) ≡ written_with_buffer (write (give_bye sources.now reason.now padding) buf.old) }
+{
+    write_bye::rtcp_bye_write(buf, sources, reason, padding)
+}
+
+#[unsafe(no_mangle)]
+pub extern "C" fn rtcp_bye_size(sources: &[u32], reason: &[u8], padding: u64) -> RtcpWritten
+    ensures { result ≡ written_result (calculate_size (give_bye sources.now reason.now padding)) }
+{
+    write_bye::rtcp_bye_size(sources, reason, padding)
+}

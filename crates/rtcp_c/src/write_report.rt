@@ -1,0 +1,78 @@
+// Reports, written. The blocks are lent as three lists: a fraction lost and a cumulative lost for each block, and five words.
+ghost use Rattle.std.specs.Prelude.{◌≡◌, ℕ};
+ghost use Rattle.rfc3550.specs.Packet.{receiver, sender};
+ghost use Rattle.rfc3550.specs.Write.{give_report, calculate_size, write};
+ghost use Rattle.report_write.specs.Report.{block_lists};
+ghost use Rattle.rtcp.specs.WriteResult.{written_result, written_with_buffer};
+
+use rtcp::write_report;
+use rtcp::write_result::RtcpWritten;
+
+#[unsafe(no_mangle)]
+pub extern "C" fn rtcp_rr_write(
+    buf: &mut [u8],
+    ssrc: u32,
+    fractions: &[u8],
+    losses: &[i32],
+    words: &[u32],
+    padding: u64,
+) -> RtcpWritten
+    ensures { (result, buf.new) ≡ written_with_buffer (write (give_report (receiver ssrc) (block_lists fractions.now losses.now words.now) padding) buf.old) }
+{
+    write_report::rtcp_rr_write(buf, ssrc, fractions, losses, words, padding)
+}
+
+// The size is the same for every SSRC.
+#[unsafe(no_mangle)]
+pub extern "C" fn rtcp_rr_size(
+    fractions: &[u8],
+    losses: &[i32],
+    words: &[u32],
+    padding: u64,
+) -> RtcpWritten
+    ensures { (ssrc : ℕ) → result ≡ written_result (calculate_size (give_report (receiver ssrc) (block_lists fractions.now losses.now words.now) padding)) }
+{
+    write_report::rtcp_rr_size(fractions, losses, words, padding)
+}
+
+#[unsafe(no_mangle)]
+pub extern "C" fn rtcp_sr_write(
+    buf: &mut [u8],
+    ssrc: u32,
+    ntp_timestamp: u64,
+    rtp_timestamp: u32,
+    packet_count: u32,
+    octet_count: u32,
+    fractions: &[u8],
+    losses: &[i32],
+    words: &[u32],
+    padding: u64,
+) -> RtcpWritten
+    ensures { (result, buf.new) ≡ written_with_buffer (write (give_report (sender ssrc ntp_timestamp rtp_timestamp packet_count octet_count) (block_lists fractions.now losses.now words.now) padding) buf.old) }
+{
+    write_report::rtcp_sr_write(
+        buf,
+        ssrc,
+        ntp_timestamp,
+        rtp_timestamp,
+        packet_count,
+        octet_count,
+        fractions,
+        losses,
+        words,
+        padding,
+    )
+}
+
+// The size is the same for everything that a sender says of itself.
+#[unsafe(no_mangle)]
+pub extern "C" fn rtcp_sr_size(
+    fractions: &[u8],
+    losses: &[i32],
+    words: &[u32],
+    padding: u64,
+) -> RtcpWritten
+    ensures { (ssrc ntp rtp packets octets : ℕ) → result ≡ written_result (calculate_size (give_report (sender ssrc ntp rtp packets octets) (block_lists fractions.now losses.now words.now) padding)) }
+{
+    write_report::rtcp_sr_size(fractions, losses, words, padding)
+}
