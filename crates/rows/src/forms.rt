@@ -6,6 +6,7 @@ use records::Reporter;
 use report::report_block::ReportBlock;
 use rtcp::write_result::RtcpWritten;
 use sdes::sdes::{ChunkWalk, OpenedChunks, SteppedChunk};
+use std::io;
 
 fn word(list: &[u32], i: usize) -> u32 {
     if i < list.len() { list[i] } else { 0 }
@@ -42,17 +43,17 @@ fn bit(b: bool) -> u64 {
     if b { 1 } else { 0 }
 }
 
-fn called(r: Call) {
+fn called(to: &mut Vec<u8>, r: Call) -> io::Result<()> {
     let answer = r.answer;
     match answer {
-        Outcome::Done => three(0, 0, 0),
+        Outcome::Done => three(to, 0, 0, 0)?,
         Outcome::Refused(e) => {
             let code = e.code();
-            three(code.number, code.first, code.second);
+            three(to, code.number, code.first, code.second)?;
         }
     }
     let w = r.writer;
-    four(w.len as u64, bit(w.padded), bit(w.cname), bit(w.closed));
+    four(to, w.len as u64, bit(w.padded), bit(w.cname), bit(w.closed))
 }
 
 fn writer_in(state: &[u64; 4]) -> Writer {
@@ -66,6 +67,7 @@ fn writer_in(state: &[u64; 4]) -> Writer {
 
 // As the C functions that write and add a report; the writer stays as it is.
 pub fn report(
+    to: &mut Vec<u8>,
     alone: bool,
     state: &[u64; 4],
     buf: &mut [u8],
@@ -74,7 +76,7 @@ pub fn report(
     fractions: &[u8],
     losses: &[i32],
     words: &[u32],
-) {
+) -> io::Result<()> {
     let n = lists::least(fractions.len(), 33);
     let writer = writer_in(state);
     let list = records(fractions, losses, words);
@@ -83,41 +85,41 @@ pub fn report(
         let r = lend::size_write_add(buf, writer, &mut other, reporter, list, n, padding);
         let size = r.size;
         let answer = r.written;
-        written(RtcpWritten::from_written(size));
-        written(RtcpWritten::from_written(answer));
+        written(to, RtcpWritten::from_written(size))?;
+        written(to, RtcpWritten::from_written(answer))
     } else {
         let r = lend::size_write_add(&mut other, writer, buf, reporter, list, n, padding);
         let call = r.call;
-        called(call);
+        called(to, call)
     }
 }
 
-fn opened(answer: OpenedChunks) {
+fn opened(to: &mut Vec<u8>, answer: OpenedChunks) -> io::Result<()> {
     match answer {
         OpenedChunks::Walk(walk) => {
-            three(0, 0, 0);
-            two(walk.at as u64, walk.end as u64);
+            three(to, 0, 0, 0)?;
+            two(to, walk.at as u64, walk.end as u64)
         }
         OpenedChunks::Refused(e) => {
             let code = e.code();
-            three(code.number, code.first, code.second);
-            two(0, 0);
+            three(to, code.number, code.first, code.second)?;
+            two(to, 0, 0)
         }
     }
 }
 
 // On a refusal the walk is as it was.
-fn stepped(answer: SteppedChunk, at: u64, end: u64) {
+fn stepped(to: &mut Vec<u8>, answer: SteppedChunk, at: u64, end: u64) -> io::Result<()> {
     match answer {
         SteppedChunk::Chunk(chunk, next) => {
-            four(0, 0, 0, chunk.ssrc as u64);
-            two(chunk.length as u64, chunk.cname as u64);
-            two(next.at as u64, next.end as u64);
+            four(to, 0, 0, 0, chunk.ssrc as u64)?;
+            two(to, chunk.length as u64, chunk.cname as u64)?;
+            two(to, next.at as u64, next.end as u64)
         }
         SteppedChunk::Refused(e) => {
             let code = e.code();
-            four(code.number, code.first, code.second, 0);
-            four(0, 0, at, end);
+            four(to, code.number, code.first, code.second, 0)?;
+            four(to, 0, 0, at, end)
         }
     }
 }
@@ -142,10 +144,9 @@ fn chunk(s: &[u8], n: u64) -> SteppedChunk {
 }
 
 // 34 held_open, 35 held_step AT END, 36 held_chunk I 0, whose walk on a refusal is I and 0.
-pub fn walk(op: usize, s: &[u8], at: u64, end: u64) {
+pub fn walk(to: &mut Vec<u8>, op: usize, s: &[u8], at: u64, end: u64) -> io::Result<()> {
     if op == 36 {
-        stepped(chunk(s, at), at, end);
-        return;
+        return stepped(to, chunk(s, at), at, end);
     }
     let place = ChunkWalk {
         at: at as usize,
@@ -154,9 +155,8 @@ pub fn walk(op: usize, s: &[u8], at: u64, end: u64) {
     let r = held::open_and_step(s, place);
     if op == 34 {
         let answer = r.opened;
-        opened(answer);
-        return;
+        return opened(to, answer);
     }
     let answer = r.stepped;
-    stepped(answer, at, end);
+    stepped(to, answer, at, end)
 }

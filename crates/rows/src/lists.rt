@@ -1,6 +1,5 @@
 // The numbers of a row, each in three lists; parts of lists, from one place to another, cut where a list ends.
-ghost use Rattle.std.specs.Prelude.{◌≤◌};
-ghost use Rattle.io.specs.Counts.{IsPrefixLen};
+ghost use Rattle.std.specs.Prelude.{◌≡◌, ◌≤◌, length, take};
 
 pub type Numbers = [u64; 4096];
 
@@ -17,7 +16,8 @@ pub fn least(a: usize, b: usize) -> usize
 
 // So many bytes as a list has.
 pub fn limited(n: u64, list: &[u8]) -> usize
-    ensures { IsPrefixLen result list.now }
+    ensures bound { result ≤ length list.now }
+    ensures prefix { result ≡ length (take result list.now) }
 {
     least(n as usize, list.len())
 }

@@ -1,80 +1,80 @@
-// Answers as text, on standard output.
+// Answers as text, put behind what is written already.
 use super::lists;
 use report::loss;
 use rtcp::write_result::RtcpWritten;
+use std::io;
+use std::io::Write;
 
-pub fn print(text: &[u8]) {
-    io::write_all(1, text);
+pub fn print(to: &mut Vec<u8>, text: &[u8]) -> io::Result<()> {
+    to.write_all(text)
 }
 
-pub fn one(a: u64) {
-    print(b" ");
-    io::print_decimal(1, a);
+pub fn one(to: &mut Vec<u8>, a: u64) -> io::Result<()> {
+    write!(to, " {a}")
 }
 
 // A number with its sign.
-pub fn signed(a: i32) {
+pub fn signed(to: &mut Vec<u8>, a: i32) -> io::Result<()> {
     let magnitude = loss::loss_magnitude(a) as u64;
     if a < 0 {
-        print(b" -");
-        io::print_decimal(1, magnitude + 1);
-        return;
+        let below = magnitude + 1;
+        return write!(to, " -{below}");
     }
-    one(magnitude);
+    one(to, magnitude)
 }
 
-pub fn two(a: u64, b: u64) {
-    one(a);
-    one(b);
+pub fn two(to: &mut Vec<u8>, a: u64, b: u64) -> io::Result<()> {
+    one(to, a)?;
+    one(to, b)
 }
 
-pub fn three(a: u64, b: u64, c: u64) {
-    one(a);
-    two(b, c);
+pub fn three(to: &mut Vec<u8>, a: u64, b: u64, c: u64) -> io::Result<()> {
+    one(to, a)?;
+    two(to, b, c)
 }
 
-pub fn four(a: u64, b: u64, c: u64, d: u64) {
-    two(a, b);
-    two(c, d);
+pub fn four(to: &mut Vec<u8>, a: u64, b: u64, c: u64, d: u64) -> io::Result<()> {
+    two(to, a, b)?;
+    two(to, c, d)
 }
 
-pub fn written(r: RtcpWritten) {
-    four(r.number, r.first, r.second, r.size);
+pub fn written(to: &mut Vec<u8>, r: RtcpWritten) -> io::Result<()> {
+    four(to, r.number, r.first, r.second, r.size)
 }
 
 // How often the last byte comes again after the eighth time.
-fn more(same: u64) {
+fn more(to: &mut Vec<u8>, same: u64) -> io::Result<()> {
     if 7 < same {
-        print(b" *");
-        io::print_decimal(1, same - 7);
-        print(b" x");
+        let again = same - 7;
+        return write!(to, " *{again} x");
     }
+    Ok(())
 }
 
 // A byte after the last one, which came so many times again; how often this one does.
-fn next(same: u64, last: u64, b: u64) -> u64 {
+fn next(to: &mut Vec<u8>, same: u64, last: u64, b: u64) -> io::Result<u64> {
     if last != b {
-        more(same);
-        io::print_hex(1, b, 2);
-        return 0;
+        more(to, same)?;
+        write!(to, "{b:02x}")?;
+        return Ok(0);
     }
     if same < 7 {
-        io::print_hex(1, b, 2);
+        write!(to, "{b:02x}")?;
     }
-    std::num::wrapping_add_u64(same, 1)
+    Ok(same.wrapping_add(1))
 }
 
 // Every byte; of more than eight that are the same, how many more there are.
-pub fn bytes(s: &[u8]) {
-    print(b" x");
+pub fn bytes(to: &mut Vec<u8>, s: &[u8]) -> io::Result<()> {
+    print(to, b" x")?;
     let mut same: u64 = 0;
     let mut last: u64 = 256;
     let mut i = 0;
     while i < s.len() {
         let b = lists::wide(s[i]);
-        same = next(same, last, b);
+        same = next(to, same, last, b)?;
         last = b;
         i += 1;
     }
-    more(same);
+    more(to, same)
 }

@@ -10,206 +10,207 @@ use rtcp::read_report::RtcpBlock;
 use rtcp::{read_app, read_bye, read_compound, read_report, read_sdes};
 use sdes::sdes::Sdes;
 use sdes_chunk::item::{ParsedItem, SdesItem};
+use std::io;
 
-pub fn figures(r: RtcpBlock) {
-    two(r.ssrc, r.fraction_lost);
-    signed(r.cumulative_lost);
-    two(r.extended_sequence_number, r.interarrival_jitter);
-    one(r.last_sender_report_timestamp);
-    one(r.delay_since_last_sender_report_timestamp);
+pub fn figures(to: &mut Vec<u8>, r: RtcpBlock) -> io::Result<()> {
+    two(to, r.ssrc, r.fraction_lost)?;
+    signed(to, r.cumulative_lost)?;
+    two(to, r.extended_sequence_number, r.interarrival_jitter)?;
+    one(to, r.last_sender_report_timestamp)?;
+    one(to, r.delay_since_last_sender_report_timestamp)
 }
 
-pub fn block(r: RtcpBlock) {
-    three(r.number, r.first, r.second);
-    figures(r);
+pub fn block(to: &mut Vec<u8>, r: RtcpBlock) -> io::Result<()> {
+    three(to, r.number, r.first, r.second)?;
+    figures(to, r)
 }
 
 // 0 block_parse, 1 rr_report_block, 2 sr_report_block, 3 rr_parse, 4 sr_parse.
-fn report(op: usize, s: &[u8], i: u64) {
+fn report(to: &mut Vec<u8>, op: usize, s: &[u8], i: u64) -> io::Result<()> {
     match op {
-        0 => block(read_report::rtcp_block_parse(s)),
-        1 => block(read_report::rtcp_rr_report_block(s, i)),
-        2 => block(read_report::rtcp_sr_report_block(s, i)),
+        0 => block(to, read_report::rtcp_block_parse(s)),
+        1 => block(to, read_report::rtcp_rr_report_block(s, i)),
+        2 => block(to, read_report::rtcp_sr_report_block(s, i)),
         3 => {
             let r = read_report::rtcp_rr_parse(s);
-            three(r.number, r.first, r.second);
-            four(r.ssrc, r.n_reports, r.extension, r.extension_len);
-            two(r.body, r.padding_len);
+            three(to, r.number, r.first, r.second)?;
+            four(to, r.ssrc, r.n_reports, r.extension, r.extension_len)?;
+            two(to, r.body, r.padding_len)
         }
         _ => {
             let r = read_report::rtcp_sr_parse(s);
-            three(r.number, r.first, r.second);
-            three(r.ssrc, r.ntp_timestamp, r.rtp_timestamp);
-            three(r.packet_count, r.octet_count, r.n_reports);
-            four(r.extension, r.extension_len, r.body, r.padding_len);
+            three(to, r.number, r.first, r.second)?;
+            three(to, r.ssrc, r.ntp_timestamp, r.rtp_timestamp)?;
+            three(to, r.packet_count, r.octet_count, r.n_reports)?;
+            four(to, r.extension, r.extension_len, r.body, r.padding_len)
         }
     }
 }
 
 // 5 app_parse, 6 bye_parse, 7 bye_source.
-fn app_or_bye(op: usize, s: &[u8], i: u64) {
+fn app_or_bye(to: &mut Vec<u8>, op: usize, s: &[u8], i: u64) -> io::Result<()> {
     match op {
         5 => {
             let r = read_app::rtcp_app_parse(s);
-            three(r.number, r.first, r.second);
-            four(r.subtype, r.ssrc, r.name, r.name_len);
-            four(r.data, r.data_len, r.body, r.padding_len);
+            three(to, r.number, r.first, r.second)?;
+            four(to, r.subtype, r.ssrc, r.name, r.name_len)?;
+            four(to, r.data, r.data_len, r.body, r.padding_len)
         }
         6 => {
             let r = read_bye::rtcp_bye_parse(s);
-            three(r.number, r.first, r.second);
-            four(r.n_sources, r.has_reason, r.reason, r.reason_len);
-            four(r.tail, r.tail_len, r.body, r.padding_len);
+            three(to, r.number, r.first, r.second)?;
+            four(to, r.n_sources, r.has_reason, r.reason, r.reason_len)?;
+            four(to, r.tail, r.tail_len, r.body, r.padding_len)
         }
         _ => {
             let r = read_bye::rtcp_bye_source(s, i);
-            four(r.number, r.first, r.second, r.ssrc);
+            four(to, r.number, r.first, r.second, r.ssrc)
         }
     }
 }
 
 // 8 sdes_parse, 9 item_parse, 10 item_priv_prefix, 11 chunk_parse.
-fn description(op: usize, s: &[u8]) {
+fn description(to: &mut Vec<u8>, op: usize, s: &[u8]) -> io::Result<()> {
     match op {
         8 => {
             let r = read_sdes::rtcp_sdes_parse(s);
-            four(r.number, r.first, r.second, r.n_chunks);
-            three(r.has_cname, r.body, r.padding_len);
+            four(to, r.number, r.first, r.second, r.n_chunks)?;
+            three(to, r.has_cname, r.body, r.padding_len)
         }
         9 => {
             let r = read_sdes::rtcp_item_parse(s);
-            three(r.number, r.first, r.second);
-            four(r.type_, r.length, r.prefix, r.prefix_len);
-            two(r.value, r.value_len);
+            three(to, r.number, r.first, r.second)?;
+            four(to, r.type_, r.length, r.prefix, r.prefix_len)?;
+            two(to, r.value, r.value_len)
         }
         10 => {
             let r = read_sdes::rtcp_item_priv_prefix(s);
-            three(r.number, r.first, r.second);
-            two(r.offset, r.len);
+            three(to, r.number, r.first, r.second)?;
+            two(to, r.offset, r.len)
         }
         _ => {
             let r = read_sdes::rtcp_chunk_parse(s);
-            three(r.number, r.first, r.second);
-            three(r.ssrc, r.length, r.cname);
+            three(to, r.number, r.first, r.second)?;
+            three(to, r.ssrc, r.length, r.cname)
         }
     }
 }
 
 // 12 chunk_walk_open, 13 chunk_walk_step, 14 item_walk_open, 15 item_walk_step.
-fn description_walk(op: usize, s: &[u8], i: u64, end: u64) {
+fn description_walk(to: &mut Vec<u8>, op: usize, s: &[u8], i: u64, end: u64) -> io::Result<()> {
     match op {
         12 => {
             let r = read_sdes::rtcp_chunk_walk_open(s);
-            three(r.number, r.first, r.second);
-            two(r.at, r.end);
+            three(to, r.number, r.first, r.second)?;
+            two(to, r.at, r.end)
         }
         13 => {
             let r = read_sdes::rtcp_chunk_walk_step(s, i, end);
-            four(r.number, r.first, r.second, r.ssrc);
-            four(r.length, r.cname, r.at, r.end);
+            four(to, r.number, r.first, r.second, r.ssrc)?;
+            four(to, r.length, r.cname, r.at, r.end)
         }
         14 => {
             let r = read_sdes::rtcp_item_walk_open(s);
-            four(r.number, r.first, r.second, r.at);
+            four(to, r.number, r.first, r.second, r.at)
         }
         _ => {
             let r = read_sdes::rtcp_item_walk_step(s, i);
-            three(r.number, r.first, r.second);
-            four(r.type_, r.length, r.prefix, r.prefix_len);
-            three(r.value, r.value_len, r.at);
+            three(to, r.number, r.first, r.second)?;
+            four(to, r.type_, r.length, r.prefix, r.prefix_len)?;
+            three(to, r.value, r.value_len, r.at)
         }
     }
 }
 
 // 16 compound_parse, 17 walk_open, 18 walk_step.
-fn datagram(op: usize, s: &[u8], at: u64) {
+fn datagram(to: &mut Vec<u8>, op: usize, s: &[u8], at: u64) -> io::Result<()> {
     match op {
         16 => {
             let r = read_compound::rtcp_compound_parse(s);
-            four(r.number, r.first, r.second, r.n_packets);
+            four(to, r.number, r.first, r.second, r.n_packets)
         }
         17 => {
             let r = read_compound::rtcp_walk_open(s);
-            four(r.number, r.first, r.second, r.at);
+            four(to, r.number, r.first, r.second, r.at)
         }
         _ => {
             let r = read_compound::rtcp_walk_step(s, at);
-            three(r.number, r.first, r.second);
-            four(r.kind, r.packet_type, r.count, r.offset);
-            four(r.len, r.body, r.padding_len, r.ssrc);
+            three(to, r.number, r.first, r.second)?;
+            four(to, r.kind, r.packet_type, r.count, r.offset)?;
+            four(to, r.len, r.body, r.padding_len, r.ssrc)?;
             four(
+                to,
                 r.ntp_timestamp,
                 r.rtp_timestamp,
                 r.packet_count,
                 r.octet_count,
-            );
-            three(r.extension, r.has_cname, r.has_reason);
-            three(r.reason, r.reason_len, r.at);
+            )?;
+            three(to, r.extension, r.has_cname, r.has_reason)?;
+            three(to, r.reason, r.reason_len, r.at)
         }
     }
 }
 
-fn value(s: &[u8]) {
+fn value(to: &mut Vec<u8>, s: &[u8]) -> io::Result<()> {
     let parsed = SdesItem::parse(s);
     let ParsedItem::Item(item) = parsed else {
-        bytes(b"");
-        return;
+        return bytes(to, b"");
     };
-    bytes(item.value(s));
+    bytes(to, item.value(s))
 }
 
-fn prefix(s: &[u8]) {
+fn prefix(to: &mut Vec<u8>, s: &[u8]) -> io::Result<()> {
     let mut answer = [0u64; 3];
-    bytes(SdesItem::priv_prefix(s, &mut answer));
+    bytes(to, SdesItem::priv_prefix(s, &mut answer))
 }
 
 // The part itself of the packet or the item that the bytes are.
-fn report_part(op: usize, s: &[u8]) {
+fn report_part(to: &mut Vec<u8>, op: usize, s: &[u8]) -> io::Result<()> {
     match op {
-        19 => bytes(ReceiverReport::read(s).extension(s)),
-        20 => bytes(ReceiverReport::read(s).padding_bytes(s)),
-        21 => bytes(SenderReport::read(s).extension(s)),
-        _ => bytes(SenderReport::read(s).padding_bytes(s)),
+        19 => bytes(to, ReceiverReport::read(s).extension(s)),
+        20 => bytes(to, ReceiverReport::read(s).padding_bytes(s)),
+        21 => bytes(to, SenderReport::read(s).extension(s)),
+        _ => bytes(to, SenderReport::read(s).padding_bytes(s)),
     }
 }
 
-fn app_part(op: usize, s: &[u8]) {
+fn app_part(to: &mut Vec<u8>, op: usize, s: &[u8]) -> io::Result<()> {
     match op {
-        23 => bytes(App::read(s).name(s)),
-        24 => bytes(App::read(s).data(s)),
-        _ => bytes(App::read(s).padding_bytes(s)),
+        23 => bytes(to, App::read(s).name(s)),
+        24 => bytes(to, App::read(s).data(s)),
+        _ => bytes(to, App::read(s).padding_bytes(s)),
     }
 }
 
-fn bye_part(op: usize, s: &[u8]) {
+fn bye_part(to: &mut Vec<u8>, op: usize, s: &[u8]) -> io::Result<()> {
     match op {
-        26 => bytes(Bye::read(s).reason(s)),
-        27 => bytes(Bye::read(s).tail(s)),
-        _ => bytes(Bye::read(s).padding_bytes(s)),
+        26 => bytes(to, Bye::read(s).reason(s)),
+        27 => bytes(to, Bye::read(s).tail(s)),
+        _ => bytes(to, Bye::read(s).padding_bytes(s)),
     }
 }
 
-fn part(op: usize, s: &[u8]) {
+fn part(to: &mut Vec<u8>, op: usize, s: &[u8]) -> io::Result<()> {
     match op {
-        29 => bytes(Sdes::read(s).padding_bytes(s)),
-        30 => bytes(Unknown::read(s).body_bytes(s)),
-        31 => bytes(Unknown::read(s).padding_bytes(s)),
-        32 => value(s),
-        _ => prefix(s),
+        29 => bytes(to, Sdes::read(s).padding_bytes(s)),
+        30 => bytes(to, Unknown::read(s).body_bytes(s)),
+        31 => bytes(to, Unknown::read(s).padding_bytes(s)),
+        32 => value(to, s),
+        _ => prefix(to, s),
     }
 }
 
-pub fn row(op: usize, s: &[u8], i: u64, end: u64) {
+pub fn row(to: &mut Vec<u8>, op: usize, s: &[u8], i: u64, end: u64) -> io::Result<()> {
     match op {
-        0..=4 => report(op, s, i),
-        5..=7 => app_or_bye(op, s, i),
-        8..=11 => description(op, s),
-        12..=15 => description_walk(op, s, i, end),
-        16..=18 => datagram(op, s, i),
-        19..=22 => report_part(op, s),
-        23..=25 => app_part(op, s),
-        26..=28 => bye_part(op, s),
-        29..=33 => part(op, s),
-        _ => forms::walk(op, s, i, end),
+        0..=4 => report(to, op, s, i),
+        5..=7 => app_or_bye(to, op, s, i),
+        8..=11 => description(to, op, s),
+        12..=15 => description_walk(to, op, s, i, end),
+        16..=18 => datagram(to, op, s, i),
+        19..=22 => report_part(to, op, s),
+        23..=25 => app_part(to, op, s),
+        26..=28 => bye_part(to, op, s),
+        29..=33 => part(to, op, s),
+        _ => forms::walk(to, op, s, i, end),
     }
 }

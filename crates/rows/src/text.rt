@@ -1,6 +1,5 @@
 // The words of a row, which one blank sets apart, and what they stand for.
-ghost use Rattle.std.specs.Prelude.{◌<◌, ◌≤◌, length};
-ghost use Rattle.io.specs.Counts.{IsPrefixLen};
+ghost use Rattle.std.specs.Prelude.{◌≡◌, ◌<◌, ◌≤◌, length, take};
 
 use super::lists;
 use super::lists::{Losses, Numbers, Words};
@@ -43,7 +42,7 @@ pub fn index_of(word: &[u8], words: &[u8]) -> usize {
     let mut i = 0;
     while at < words.len() {
         let end = find(words, at, b' ');
-        if check::same(word, &words[at..end]) {
+        if word == &words[at..end] {
             return i;
         }
         at = end + 1;
@@ -57,7 +56,7 @@ fn number(s: &[u8]) -> u64 {
     let mut n: u64 = 0;
     let mut i = 0;
     while i < s.len() {
-        n = std::num::wrapping_add_u64(n % 1844674407370955162 * 10, lists::wide(s[i] % 16));
+        n = (n % 1844674407370955162 * 10).wrapping_add(lists::wide(s[i] % 16));
         i += 1;
     }
     n
@@ -156,7 +155,7 @@ fn digits(word: &[u8]) -> &[u8] {
 fn signed(word: &[u8]) -> i32 {
     let n = number(digits(word));
     if first(word) == b'-' {
-        return !((std::num::wrapping_sub_u64(n, 1) % 2147483648) as i32);
+        return !((n.wrapping_sub(1) % 2147483648) as i32);
     }
     (n % 2147483648) as i32
 }
@@ -195,7 +194,8 @@ pub fn parse(
     losses: &mut Losses,
     bytes: &mut [u8],
 ) -> usize
-    ensures { IsPrefixLen result bytes.new }
+    ensures bound { result ≤ length bytes.new }
+    ensures prefix { result ≡ length (take result bytes.new) }
 {
     let mut n = 0;
     let mut i = 0;
