@@ -6,7 +6,7 @@ VERSION := $(shell sed -n 's/^version = "\(.*\)"/\1/p' rust/Cargo.toml)
 STATICLIB := target/staticlib
 ARCHIVE := $(STATICLIB)/librtcp.a
 SHARED := $(STATICLIB)/librtcp.so.0
-SOURCES := crates.txt $(shell find crates -type f \( -name '*.rt' -o -name '*.antt' \))
+SOURCES := crates.txt $(shell find crates -name out -prune -o -type f \( -name '*.rt' -o -name '*.antt' \) -print)
 RTCPDUMP := rust/target/release/rtcpdump
 RUST_SOURCES := rust/Cargo.toml rust/build.rs $(shell find rust/src -name '*.rs')
 CAPTURES := $(sort $(wildcard samples/captures/*.hex))
@@ -16,8 +16,7 @@ ROOT := $(DESTDIR)$(PREFIX)
 
 all: $(SHARED)
 
-# Where no source is newer, nothing is proved again, and the toolchain need not be there. An archive that `rt staticlib` wrote alone does not name its
-# commit, and is newer than the shared library: it is made again.
+# Where no source is newer, nothing is proved again, and the toolchain need not be there.
 $(SHARED): $(SOURCES) $(ARCHIVE)
 	tools/archive
 
