@@ -1,0 +1,4 @@
+use Rattle.rtcp.proofs.read_compound.PacketNumbers.of_unknown.Goals as goal
+
+pub returns : goal.returns
+returns c = rw c.bare-n.ensures

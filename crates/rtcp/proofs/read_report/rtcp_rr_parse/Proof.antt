@@ -1,7 +1,0 @@
-use Rattle.rtcp.proofs.Reports.{reports}
-use Rattle.rtcp.proofs.read_report.rtcp_rr_parse.Tie as tie
-
-pub rtcp-rr-parse-spec : {M : Type 1} → Rattle.rtcp.proofs.read_report.rtcp_rr_parse.Statement.statement M
-rtcp-rr-parse-spec {M} =
-    let answers = tie.spec {M = M} (λ c κs. search reports) (λ c. search reports) (λ c. search reports) (λ c. search reports) (λ c κs. search reports)
-    (λ c κs. search reports) (λ c κs. search reports) (λ c. search reports) (λ c κs. search reports) (λ c. search reports) in tie.close answers

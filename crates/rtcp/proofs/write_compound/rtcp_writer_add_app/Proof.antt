@@ -1,7 +1,0 @@
-use Rattle.rtcp.proofs.WriteCalls.{calls}
-use Rattle.rtcp.proofs.write_compound.rtcp_writer_add_app.Tie as tie
-
-pub rtcp-writer-add-app-spec : {M : Type 1} → Rattle.rtcp.proofs.write_compound.rtcp_writer_add_app.Statement.statement M
-rtcp-writer-add-app-spec {M} =
-    let answers = tie.spec {M = M} (λ c κs. search calls) (λ c κs. search calls) (λ c κs. search calls) (λ c. search calls) (λ c. search calls)
-    in tie.close answers

@@ -1,5 +1,0 @@
-use Rattle.rtcp.proofs.WriteResults.{outs}
-use Rattle.rtcp.proofs.write_sdes.rtcp_item_size.Tie as tie
-
-pub rtcp-item-size-spec : {M : Type 1} → Rattle.rtcp.proofs.write_sdes.rtcp_item_size.Statement.statement M
-rtcp-item-size-spec {M} = let answers = tie.spec {M = M} (λ c κs. search outs) (λ c κs. search outs) (λ c. search outs) in tie.close answers

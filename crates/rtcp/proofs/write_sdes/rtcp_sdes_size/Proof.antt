@@ -1,5 +1,0 @@
-use Rattle.rtcp.proofs.WriteResults.{outs}
-use Rattle.rtcp.proofs.write_sdes.rtcp_sdes_size.Tie as tie
-
-pub rtcp-sdes-size-spec : {M : Type 1} → Rattle.rtcp.proofs.write_sdes.rtcp_sdes_size.Statement.statement M
-rtcp-sdes-size-spec {M} = let answers = tie.spec {M = M} (λ c κs. search outs) (λ c κs. search outs) (λ c. search outs) in tie.close answers
