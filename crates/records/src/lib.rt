@@ -1,6 +1,6 @@
 // Reports whose blocks are lent as one run of records, written and added to a compound: a thin layer. `report_write` has the test of a loss, the
 // size, the bytes of a block and of what stands around the blocks, and `compound_write` has the compound rules; here the records are read, one at
-// a time, without a copy. What is lent the records is proved by hand.
+// a time, without a copy.
 #![tactic(auto)]
 
 ghost use Rattle.std.specs.Prelude.{◌≡◌, true, ◌+◌, ◌-◌, ◌*◌, ◌^◌, ◌<◌, ◌≤◌, length, take, get_or};
