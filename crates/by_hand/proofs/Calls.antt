@@ -5,7 +5,7 @@ use Prim.Native.Nat.{ℕ, zero, suc, ◌+◌, ◌<◌}
 use native.Mathlib.Omega.{arith}
 use seplogic.Ra.Ura.{Ura}
 use lib.WfN.{lt-wf_rel}
-use mir.Syntax.{Fn, Name, Place, Opd as Operand, Body, seq, call, loop}
+use mir.Syntax.{Fn, Callee, Place, Opd as Operand, Body, seq, call, loop}
 use mir.Val.{Val}
 use base.Logic.{SProp, ent, sep, ex, guard, via, emp, id⊢, emp∗, comm∗, mono∗, ex_i, ex_e, guard_i, guard_e}
 use prog.Wp.{Calls, Loops, Env, Out, WpFn, Wp, Tables, Closed, after_turn}
@@ -55,24 +55,24 @@ module _ {M : Type 1} {𝓤 : Ura M} (𝓛 : Logic 𝓤) (T : Ended) (c : Clause
   module _ {K : Type 0} {Γ : List (Item 𝓤)} {G : Goal 𝓤 H} where
     -- what a call has left: its result, of which the `ensures` says φ, the tokens, and what is said of last values
     pub answered : K → Soaks G → (v : Val) (φ : Result.Denot → Last → Type 0) → Says φ
-        → ((r : Result.Denot) (ws : Last) → φ r ws → Is Result r (v ∷ []) → Seq K 𝓛 (‵ (Result.own r (v ∷ [])) ∷ raw Tokens ∷ ‵ (lasts T y.0.0 y.0.3 ws) ∷ Γ) G)
+        → ((r : Result.Denot) (ws : Last) → φ r ws → Is Result r (v ∷ []) → Seq K 𝓛 (‵ (Result.own_val r (v ∷ [])) ∷ raw Tokens ∷ ‵ (lasts T y.0.0 y.0.3 ws) ∷ Γ) G)
         → Seq K 𝓛 (raw ((contract_of 𝓛 T c).post y v) ∷ Γ) G
     answered t soaks v φ says k =
-        use1 𝓛 (later (some (λ (r : Result.Denot). (raw Tokens ⊛ ‵ (Result.own r (v ∷ []))) ⊛ some (λ (ws : Last). ‵ (lasts T y.0.0 y.0.3 ws) ⊛ raw ((c y.0.0 y.0.3).ensures y.1 r (at_exit T y.0.0 y.0.3 ws)))))) (id⊢ 𝓤 _) $ await t soaks $ pick t (λ r.
+        use1 𝓛 (later (some (λ (r : Result.Denot). (raw Tokens ⊛ ‵ (Result.own_val r (v ∷ []))) ⊛ some (λ (ws : Last). ‵ (lasts T y.0.0 y.0.3 ws) ⊛ raw ((c y.0.0 y.0.3).ensures y.1 r (at_exit T y.0.0 y.0.3 ws)))))) (id⊢ 𝓤 _) $ await t soaks $ pick t (λ r.
         split t $ move t (1 ∷ []) $ pick t (λ ws. split t $ move t (1 ∷ []) $ use1 𝓛 (raw (fact 𝓤 (φ r ws))) (says r ws) $ heard t (φ r ws) (λ e.
         move t (1 ∷ []) $ split t $ move t (1 ∷ []) $ peeks t Result (Is Result) (shows 𝓛 Result) r (v ∷ []) (λ is. k r ws e is))))
 
-  module _ {K : Type 0} {Γ : List (Item 𝓤)} {E : Env 𝓤 H} {C : Calls 𝓤 H} {Λ : Loops 𝓤 H} {f : Name} {xs : List Operand} {q : Post 𝓤 H} {d : Place} where
+  module _ {K : Type 0} {Γ : List (Item 𝓤)} {E : Env 𝓤 H} {C : Calls 𝓤 H} {Λ : Loops 𝓤 H} {f : Callee} {xs : List Operand} {q : Post 𝓤 H} {d : Place} where
     -- a call whose `pre` is had, with its result at its own machine value
     pub calls_with : K → FmC 𝓤 H 𝓛.laws C → {rest : Body} → Triple 𝓤 (C f) (contract_of 𝓛 T c) → Opds K 𝓛 (raw ((contract_of 𝓛 T c).pre y) ∷ Γ) E xs ((contract_of 𝓛 T c).args y)
         → (φ : Result.Denot → Last → Type 0) → Says φ → (vals : Result.Denot → List Val) → Tells Result (Is Result) vals
-        → ((r : Result.Denot) (ws : Last) → φ r ws → Is Result r (only (vals r) ∷ []) → Seq K 𝓛 (‵ (Result.own r (only (vals r) ∷ [])) ∷ raw Tokens ∷ ‵ (lasts T y.0.0 y.0.3 ws) ∷ Γ) (lands C Λ E d (only (vals r)) rest q))
+        → ((r : Result.Denot) (ws : Last) → φ r ws → Is Result r (only (vals r) ∷ []) → Seq K 𝓛 (‵ (Result.own_val r (only (vals r) ∷ [])) ∷ raw Tokens ∷ ‵ (lasts T y.0.0 y.0.3 ws) ∷ Γ) (lands C Λ E d (only (vals r)) rest q))
         → Seq K 𝓛 (raw ((contract_of 𝓛 T c).pre y) ∷ Γ) (runs C Λ E (seq (call f xs d) rest) q)
     calls_with t fm {rest} known ops φ says vals tells k =
         calls_at t fm (contract_of 𝓛 T c) known y ops (λ v. answered t tt v φ says (λ r ws e is.
-        subst (λ (u : Val). Is Result r (u ∷ []) → Seq K 𝓛 (‵ (Result.own r (u ∷ [])) ∷ raw Tokens ∷ ‵ (lasts T y.0.0 y.0.3 ws) ∷ Γ) (lands C Λ E d u rest q)) (sym (ap only (tells r (v ∷ []) is))) (k r ws e) is))
+        subst (λ (u : Val). Is Result r (u ∷ []) → Seq K 𝓛 (‵ (Result.own_val r (u ∷ [])) ∷ raw Tokens ∷ ‵ (lasts T y.0.0 y.0.3 ws) ∷ Γ) (lands C Λ E d u rest q)) (sym (ap only (tells r (v ∷ []) is))) (k r ws e) is))
 
-  module _ {K : Type 0} {Γ : List (Item 𝓤)} {E : Env 𝓤 H} {C : Calls 𝓤 H} {Λ : Loops 𝓤 H} {f : Name} {xs : List Operand} {q : Post 𝓤 H} {d : Place} where
+  module _ {K : Type 0} {Γ : List (Item 𝓤)} {E : Env 𝓤 H} {C : Calls 𝓤 H} {Λ : Loops 𝓤 H} {f : Callee} {xs : List Operand} {q : Post 𝓤 H} {d : Place} where
     -- a call whose arguments are plain data
     pub calls_plain : K → FmC 𝓤 H 𝓛.laws C → {rest : Body} → Triple 𝓤 (C f) (contract_of 𝓛 T c) → ent 𝓤 (emp 𝓤) Tokens → ent 𝓤 (emp 𝓤) ((c y.0.0 y.0.3).requires y.1)
         → Makess 𝓛 Types (Ises Types) → Are Types (Ises Types) y.0.3 y.0.4 → Opds K 𝓛 (raw ((contract_of 𝓛 T c).pre y) ∷ Γ) E xs ((contract_of 𝓛 T c).args y)
@@ -87,7 +87,7 @@ module _ {M : Type 1} {𝓤 : Ura M} (𝓛 : Logic 𝓤) (T : Ended) (c : Clause
     pub calls_lent : K → FmC 𝓤 H 𝓛.laws C → {rest : Body} → Triple 𝓤 (C f) (contract_of 𝓛 T c) → (tokens own : Item 𝓤) → ent 𝓤 (mean 𝓛 own) (sep 𝓤 (mean 𝓛 own) (mean 𝓛 own))
         → ent 𝓤 (sep 𝓤 (mean 𝓛 tokens) (mean 𝓛 own)) ((contract_of 𝓛 T c).pre y) → ent 𝓤 Tokens (mean 𝓛 tokens) → Opds K 𝓛 (raw ((contract_of 𝓛 T c).pre y) ∷ own ∷ Γ) E xs ((contract_of 𝓛 T c).args y)
         → (φ : Result.Denot → Type 0) → Says (λ r ws. φ r) → (vals : Result.Denot → List Val) → Tells Result (Is Result) vals
-        → ((r : Result.Denot) → φ r → Is Result r (only (vals r) ∷ []) → Seq K 𝓛 (‵ (Result.own r (only (vals r) ∷ [])) ∷ tokens ∷ own ∷ Γ) (lands C Λ E d (only (vals r)) rest q))
+        → ((r : Result.Denot) → φ r → Is Result r (only (vals r) ∷ []) → Seq K 𝓛 (‵ (Result.own_val r (only (vals r) ∷ [])) ∷ tokens ∷ own ∷ Γ) (lands C Λ E d (only (vals r)) rest q))
         → Seq K 𝓛 (tokens ∷ own ∷ Γ) (runs C Λ E (seq (call f xs d) rest) q)
     calls_lent t fm known tokens own twice goes back ops φ says vals tells k =
         move t (1 ∷ []) $ use1 𝓛 (own ⊛ own) twice $ split t $ move t (2 ∷ 0 ∷ []) $ use2 𝓛 (raw ((contract_of 𝓛 T c).pre y)) goes $
@@ -136,7 +136,7 @@ module _ {M : Type 1} {𝓤 : Ura M} (𝓛 : Logic 𝓤) (𝓜 : Model 𝓤 𝓛
   framed = fm_of 𝓤 H 𝓛.laws (tables_of 𝓤 H 𝓜 (tables 𝓤 H 𝓜 𝓡 γ))
 
   -- a function whose MIR walks to the end meets its contract
-  pub meets : (k : Name) (e : Fn) → Closed 𝓤 H calls_of loops_of k e → (T : Ended) (hs : Stays T.signature.params T.kept) (c : Clauses 𝓤 T)
+  pub meets : (k : Callee) (e : Fn) → Closed 𝓤 H calls_of loops_of k e → (T : Ended) (hs : Stays T.signature.params T.kept) (c : Clauses 𝓤 T)
       → AllGo 𝓛 T.signature.lifetimes T.signature.params T.kept hs → Walks 𝓛 T hs (WpFn 𝓤 H calls_of loops_of e) c → Triple 𝓤 (calls_of k) (contract_of 𝓛 T c)
   unfolding tables_of
   meets k e closed T hs c gs walks =
