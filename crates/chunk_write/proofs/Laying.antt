@@ -1,6 +1,6 @@
 -- The cases of items and chunks laid one after the other, and of a lone chunk, each from what the code has tested or called.
-use Rattle.rfc3550.proofs.Prelude.{ℕ, zero, suc, ◌+◌, ◌-◌, ◌*◌, ◌%◌, ◌<◌, ◌≤◌, ◌^◌, ◌≡◌, refl, sym, ap, ◌∙◌, Bool, true, false, List, [], ◌∷◌, ◌++◌, append-nil, add-zero, add_assoc, zero-add, add-sub_cancel_left, add-one, arith, eq-eqb, ne_eqb, eqb-true, eqb-false, length, take, drop, get_or, replicate, length-append, length-take, length-drop, length-replicate, drop_of_length-le, drop-cons, drop-drop, get_or-drop, get_or-take, take_all, take-take, length-take-le, leb, eqb}
-use Rattle.rfc3550.specs.Answer.{Refusal, Answer, ok, refused, refusal, need, ◌>>◌, ◌>>=◌, pick}
+use Rattle.rfc3550.proofs.Prelude.{ℕ, suc, ◌+◌, ◌-◌, ◌*◌, ◌%◌, ◌<◌, ◌≤◌, ◌^◌, ◌≡◌, refl, sym, ap, ◌∙◌, Bool, true, false, List, [], ◌∷◌, ◌++◌, append-nil, add-zero, add_assoc, zero-add, add-sub_cancel_left, add-one, arith, eq-eqb, ne_eqb, eqb-true, eqb-false, length, take, drop, get_or, replicate, length-append, length-take, length-drop, length-replicate, drop_of_length-le, drop-cons, drop-drop, get_or-drop, get_or-take, take_all, take-take, length-take-le, leb, eqb}
+use Rattle.rfc3550.specs.Answer.{Refusal, Answer, ok, refused, refusal, need, ◌>>◌, pick}
 use Rattle.rfc3550.specs.Bytes.{be, sum, store}
 use Rattle.rfc3550.specs.Packet.{fill, item, priv, item_bytes, items_bytes, chunk_bytes, chunks_bytes}
 use Rattle.rfc3550.specs.Write.{LentItem, lent_items, lent_chunks, item_given, items_given, chunk_given, chunks_given, item_tests, items_tests, items_agree, item_size, chunk_size, write_chunk}

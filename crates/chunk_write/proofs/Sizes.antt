@@ -10,7 +10,7 @@ use Rattle.utils.specs.Error.{or_zero}
 use Rattle.utils.specs.Writer.{size_refusal}
 use Rattle.utils.proofs.Values.{number_came}
 use Rattle.utils.proofs.WriterCases.{writer}
-use Rattle.chunk_write.specs.Sizes.{lent, size_of, SameLengths, between, items_refusal, sizes_of, boundary_above, chunks_from, at_most, nowhere, items_end, chunks_end, ItemsMeasured, ItemsEnded, ChunksMeasured}
+use Rattle.chunk_write.specs.Sizes.{lent, size_of, SameLengths, items_refusal, sizes_of, boundary_above, chunks_from, at_most, nowhere, items_end, chunks_end, ItemsMeasured, ItemsEnded, ChunksMeasured}
 use Rattle.chunk_write.specs.Lists.{laid_items, laid_chunks}
 use Rattle.chunk_write.specs.declared.chunks.ItemsEnd.{ItemsEnd}
 use Rattle.chunk_write.proofs.Items.{size_known, size_most, item_is_lem}

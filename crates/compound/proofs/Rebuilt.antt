@@ -1,6 +1,6 @@
 -- What a step hands over, with what the accessors give, is the whole packet.
 use Rattle.rfc3550.proofs.Prelude.{◌≡◌, refl, sym, ap, ◌∙◌, subst, List, [], ◌∷◌, ℕ, zero, suc, ◌+◌, ◌-◌, ◌≤◌, arith, length, take, drop, length-append, eqb}
-use Rattle.rfc3550.specs.Answer.{Answer, ok, refused, ◌>>◌, ◌>>=◌, map_ok}
+use Rattle.rfc3550.specs.Answer.{Answer, ok, refused, ◌>>=◌, map_ok}
 use Rattle.rfc3550.specs.Bytes.{Bytes}
 use Rattle.rfc3550.specs.Packet.{Block, Item, items_bytes, Chunk, chunk_bytes, no_reason, reason, Content, report, receiver, sender, sdes, bye, app, unknown, Packet as Read}
 use Rattle.rfc3550.specs.Packet.{chunks_of}

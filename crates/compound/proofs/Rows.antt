@@ -8,7 +8,6 @@ use Rattle.rfc3550.proofs.Answers.{map_ok_inv}
 use Rattle.rfc3550.proofs.Compounds.{compound_sound}
 use Rattle.rfc3550.proofs.Places.{at_place}
 use Rattle.utils.specs.List.{listed_of, lay_list}
-use Rattle.utils.specs.declared.list.Listed.{Listed}
 use Rattle.utils.specs.declared.list.Listed.TheVariants as listed
 use Rattle.utils.proofs.Filled.{filled}
 use Rattle.compound.specs.Compound.{rows_from, packet_rows, row_parts, row_is}

@@ -1,5 +1,5 @@
 -- Pieces of one width laid one after the other, by their index, and blocks so laid.
-use Rattle.rfc3550.proofs.Prelude.{ℕ, zero, suc, ◌+◌, ◌-◌, ◌*◌, ◌≤◌, ◌≡◌, refl, sym, ap, ◌∙◌, List, [], ◌∷◌, ◌++◌, append-nil, append_assoc, add_assoc, zero-mul, suc-mul, le_of_suc-le-suc, not-suc-le-zero, arith, length, take, drop, get_or, length-append, length-take-le, take-append-le, take-append-add, take-take, drop_at, drop-append-add}
+use Rattle.rfc3550.proofs.Prelude.{ℕ, zero, suc, ◌+◌, ◌-◌, ◌*◌, ◌≤◌, ◌≡◌, refl, sym, ap, ◌∙◌, List, [], ◌∷◌, ◌++◌, append-nil, append_assoc, add_assoc, zero-mul, suc-mul, le_of_suc-le-suc, not-suc-le-zero, arith, length, take, get_or, length-append, take-append-add, drop-append-add}
 use Rattle.rfc3550.specs.Bytes.{put, store}
 use Rattle.rfc3550.specs.Packet.{block_widths, block_fields, blocks_bytes}
 use Rattle.rfc3550.proofs.Bytes.{length_store}

@@ -3,7 +3,7 @@ use Rattle.rfc3550.proofs.Prelude.{ℕ, ◌+◌, ◌-◌, ◌*◌, ◌<◌, ◌�
 use lib.Signed.{mag}
 use mir.Syntax.{w32}
 use mir.Val.{to_z, of_z}
-use Rattle.rfc3550.specs.Answer.{Answer, Refusal, ok, refused, refusal, need, ◌>>◌, ◌>>=◌}
+use Rattle.rfc3550.specs.Answer.{Answer, Refusal, ok, refused, refusal, need, ◌>>◌}
 use Rattle.rfc3550.specs.Bytes.{be, put, store}
 use Rattle.rfc3550.specs.Loss.{Loss, no_loss}
 use Rattle.rfc3550.specs.Packet as rfc

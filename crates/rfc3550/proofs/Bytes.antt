@@ -1,5 +1,5 @@
 -- Laws of big-endian numbers and of fields in a row, over the width.
-use Rattle.rfc3550.proofs.Prelude.{ℕ, zero, suc, ◌+◌, ◌-◌, ◌*◌, ◌%◌, ◌^◌, ◌<◌, ◌≤◌, ◌≡◌, refl, sym, ap, subst, List, [], ◌∷◌, ◌++◌, append_assoc, zero-add, mod-lt, div-add-mod', one-le-pow, pow-suc, arith, length, take, drop, get_or, replicate, length-append, length-drop, take-append-drop, take_at, drop_at, length-take-le, drop-drop, digits_lt, digits_div, digits_mod}
+use Rattle.rfc3550.proofs.Prelude.{ℕ, zero, suc, ◌+◌, ◌*◌, ◌%◌, ◌^◌, ◌<◌, ◌≤◌, ◌≡◌, refl, sym, ap, subst, List, [], ◌∷◌, ◌++◌, append_assoc, zero-add, mod-lt, div-add-mod', one-le-pow, pow-suc, arith, length, take, drop, get_or, replicate, length-append, length-drop, take-append-drop, take_at, drop_at, length-take-le, drop-drop, digits_lt, digits_div, digits_mod}
 use Rattle.rfc3550.specs.Bytes.{Bytes, be, val, put, get, Fits, sum, store}
 
 -- ---- be and val

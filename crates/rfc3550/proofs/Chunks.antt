@@ -1,5 +1,5 @@
 -- SDES: the readers of fill, items and chunks against their layouts, both ways.
-use Rattle.rfc3550.proofs.Prelude.{ℕ, zero, suc, ◌+◌, ◌-◌, ◌%◌, ◌<◌, ◌≤◌, ◌≡◌, refl, sym, ap, ◌∙◌, subst, ◌≢◌, Bool, true, false, List, [], ◌∷◌, ◌++◌, append_assoc, arith, add-zero, add_assoc, length, take, drop, replicate, length-append, length-drop, take-append-drop, take_at, drop_at, length-take-le, take-append_seam, drop-append_seam, eqb, le-leb, leb-true, eqb-true, eqb-false, ne_eqb}
+use Rattle.rfc3550.proofs.Prelude.{ℕ, zero, suc, ◌+◌, ◌-◌, ◌%◌, ◌<◌, ◌≤◌, ◌≡◌, refl, sym, ap, ◌∙◌, subst, Bool, true, false, List, [], ◌∷◌, ◌++◌, append_assoc, arith, add-zero, add_assoc, length, take, drop, replicate, length-append, length-drop, take-append-drop, take_at, drop_at, length-take-le, take-append_seam, drop-append_seam, eqb, le-leb, leb-true, eqb-true, eqb-false, ne_eqb}
 use Rattle.rfc3550.specs.Answer.{ok, ◌>>=◌, ◌>>◌, need}
 use Rattle.rfc3550.specs.Bytes.{Bytes, be}
 use Rattle.rfc3550.specs.Packet.{Item, item, priv, Chunk, item_type, item_rest, item_bytes, items_bytes, chunk_bytes, chunks_bytes, fill, All, ItemValid, ChunkValid}

@@ -1,5 +1,5 @@
 -- Compounds: reading accepts exactly the layouts of the lists that meet the rules, and each has one list.
-use Rattle.rfc3550.proofs.Prelude.{ℕ, zero, suc, ◌+◌, ◌-◌, ◌/◌, ◌%◌, ◌<◌, ◌≤◌, ◌≡◌, refl, sym, ap, ◌∙◌, subst, ◌↔◌, ◌⊎◌, inl, inr, Bool, true, false, not, ◌||◌, List, [], ◌∷◌, ◌++◌, append-nil, arith, length, take, drop, length-append, length-drop, take-append-drop, take_at, drop_at, drop-length, drop-append-le, take-append-le, drop-append_seam, eqb, le-leb, leb-true, eqb-true, eqb-false, eq-eqb, ne_eqb}
+use Rattle.rfc3550.proofs.Prelude.{ℕ, zero, suc, ◌+◌, ◌/◌, ◌%◌, ◌<◌, ◌≤◌, ◌≡◌, refl, sym, ap, ◌∙◌, subst, ◌↔◌, ◌⊎◌, inl, inr, Bool, true, false, not, ◌||◌, List, [], ◌∷◌, ◌++◌, append-nil, arith, length, take, drop, length-append, length-drop, take-append-drop, take_at, drop_at, drop-length, drop-append-le, take-append-le, drop-append_seam, eqb, le-leb, leb-true, eqb-true, eqb-false, eq-eqb, ne_eqb}
 use Rattle.rfc3550.specs.Answer.{Answer, ok, ◌>>=◌, ◌>>◌, need}
 use Rattle.rfc3550.specs.Bytes.{Bytes}
 use Rattle.rfc3550.specs.Packet.{Packet, low_bits, type, padding_bit, layout, layouts, Valid, All, is_report, OnlyLastPadded, Compound}

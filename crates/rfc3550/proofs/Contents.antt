@@ -1,5 +1,5 @@
 -- What stands between the header and the padding, over the kind, both ways.
-use Rattle.rfc3550.proofs.Prelude.{ℕ, ◌+◌, ◌-◌, ◌*◌, ◌<◌, ◌≤◌, ◌≡◌, refl, sym, ap, ◌∙◌, subst, true, false, not, List, [], ◌∷◌, ◌++◌, arith, replicate, length-replicate, length, drop, length-append, length-drop, take-append-drop, take_at, drop_at, length-take-le, drop-drop, take-append_seam, drop-append_seam, le-leb, leb-true, eqb-true, ne_eqb, not-true}
+use Rattle.rfc3550.proofs.Prelude.{ℕ, ◌+◌, ◌*◌, ◌<◌, ◌≤◌, ◌≡◌, refl, sym, ap, ◌∙◌, subst, true, false, not, List, [], ◌∷◌, ◌++◌, arith, replicate, length-replicate, length, drop, length-append, length-drop, take-append-drop, take_at, drop_at, length-take-le, drop-drop, take-append_seam, drop-append_seam, le-leb, leb-true, eqb-true, ne_eqb, not-true}
 use Rattle.rfc3550.specs.Answer.{ok, ◌>>=◌, ◌>>◌, need}
 use Rattle.rfc3550.specs.Bytes.{Bytes, be, put, get, Fits, sum}
 use Rattle.rfc3550.specs.Packet.{Block, Reporter, receiver, sender, Leaving, no_reason, reason, Content, report, sdes, bye, app, unknown, reporter_widths, reporter_fields, leaving_bytes, LeavingValid, receiver_widths, sender_widths, content_bytes, low_bits, type, ContentValid, known, All, BlockValid, blocks_bytes, chunks_bytes}

@@ -1,7 +1,7 @@
 -- The first of a list that passes a test, and one pass over chunks that answers for every SSRC of a list.
-use Rattle.rfc3550.proofs.Prelude.{ℕ, zero, suc, ◌+◌, ◌<◌, ◌≤◌, ◌≡◌, refl, sym, ap, ◌∙◌, subst, Bool, true, false, ◌||◌, List, [], ◌∷◌, ◌++◌, map, arith, length, take, drop, length-map, leb, le-leb, lt-leb, leb-true, ne_eqb, take_at, drop_at}
+use Rattle.rfc3550.proofs.Prelude.{ℕ, zero, suc, ◌+◌, ◌<◌, ◌≤◌, ◌≡◌, refl, sym, ap, ◌∙◌, subst, Bool, true, false, List, [], ◌∷◌, ◌++◌, map, arith, length, take, drop, length-map, leb, le-leb, lt-leb, leb-true, ne_eqb, take_at, drop_at}
 use Rattle.rfc3550.specs.Answer.{Refusal, Answer, ok, refused, refuse, need, ◌>>◌, ◌>>=◌, map_ok, pick}
-use Rattle.rfc3550.specs.Bytes.{Bytes, store}
+use Rattle.rfc3550.specs.Bytes.{Bytes}
 use Rattle.rfc3550.specs.Packet.{Chunk, Content, report, sdes, bye, app, unknown, Packet, low_bits, chunks_of, All, some}
 use Rattle.rfc3550.specs.Read.{SDES, nth, read_as}
 use Rattle.rfc3550.specs.Lookup.{Found, none, at, later, first, names, found_in, lookup, coded, decoded, answers_after, lookup_with}

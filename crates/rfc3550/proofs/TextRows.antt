@@ -1,5 +1,5 @@
 -- RFC 3629's examples encoded, and verdicts on the values of items, as one list by one theorem.
-use Rattle.rfc3550.proofs.Prelude.{ℕ, Bool, true, false, ◌≡◌, refl, List, [], ◌∷◌, ◌++◌, length}
+use Rattle.rfc3550.proofs.Prelude.{ℕ, Bool, true, false, ◌≡◌, refl, List, [], ◌∷◌, length}
 use Rattle.rfc3550.specs.Answer.{Answer, ok, need, ◌>>◌, ◌>>=◌, map_ok}
 use Rattle.rfc3550.specs.Packet.{Item, All}
 use Rattle.rfc3550.specs.Read.{item_of, read_item}

@@ -1,6 +1,6 @@
 -- Writing: what passes the tests is a valid packet, over the kind, and a write lays down its layout and nothing else.
 use Rattle.rfc3550.proofs.Prelude.{ℕ, zero, suc, ◌+◌, ◌-◌, ◌*◌, ◌%◌, ◌^◌, ◌<◌, ◌≤◌, ◌≡◌, refl, sym, ap, ◌∙◌, subst, Bool, true, false, ◌||◌, not, List, [], ◌∷◌, ◌++◌, append-nil, map, arith, length, take, drop, get_or, replicate, length-append, length-drop, length-map, length-replicate, get_or_at, leb, eqb, leb-true, eqb-true, eqb-false, eq-eqb, not-true}
-use Rattle.rfc3550.specs.Answer.{Refusal, Answer, ok, refused, ◌>>=◌, ◌>>◌, need, pick}
+use Rattle.rfc3550.specs.Answer.{Refusal, Answer, ok, refused, ◌>>◌, need, pick}
 use Rattle.rfc3550.specs.Bytes.{Bytes, put, Fits, sum}
 use Rattle.rfc3550.specs.Loss.{Loss, no_loss, LossFits}
 use Rattle.rfc3550.specs.Packet.{Block, Reporter, receiver, sender, item, priv, Chunk, All, receiver_widths, sender_widths, reporter_widths, reporter_fields, item_bytes, chunk_bytes, chunks_bytes, leaving_bytes, content_bytes, low_bits, layout, BlockValid, ItemValid, ChunkValid, LeavingValid, ContentValid, PaddingValid, Valid}

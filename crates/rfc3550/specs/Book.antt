@@ -4,7 +4,7 @@ use Rattle.std.specs.Prelude.{ℕ, ◌+◌, ◌-◌, ◌*◌, ◌%◌, Bool, tru
 use Rattle.rfc3550.specs.Answer.{Answer, ok, refuse, after, capped, pick}
 use Rattle.rfc3550.specs.Bytes.{sum}
 use Rattle.rfc3550.specs.Loss.{Loss, loss_over, loss_shown, loss_most}
-use Rattle.rfc3550.specs.Packet.{Packet, layout, type, some, has_cname}
+use Rattle.rfc3550.specs.Packet.{Packet, layout, some, has_cname}
 use Rattle.rfc3550.specs.Write.{BlockLists, Lists, LentItem, lent_items, Given, give_report, give_sdes, give_bye, give_app, packet_given}
 use Rattle.rfc3550.specs.Writer.{Request, add, close}
 

@@ -1,6 +1,6 @@
 -- The answers of a walk over chunks, from a walk just opened: answer i gives chunk i, its fields and its bytes, and 25 once all are given. A walk
 -- over the items of these bytes gives the chunk's items (`items_returned` of sdes_chunk).
-use Rattle.rfc3550.proofs.Prelude.{ℕ, ◌-◌, ◌≡◌, refl, sym, ap, ◌∙◌, List, arith, length, take, drop, take_all}
+use Rattle.rfc3550.proofs.Prelude.{ℕ, ◌≡◌, refl, sym, ap, ◌∙◌, List, arith, length, take, drop, take_all}
 use Rattle.rfc3550.specs.Answer.{ok, map_ok}
 use Rattle.rfc3550.specs.Bytes.{Bytes}
 use Rattle.rfc3550.specs.Packet.{chunk_bytes, chunks_of, Packet}

@@ -1,5 +1,5 @@
 -- The answers of a walk over items, from a walk just opened: answer i gives item i with every field, and 25 once all are given.
-use Rattle.rfc3550.proofs.Prelude.{ℕ, suc, ◌+◌, ◌-◌, ◌<◌, ◌≡◌, refl, sym, ap, ◌∙◌, subst, List, ◌++◌, arith, ltb-true, length, take, drop, length-append, take-append-drop, length-take-le, eqb}
+use Rattle.rfc3550.proofs.Prelude.{ℕ, suc, ◌-◌, ◌<◌, ◌≡◌, refl, sym, ap, ◌∙◌, subst, List, ◌++◌, arith, ltb-true, length, take, drop, length-append, take-append-drop, length-take-le, eqb}
 use Rattle.rfc3550.specs.Answer.{ok, map_ok}
 use Rattle.rfc3550.specs.Bytes.{Bytes}
 use Rattle.rfc3550.specs.Packet.{Item, item, priv, item_type, item_bytes, Chunk}

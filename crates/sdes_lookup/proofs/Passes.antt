@@ -1,6 +1,6 @@
 -- The turns of the pass over the chunks of a body.
 use Rattle.rfc3550.proofs.Prelude.{ℕ, suc, ◌+◌, ◌-◌, ◌^◌, ◌<◌, ◌≤◌, ◌≡◌, refl, sym, ap, ◌∙◌, subst, Bool, true, false, ◌&&◌, ◌||◌, List, [], ◌∷◌, ◌++◌, map, add-one, arith, rules, ne_eqb, eqb, ltb, length, take, drop, replicate, length-drop, length-replicate, length-map, drop-drop, drop_at}
-use Rattle.rfc3550.specs.Answer.{ok, refused, pick}
+use Rattle.rfc3550.specs.Answer.{ok, pick}
 use Rattle.rfc3550.specs.Packet.{Chunk, chunk_bytes, chunk_has_cname, some}
 use Rattle.rfc3550.specs.Read.{read_chunk, read_chunks}
 use Rattle.rfc3550.specs.Lookup.{Found, none, at, found_in, coded}

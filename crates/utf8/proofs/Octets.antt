@@ -2,7 +2,7 @@
 use Rattle.rfc3550.proofs.Prelude.{ℕ, zero, suc, ◌+◌, ◌-◌, ◌*◌, ◌^◌, ◌<◌, ◌≤◌, ◌≡◌, refl, sym, ap, ◌∙◌, Bool, true, false, ◌&&◌, List, [], ◌∷◌, add-one, arith, rules, leb, le-leb, lt-leb, length, get_or, drop, drop-cons, length-drop, pow-suc}
 use native.Mathlib.Nat.{pow-le-pow_right}
 use Rattle.rfc3550.specs.Answer.{pick}
-use Rattle.rfc3550.specs.Utf8.{is_code_point, between, inside, malformed, within, next, run, ended}
+use Rattle.rfc3550.specs.Utf8.{is_code_point, between, malformed, within, next, run, ended}
 use Rattle.utf8.specs.Ends.{Ends}
 
 -- ---- malformed stays so

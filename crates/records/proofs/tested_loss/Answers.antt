@@ -1,5 +1,4 @@
-use Rattle.rfc3550.proofs.Prelude.{rules, arith, ◌≡◌, ◌≤◌, length}
-use lib.Signed.{mag}
+use Rattle.rfc3550.proofs.Prelude.{rules}
 use mir.Syntax.{w32}
 use mir.Val.{to_z}
 use Rattle.rfc3550.specs.Loss.{no_loss}

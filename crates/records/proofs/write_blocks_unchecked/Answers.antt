@@ -1,4 +1,4 @@
-use Rattle.rfc3550.proofs.Prelude.{rules, arith, refl, subst, add-one, ℕ, ◌≡◌, ◌∙◌}
+use Rattle.rfc3550.proofs.Prelude.{rules, refl, subst, add-one, ℕ, ◌≡◌, ◌∙◌}
 use Rattle.records.proofs.Laid.{laid_up, bytes_at, blocks_laid}
 use Rattle.records.proofs.write_blocks_unchecked.Goals as goal
 

@@ -1,4 +1,3 @@
-use Rattle.rfc3550.proofs.Prelude.{◌-◌}
 use Rattle.sdes_lookup.proofs.Passes.{passes}
 use Rattle.sdes_lookup.proofs.answer_all.Goals as goal
 

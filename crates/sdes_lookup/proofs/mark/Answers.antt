@@ -7,9 +7,9 @@ loop-i-preserved c =
     let inv = c.loop-i.invariant in
     let h = c.loop-i-test.true in
     elim c.if-ssrcs-i.branch [
-      then-ssrcs-i+then-answers-i w ↦ mark_new _ _ _ _ _ _ _ inv h w.if-answers-i.true _ _ w.if-ssrcs-i.true w.answers-is w.left-is
-    | then-ssrcs-i+else-answers-i w ↦ mark_stands _ _ _ _ _ _ _ inv h _ _ w.if-ssrcs-i.true w.if-answers-i.false w.answers-is w.left-is
-    | else-ssrcs-i w ↦ mark_other _ _ _ _ _ _ _ inv h _ _ w.if-ssrcs-i.false w.answers-is w.left-is
+      | then-ssrcs-i+then-answers-i w ↦ mark_new _ _ _ _ _ _ _ inv h w.if-answers-i.true _ _ w.if-ssrcs-i.true w.answers-is w.left-is
+      | then-ssrcs-i+else-answers-i w ↦ mark_stands _ _ _ _ _ _ _ inv h _ _ w.if-ssrcs-i.true w.if-answers-i.false w.answers-is w.left-is
+      | else-ssrcs-i w ↦ mark_other _ _ _ _ _ _ _ inv h _ _ w.if-ssrcs-i.false w.answers-is w.left-is
     ]
 
 pub returns : goal.returns

@@ -1,4 +1,3 @@
-use Rattle.rfc3550.proofs.Prelude.{◌-◌}
 use Rattle.utf8.proofs.Octets.{octets}
 use Rattle.utf8.proofs.continued.Goals as goal
 

@@ -1,4 +1,3 @@
-use Rattle.rfc3550.proofs.Prelude.{◌-◌}
 use Rattle.utf8.proofs.Characters.{characters}
 use Rattle.utf8.proofs.is_utf8.Goals as goal
 

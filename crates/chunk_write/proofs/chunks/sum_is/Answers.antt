@@ -1,4 +1,3 @@
-use Rattle.rfc3550.proofs.Prelude.{◌-◌}
 use Rattle.chunk_write.proofs.Sizes.{ends}
 use Rattle.chunk_write.proofs.chunks.sum_is.Goals as goal
 

@@ -1,4 +1,4 @@
-use Rattle.rfc3550.proofs.Prelude.{◌-◌, arith}
+use Rattle.rfc3550.proofs.Prelude.{arith}
 use Rattle.chunk_write.proofs.Laying.{chunks, chunking_asks, chunking_place}
 use Rattle.chunk_write.proofs.chunks.write_chunks_unchecked.Goals as goal
 

@@ -1,4 +1,3 @@
-use Prim.Native.Nat.{◌-◌}
 use Rattle.chunk_write.proofs.Laying.{chunks}
 use Rattle.chunk_write.proofs.chunks.write_items.Goals as goal
 

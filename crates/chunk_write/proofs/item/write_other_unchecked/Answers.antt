@@ -1,4 +1,4 @@
-use Rattle.rfc3550.proofs.Prelude.{length-set, ◌∙◌, arith}
+use Rattle.rfc3550.proofs.Prelude.{length-set, arith}
 use Rattle.chunk_write.proofs.Items.{items}
 use Rattle.chunk_write.proofs.item.write_other_unchecked.Goals as goal
 

@@ -1,4 +1,4 @@
-use Rattle.rfc3550.proofs.Prelude.{ℕ, ◌-◌, ◌*◌, ◌<◌, ◌≤◌, get_or, arith}
+use Rattle.rfc3550.proofs.Prelude.{ℕ, ◌<◌, get_or, arith}
 use Rattle.compound.proofs.Listing.{listings}
 use Rattle.compound.proofs.compound.list_all_unchecked.Goals as goal
 

@@ -1,4 +1,4 @@
-use Rattle.rfc3550.proofs.Prelude.{◌-◌, ◌*◌, ◌<◌, ◌≤◌, length}
+use Rattle.rfc3550.proofs.Prelude.{◌-◌, ◌*◌, ◌≤◌, length}
 use Rattle.compound.proofs.Listing.{Rows}
 use Rattle.compound.proofs.compound.list_all_unchecked.Given as goal
 

@@ -1,4 +1,3 @@
-use Rattle.rfc3550.proofs.Prelude.{◌-◌}
 use Rattle.compound_write.proofs.Names.{namings}
 use Rattle.compound_write.proofs.cname.has_cname_unchecked.Goals as goal
 

@@ -1,4 +1,3 @@
-use Rattle.rfc3550.proofs.Prelude.{◌-◌, ◌≤◌, ◌≡◌}
 use Rattle.report_write.proofs.Blocks.{blocks}
 use Rattle.report_write.proofs.report_block.tested_loss.Goals as goal
 

@@ -1,4 +1,3 @@
-use Rattle.rfc3550.proofs.Prelude.{◌-◌}
 use Rattle.sdes.proofs.ItemTurns.{rows, count_done}
 use Rattle.sdes.proofs.items.count_rows.Goals as goal
 

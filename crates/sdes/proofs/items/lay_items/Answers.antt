@@ -1,4 +1,3 @@
-use Rattle.rfc3550.proofs.Prelude.{◌-◌}
 use Rattle.sdes.proofs.ItemTurns.{rows, items_again}
 use Rattle.sdes.proofs.ItemPlaces.{item_less}
 use Rattle.sdes.proofs.items.lay_items.Goals as goal

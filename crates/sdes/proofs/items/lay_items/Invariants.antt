@@ -1,6 +1,5 @@
 use Rattle.rfc3550.proofs.Prelude.{◌-◌, length}
 use Rattle.sdes.specs.ItemPlaces.{ItemsLaid}
-use Rattle.sdes.proofs.ItemTurns.{rows}
 use Rattle.sdes.proofs.items.lay_items.Given as goal
 
 abbrev pub invariant-loop-from : goal.invariant-loop-from

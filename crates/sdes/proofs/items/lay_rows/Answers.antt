@@ -1,4 +1,3 @@
-use Rattle.rfc3550.proofs.Prelude.{◌-◌}
 use Rattle.sdes.proofs.ItemTurns.{rows}
 use Rattle.sdes.proofs.items.lay_rows.Goals as goal
 

@@ -1,6 +1,5 @@
 use Rattle.rfc3550.proofs.Prelude.{◌-◌, length}
 use Rattle.sdes.specs.ItemPlaces.{chunk_place, LaidUpTo}
-use Rattle.sdes.proofs.ItemTurns.{rows}
 use Rattle.sdes.proofs.items.lay_rows.Given as goal
 
 abbrev pub invariant-loop-place : goal.invariant-loop-place

@@ -1,4 +1,3 @@
-use Rattle.rfc3550.proofs.Prelude.{◌-◌}
 use Rattle.sdes_chunk.proofs.Chunks.{chunks}
 use Rattle.sdes_chunk.proofs.chunk.items_end.Goals as goal
 

@@ -1,4 +1,3 @@
-use Prim.Native.Nat.{◌-◌}
 use Rattle.sdes_chunk.proofs.Chunks.{chunks}
 use Rattle.sdes_chunk.proofs.chunk.zeros_end.Goals as goal
 

@@ -1,4 +1,4 @@
-use Rattle.rfc3550.proofs.Prelude.{◌∙◌, arith, length-set}
+use Rattle.rfc3550.proofs.Prelude.{arith, length-set}
 use Rattle.utils.proofs.WriterCases.{fills}
 use Rattle.utils.proofs.writer.write_fill_unchecked.Goals as goal
 

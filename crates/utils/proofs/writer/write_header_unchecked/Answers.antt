@@ -1,4 +1,4 @@
-use Rattle.rfc3550.proofs.Prelude.{length-set, ◌∙◌, arith}
+use Rattle.rfc3550.proofs.Prelude.{length-set, arith}
 use Rattle.utils.proofs.WriterCases.{writer}
 use Rattle.utils.proofs.writer.write_header_unchecked.Goals as goal
 

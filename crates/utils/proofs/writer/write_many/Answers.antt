@@ -1,4 +1,4 @@
-use Rattle.rfc3550.proofs.Prelude.{◌-◌, arith}
+use Rattle.rfc3550.proofs.Prelude.{arith}
 use Rattle.utils.proofs.WriterCases.{copying_start, copying_again, group_last}
 use Rattle.utils.proofs.writer.write_many.Goals as goal
 

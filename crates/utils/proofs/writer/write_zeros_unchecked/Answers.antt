@@ -1,4 +1,3 @@
-use Rattle.rfc3550.proofs.Prelude.{◌≤◌, ◌-◌}
 use Rattle.utils.proofs.WriterCases.{writer}
 use Rattle.utils.proofs.writer.write_zeros_unchecked.Goals as goal
 

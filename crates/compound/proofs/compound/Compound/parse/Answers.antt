@@ -1,4 +1,3 @@
-use Rattle.rfc3550.proofs.Prelude.{◌-◌}
 use Rattle.compound.proofs.Compounds.{compounds}
 use Rattle.compound.proofs.compound.Compound.parse.Goals as goal
 
