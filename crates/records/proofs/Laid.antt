@@ -66,7 +66,7 @@ blocks_joined zero bs h = refl
 blocks_joined (suc n) [] h = absurd (not-suc-le-zero h)
 blocks_joined (suc n) (b ∷ bs) h = joined_cons (bytes_at (b ∷ bs)) n ∙ ap (λ (r : List ℕ). block_bytes b ++ r) (blocks_joined n bs (le_of_suc-le-suc h))
 
--- no block rules no room
+-- no block needs no room
 module _ (bs : List ReportBlock) (at : ℕ) (l : List ℕ) where
   pub blocks_laid : (n : ℕ) → n * 24 ≤ length l - at → n ≤ length bs → laid_up (bytes_at bs) 24 at n l ≡ store at (blocks_bytes (records_of (take n bs))) l
   unfolding laid_up blocks_bytes

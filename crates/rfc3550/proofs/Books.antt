@@ -36,7 +36,7 @@ agree_law true true true false e = refl
 agree_law true true true true false = refl
 agree_law true true true true true = refl
 
--- ---- an order of rules is a list of faults
+-- ---- an order of needs is a list of faults
 
 -- a need is a fault of the negated test, with whatever follows
 pub need_first : (t c : Bool) (k d e : ℕ) (fs : List Fault) (r : Answer (Unit {0})) → t ≡ not c → r ≡ first_fault fs → (need t k d e >> r) ≡ first_fault (fault c k d e ∷ fs)
