@@ -34,7 +34,7 @@ module _ (s : List ℕ) (t : ℕ) (e : t ≡ type_in s) where
   unfolding kind_of
   unknown_kind f g h i j = rw (← e, ne_eqb t 200 f, ne_eqb t 201 g, ne_eqb t 202 h, ne_eqb t 203 i, ne_eqb t 204 j)
 
-pub ruleset kinds-by-type = (rules, sr_kind, rr_kind, sdes_kind, bye_kind, app_kind, unknown_kind)
+pub ruleset kinds_by_type = (rules, sr_kind, rr_kind, sdes_kind, bye_kind, app_kind, unknown_kind)
 
 -- ---- the kinds that have no layout
 
@@ -79,4 +79,4 @@ module _ (s : List ℕ) (c d : Kind) (h : kind_in c ≡ kind_of (type_in s) (low
   pub unknown_found : (b : Bool) → b ≡ is_unknown (kind_in d) → b ≡ not (known (type_in s) (low_in s))
   unknown_found b q = q ∙ ap is_unknown kind_found ∙ unknown_is (type_in s) (low_in s)
 
-pub ruleset unknown-kinds = (rules, unknown_found)
+pub ruleset unknown_kinds = (rules, unknown_found)

@@ -14,11 +14,11 @@ use Rattle.sdes_chunk.specs.declared.item.ParsedItem.TheVariants as parsed
 use Rattle.sdes_chunk.specs.declared.chunk.ItemWalk.{ItemWalk}
 use Rattle.sdes_chunk.specs.declared.chunk.SdesChunk.{SdesChunk}
 use Rattle.sdes_chunk.specs.declared.chunk.SteppedItem.{SteppedItem}
-use Rattle.sdes_chunk.specs.declared.chunk.SteppedItem.TheVariants as steppedItem
+use Rattle.sdes_chunk.specs.declared.chunk.SteppedItem.TheVariants as stepped_item
 use Rattle.sdes.specs.Walk.{stepped_chunk_of}
 use Rattle.sdes.specs.declared.sdes.ChunkWalk.{ChunkWalk}
 use Rattle.sdes.specs.declared.sdes.SteppedChunk.{SteppedChunk}
-use Rattle.sdes.specs.declared.sdes.SteppedChunk.TheVariants as steppedChunk
+use Rattle.sdes.specs.declared.sdes.SteppedChunk.TheVariants as stepped_chunk
 use Rattle.rtcp.specs.Sdes.{prefix_start, item_parts, prefix_result, chunk_step_result, item_step_result}
 use Rattle.rtcp.proofs.Results.{handed, viewed}
 
@@ -89,9 +89,9 @@ step_read s at {y} e =
         let k : x.0 ≡ y.0 = ap (λ (z : Item × ℕ). z.0) h in
         (x.1, rw (← k) f, rw (← k) (sym (ap (λ (z : Item × ℕ). z.1) h)))
 
-module _ (o : SteppedItem) (i : SdesItem) (w : ItemWalk) (s : List ℕ) (at : ℕ) (p : o ≡ steppedItem.Item i w) (q : stepped_item_of o ≡ map_ok item_stepped (item_step s at)) where
+module _ (o : SteppedItem) (i : SdesItem) (w : ItemWalk) (s : List ℕ) (at : ℕ) (p : o ≡ stepped_item.Item i w) (q : stepped_item_of o ≡ map_ok item_stepped (item_step s at)) where
   came : (P : SdesItem × ItemWalk → Type 0) → ((y : Item × ℕ) → item_step s at ≡ ok y → P (item_stepped y)) → P (i, w)
-  came P all = viewed stepped_item_of (λ (x : SdesItem × ItemWalk). steppedItem.Item x.0 x.1) (λ x. refl) item_stepped P (item_step s at) all o (i, w) p q
+  came P all = viewed stepped_item_of (λ (x : SdesItem × ItemWalk). stepped_item.Item x.0 x.1) (λ x. refl) item_stepped P (item_step s at) all o (i, w) p q
 
   pub step_order : prefix_start i + i.prefix_len ≤ 2 + i.length
   step_order = came (λ x. prefix_start x.0 + x.0.prefix_len ≤ 2 + x.0.length) (λ y e. in_item (drop at s) (step_read s at e).1)
@@ -101,12 +101,12 @@ module _ (o : SteppedItem) (i : SdesItem) (w : ItemWalk) (s : List ℕ) (at : �
 
 -- ---- what C gets of a step
 
-pub item_stepped_lem : (at : ℕ) (o : SteppedItem) (i : SdesItem) (w : ItemWalk) (x : Answer (SdesItem × ItemWalk)) → o ≡ steppedItem.Item i w → stepped_item_of o ≡ x
+pub item_stepped_lem : (at : ℕ) (o : SteppedItem) (i : SdesItem) (w : ItemWalk) (x : Answer (SdesItem × ItemWalk)) → o ≡ stepped_item.Item i w → stepped_item_of o ≡ x
     → item_step_result at (ok (i, w)) ≡ item_step_result at x
-item_stepped_lem at o i w x e q = handed (item_step_result at) stepped_item_of (λ (x : SdesItem × ItemWalk). steppedItem.Item x.0 x.1) (λ x. refl) o (i, w) x e q
+item_stepped_lem at o i w x e q = handed (item_step_result at) stepped_item_of (λ (x : SdesItem × ItemWalk). stepped_item.Item x.0 x.1) (λ x. refl) o (i, w) x e q
 
-pub chunk_stepped_lem : (at end : ℕ) (o : SteppedChunk) (c : SdesChunk) (w : ChunkWalk) (x : Answer (SdesChunk × ChunkWalk)) → o ≡ steppedChunk.Chunk c w → stepped_chunk_of o ≡ x
+pub chunk_stepped_lem : (at end : ℕ) (o : SteppedChunk) (c : SdesChunk) (w : ChunkWalk) (x : Answer (SdesChunk × ChunkWalk)) → o ≡ stepped_chunk.Chunk c w → stepped_chunk_of o ≡ x
     → chunk_step_result at end (ok (c, w)) ≡ chunk_step_result at end x
-chunk_stepped_lem at end o c w x = handed (chunk_step_result at end) stepped_chunk_of (λ (x : SdesChunk × ChunkWalk). steppedChunk.Chunk x.0 x.1) (λ x. refl) o (c, w) x
+chunk_stepped_lem at end o c w x = handed (chunk_step_result at end) stepped_chunk_of (λ (x : SdesChunk × ChunkWalk). stepped_chunk.Chunk x.0 x.1) (λ x. refl) o (c, w) x
 
 pub ruleset descriptions = (rules, start_priv, start_plain, parts_of, item_order, item_fits, prefix_none, prefix_some, step_order, step_fits, chunk_stepped_lem)
