@@ -57,6 +57,7 @@ impl App {
     }
 
     // Why it is refused; NothingLeft where it is not.
+    #[cold]
     pub fn why(s: &[u8]) -> RtcpParseError
         ensures { parse_refusal result ≡ refusal_in (read_as APP s.now) }
     {

@@ -61,6 +61,7 @@ pub fn size_of(subtype: u64, ssrc: u32, name: &[u8], data: &[u8], padding: u64) 
 }
 
 // Why there is no size; PacketTooLarge where there is one.
+#[cold]
 pub fn why_size(subtype: u64, ssrc: u32, name: &[u8], data: &[u8], padding: u64) -> RtcpWriteError
     ensures { write_refusal result ≡ size_refusal (calculate_size (give_app subtype ssrc name.now «data».now padding)) }
 {

@@ -69,6 +69,7 @@ pub fn size_of(sources: &[u32], reason: &[u8], padding: u64) -> usize
 }
 
 // Why there is no size; PacketTooLarge where there is one.
+#[cold]
 pub fn why_size(sources: &[u32], reason: &[u8], padding: u64) -> RtcpWriteError
     ensures { write_refusal result ≡ size_refusal (calculate_size (give_bye sources.now reason.now padding)) }
 {

@@ -36,6 +36,7 @@ pub fn size_of(ssrc: u32, types: &[u8], prefixes: &[u64], values: &[u64], bytes:
 }
 
 // Why it is refused; PacketTooLarge where it is not.
+#[cold]
 pub fn why_size(
     ssrc: u32,
     types: &[u8],

@@ -69,6 +69,7 @@ pub fn items_agree(types: &[u8], prefixes: &[u64], values: &[u64], bytes: &[u8])
 }
 
 // Why the first refused item is refused; PacketTooLarge where none is.
+#[cold]
 pub fn why_items_unchecked(types: &[u8], prefixes: &[u64], values: &[u64]) -> RtcpWriteError
     requires { SameLengths types.now prefixes.now values.now }
     ensures { write_refusal result ≡ items_refusal types.now prefixes.now values.now }

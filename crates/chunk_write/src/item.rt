@@ -50,6 +50,7 @@ pub fn size_of_lengths(item_type: u8, prefix_len: u64, value_len: u64) -> usize
 }
 
 // Why it is refused; PacketTooLarge where it is not.
+#[cold]
 pub fn why_lengths(item_type: u8, prefix_len: u64, value_len: u64) -> RtcpWriteError
     ensures { write_refusal result ≡ size_refusal (size_of item_type prefix_len value_len) }
 {
@@ -141,6 +142,7 @@ pub fn size_of(item_type: u8, prefix: &[u8], value: &[u8]) -> usize
 }
 
 // Why it is refused; PacketTooLarge where it is not.
+#[cold]
 pub fn why_size(item_type: u8, prefix: &[u8], value: &[u8]) -> RtcpWriteError
     ensures { write_refusal result ≡ size_refusal (item_size (lent item_type prefix.now value.now)) }
 {

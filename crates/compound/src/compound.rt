@@ -64,6 +64,7 @@ fn frame_len(rest: &[u8], first: bool) -> usize
 }
 
 // Why it is 0; NothingLeft where it is not.
+#[cold]
 fn why_frame(rest: &[u8], first: bool) -> RtcpParseError
     ensures { parse_refusal result ≡ refusal_in (frame first rest.now) }
 {
@@ -105,6 +106,7 @@ pub fn packet_len(s: &[u8], at: usize) -> usize
 }
 
 // Why packet_len is 0; NothingLeft where it is not.
+#[cold]
 pub fn why_len(s: &[u8], at: usize) -> RtcpParseError
     ensures { parse_refusal result ≡ refusal_in (frame_at s.now at) }
 {

@@ -86,6 +86,7 @@ impl Packet {
     }
 
     // Why it is refused; NothingLeft where it is not.
+    #[cold]
     pub fn why(s: &[u8]) -> RtcpParseError
         ensures { parse_refusal result ≡ refusal_in (read_as (kind_of (type_in s.now) (low_in s.now)) s.now) }
     {

@@ -49,6 +49,7 @@ impl Unknown {
     }
 
     // Why it is refused; NothingLeft where it is not.
+    #[cold]
     pub fn why(s: &[u8]) -> RtcpParseError
         ensures { parse_refusal result ≡ refusal_in (read_as UNKNOWN s.now) }
     {

@@ -100,6 +100,7 @@ impl Writer {
     }
 
     // Why it may not: 26, 29, 27, the packet's own refusal, then 10.
+    #[cold]
     pub fn why(
         self,
         packet_type: u8,

@@ -52,6 +52,7 @@ impl ReceiverReport {
     }
 
     // Why it is refused; NothingLeft where it is not.
+    #[cold]
     pub fn why(s: &[u8]) -> RtcpParseError
         ensures { parse_refusal result ≡ refusal_in (read_as RR s.now) }
     {

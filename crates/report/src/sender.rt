@@ -56,6 +56,7 @@ impl SenderReport {
     }
 
     // Why it is refused; NothingLeft where it is not.
+    #[cold]
     pub fn why(s: &[u8]) -> RtcpParseError
         ensures { parse_refusal result ≡ refusal_in (read_as SR s.now) }
     {

@@ -68,6 +68,7 @@ pub fn size_of_count(count: usize, loss: i32, padding: u64, least: u8) -> usize
 }
 
 // Why such a report has no size, however many bytes stand before its blocks; PacketTooLarge where it has one.
+#[cold]
 pub fn why_count(count: usize, loss: i32, padding: u64) -> RtcpWriteError
     ensures { write_refusal result ≡ size_refusal (counted_size 0 count loss padding) }
 {
@@ -121,6 +122,7 @@ pub fn size_of(fractions: &[u8], losses: &[i32], words: &[u32], padding: u64, le
 }
 
 // Why a report of lent blocks has no size, whoever reports; PacketTooLarge where it has one.
+#[cold]
 pub fn why_size(fractions: &[u8], losses: &[i32], words: &[u32], padding: u64) -> RtcpWriteError
     ensures { write_refusal result ≡ size_refusal (calculate_size (give_report (receiver 0) (block_lists fractions.now losses.now words.now) padding)) }
 {

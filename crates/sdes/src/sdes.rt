@@ -34,6 +34,7 @@ impl Sdes {
     pub const PACKET_TYPE: u8 = 202;
 
     // All 0, where the packet is refused.
+    #[inline(always)]
     pub fn read(s: &[u8]) -> Sdes
         ensures { result ≡ value_or no_sdes sdes_view (read_as SDES s.now) }
     {
@@ -70,6 +71,7 @@ impl Sdes {
     }
 
     // Why it is refused; NothingLeft where it is not.
+    #[cold]
     pub fn why(s: &[u8]) -> RtcpParseError
         ensures { parse_refusal result ≡ refusal_in (read_as SDES s.now) }
     {

@@ -178,6 +178,7 @@ pub struct Chunks {
 }
 
 // At most n chunks, up to one that is refused.
+#[inline(always)]
 pub fn chunks_end(rest: &[u8], n: usize) -> Chunks
     ensures { result ≡ chunks_from n 0 0 rest.now }
 {
@@ -203,6 +204,7 @@ impl SdesChunk {
     const LEAST: usize = 8;
 
     // All 0, where the chunk at the start of the rest of a body is refused.
+    #[inline(always)]
     pub fn read(rest: &[u8]) -> SdesChunk
         ensures { result ≡ value_or no_chunk chunk_first (read_chunk rest.now) }
     {
@@ -223,6 +225,7 @@ impl SdesChunk {
     }
 
     // Why it is refused; NothingLeft where it is not.
+    #[cold]
     pub fn why(rest: &[u8]) -> RtcpParseError
         ensures { parse_refusal result ≡ refusal_in (read_chunk rest.now) }
     {

@@ -109,6 +109,7 @@ pub fn item_of_unchecked(rest: &[u8]) -> SdesItem
 }
 
 // Why it is refused; NothingLeft where it is not.
+#[cold]
 pub fn why_item(rest: &[u8]) -> RtcpParseError
     ensures { parse_refusal result ≡ refusal_in (read_item rest.now) }
 {

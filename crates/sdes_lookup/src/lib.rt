@@ -34,6 +34,7 @@ fn blank(answers: &mut [u8], n: usize)
 }
 
 // Chunk k, with this SSRC and a CNAME, is the answer where there is none yet. Says how many have none after it.
+#[inline(never)]
 fn mark(answers: &mut [u8], ssrcs: &[u32], ssrc: u32, k: u8, unanswered: usize) -> usize
     requires { (length ssrcs.now ≤ length answers.old) × (k < 255) × (unanswered ≡ unanswered_in (length ssrcs.now) answers.old) }
     ensures { (answers.new ≡ marked k ssrc ssrcs.now answers.old) × (result ≡ unanswered_in (length ssrcs.now) answers.new) }

@@ -93,6 +93,7 @@ pub fn size_of(
 }
 
 // Why it is refused; PacketTooLarge where it is not.
+#[cold]
 pub fn why_size(
     ssrcs: &[u32],
     counts: &[u64],

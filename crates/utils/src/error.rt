@@ -63,6 +63,7 @@ fn coded(number: u64, first: u64, second: u64) -> Code
 }
 
 impl RtcpParseError {
+    #[cold]
     pub fn code(self) -> Code
         ensures { code_refusal result ≡ parse_refusal self }
     {
@@ -92,6 +93,7 @@ impl RtcpParseError {
 }
 
 impl RtcpWriteError {
+    #[cold]
     pub fn code(self) -> Code
         ensures { code_refusal result ≡ write_refusal self }
     {

@@ -168,6 +168,7 @@ pub fn body_if(s: &[u8], min_packet_len: usize, wanted: bool) -> usize
 }
 
 // Why body_if is 0; NothingLeft where it is not.
+#[cold]
 pub fn why_header_if(
     s: &[u8],
     min_packet_len: usize,
@@ -220,6 +221,7 @@ pub fn body_of(s: &[u8], min_packet_len: usize, packet_type: u8) -> usize
 }
 
 // Why body_of is 0; NothingLeft where it is not.
+#[cold]
 pub fn why_header(s: &[u8], min_packet_len: usize, packet_type: u8) -> RtcpParseError
     requires { 4 ≤ min_packet_len }
     ensures { parse_refusal result ≡ refusal_in (check_header min_packet_len (eqb (type_in s.now) packet_type) (type_in s.now, packet_type) s.now) }
