@@ -17,4 +17,4 @@ overflow_add-result-3 c = omega (arith, padding_most c.check_padding.result c.ar
 
 pub returns : goal.returns
 returns c = let a = c.args in
-    bye_size a.sources.now a.reason.now a.padding c.check_padding.result c.if-count-gt-MAX_COUNT.false c.check_padding.ensures c.if-not-check_padding.false c.if-reason-gt-MAX_REASON_LEN.false c.reason_size.result c.reason_size.ensures.0
+    bye_size a.sources.now a.reason.now a.padding c.check_padding.result c.if-count-gt-MAX_COUNT.false c.check_padding.ensures c.if-not-check_padding.false (omega arith) c.reason_size.result c.reason_size.ensures.0
