@@ -1,3 +1,2 @@
 pub mod Apps
-pub mod Injective
 pub mod Writes

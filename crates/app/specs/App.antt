@@ -4,12 +4,6 @@ use Rattle.rfc3550.specs.Answer.{Answer, ok, refused}
 use Rattle.rfc3550.specs.Packet.{Content, report, sdes, bye, app, unknown, Packet, low_bits}
 use Rattle.utils.specs.Error.{parse_refusal}
 use Rattle.app.specs.declared.App.{App}
-use Rattle.app.specs.declared.ParsedApp.{ParsedApp}
-use Rattle.app.specs.declared.ParsedApp.TheVariants as parsed
-
-abbrev pub parsed_of : ParsedApp → Answer App
-parsed_of (parsed.App a) = ok a
-parsed_of (parsed.Refused e) = refused (parse_refusal e)
 
 abbrev pub ssrc_of : Content → ℕ
 ssrc_of (report r bs extension) = 0

@@ -6,8 +6,8 @@ pub mod write;
 ghost use Rattle.std.specs.Prelude.{◌≡◌, ◌-◌, take, drop};
 ghost use Rattle.rfc3550.specs.Answer.{map_ok};
 ghost use Rattle.rfc3550.specs.Read.{APP, read_as};
-ghost use Rattle.utils.specs.Error.{parse_refusal, refusal_in, value_or};
-ghost use Rattle.app.specs.App.{parsed_of, app_view, no_app};
+ghost use Rattle.utils.specs.Error.{parse_refusal, refusal_in, value_or, parsed_of};
+ghost use Rattle.app.specs.App.{app_view, no_app};
 
 use utils::error::RtcpParseError;
 
@@ -18,12 +18,6 @@ pub struct App {
     pub subtype: u8,
     pub body: usize,
     pub padding_len: usize,
-}
-
-#[derive(Clone, Copy)]
-pub enum ParsedApp {
-    App(App),
-    Refused(RtcpParseError),
 }
 
 impl App {
@@ -64,14 +58,14 @@ impl App {
         utils::parser::why_header(s, App::MIN_PACKET_LEN, App::PACKET_TYPE)
     }
 
-    pub fn parse(s: &[u8]) -> ParsedApp
+    pub fn parse(s: &[u8]) -> Result<App, RtcpParseError>
         ensures { parsed_of result ≡ map_ok app_view (read_as APP s.now) }
     {
         let app = App::read(s);
         if app.body == 0 {
-            return ParsedApp::Refused(App::why(&s[0..]));
+            return Err(App::why(&s[0..]));
         }
-        ParsedApp::App(app)
+        Ok(app)
     }
 
     pub fn name(self, s: &[u8]) -> &[u8]

@@ -10,7 +10,6 @@ ghost use Rattle.app.specs.Write.{AppFits, name_ok};
 use crate::App;
 use utils::error::RtcpWriteError;
 use utils::writer;
-use utils::writer::Written;
 
 fn is_ascii(name: &[u8]) -> bool
     ensures { result ≡ ascii name.now }
@@ -85,14 +84,14 @@ pub fn why_size(subtype: u64, ssrc: u32, name: &[u8], data: &[u8], padding: u64)
 }
 
 // The size of an APP, or why it is refused.
-pub fn calculate_size(subtype: u64, ssrc: u32, name: &[u8], data: &[u8], padding: u64) -> Written
+pub fn calculate_size(subtype: u64, ssrc: u32, name: &[u8], data: &[u8], padding: u64) -> Result<usize, RtcpWriteError>
     ensures { written_of result ≡ calculate_size (give_app subtype ssrc name.now «data».now padding) }
 {
     let size = size_of(subtype, ssrc, name, data, padding);
     if size == 0 {
-        return Written::Refused(why_size(subtype, ssrc, &name[0..], &data[0..], padding));
+        return Err(why_size(subtype, ssrc, &name[0..], &data[0..], padding));
     }
-    Written::Size(size)
+    Ok(size)
 }
 
 // Lays an APP that has this size at the start of buf.
@@ -126,16 +125,16 @@ pub fn write_into(
     name: &[u8],
     data: &[u8],
     padding: u64,
-) -> Written
+) -> Result<usize, RtcpWriteError>
     ensures { (written_of result, buf.new) ≡ write (give_app subtype ssrc name.now «data».now padding) buf.old }
 {
     let size = size_of(subtype, ssrc, name, data, padding);
     if size == 0 {
-        return Written::Refused(why_size(subtype, ssrc, &name[0..], &data[0..], padding));
+        return Err(why_size(subtype, ssrc, &name[0..], &data[0..], padding));
     }
     if buf.len() < size {
-        return Written::Refused(RtcpWriteError::OutputTooSmall(size as u64));
+        return Err(RtcpWriteError::OutputTooSmall(size as u64));
     }
     write_into_unchecked(buf, subtype, ssrc, name, data, padding, size);
-    Written::Size(size)
+    Ok(size)
 }

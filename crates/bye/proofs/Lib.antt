@@ -1,3 +1,2 @@
 pub mod Byes
-pub mod Injective
 pub mod Writes

@@ -5,18 +5,6 @@ use Rattle.rfc3550.specs.Packet.{Leaving, no_reason, reason, Content, report, sd
 use Rattle.rfc3550.specs.Read.{sources_of}
 use Rattle.utils.specs.Error.{parse_refusal}
 use Rattle.bye.specs.declared.Bye.{Bye}
-use Rattle.bye.specs.declared.ParsedBye.{ParsedBye}
-use Rattle.bye.specs.declared.ParsedBye.TheVariants as parsed
-use Rattle.bye.specs.declared.ParsedSource.{ParsedSource}
-use Rattle.bye.specs.declared.ParsedSource.TheVariants as source
-
-abbrev pub parsed_of : ParsedBye → Answer Bye
-parsed_of (parsed.Bye b) = ok b
-parsed_of (parsed.Refused e) = refused (parse_refusal e)
-
-abbrev pub source_of : ParsedSource → Answer ℕ
-source_of (source.Source ssrc) = ok ssrc
-source_of (source.Refused e) = refused (parse_refusal e)
 
 -- what follows the sources
 abbrev pub leaving : Content → Leaving

@@ -6,8 +6,8 @@ pub mod write;
 ghost use Rattle.std.specs.Prelude.{◌≡◌, ◌+◌, ◌-◌, take, drop};
 ghost use Rattle.rfc3550.specs.Answer.{map_ok};
 ghost use Rattle.rfc3550.specs.Read.{BYE, read_as, read_source_at};
-ghost use Rattle.utils.specs.Error.{parse_refusal, refusal_in, value_or};
-ghost use Rattle.bye.specs.Bye.{parsed_of, bye_view, no_bye, source_of};
+ghost use Rattle.utils.specs.Error.{parse_refusal, refusal_in, value_or, parsed_of};
+ghost use Rattle.bye.specs.Bye.{bye_view, no_bye};
 
 use utils::error::RtcpParseError;
 
@@ -21,18 +21,6 @@ pub struct Bye {
     pub reason_len: usize,
     pub body: usize,
     pub padding_len: usize,
-}
-
-#[derive(Clone, Copy)]
-pub enum ParsedBye {
-    Bye(Bye),
-    Refused(RtcpParseError),
-}
-
-#[derive(Clone, Copy)]
-pub enum ParsedSource {
-    Source(u32),
-    Refused(RtcpParseError),
 }
 
 impl Bye {
@@ -120,28 +108,28 @@ impl Bye {
         RtcpParseError::NothingLeft
     }
 
-    pub fn parse(s: &[u8]) -> ParsedBye
+    pub fn parse(s: &[u8]) -> Result<Bye, RtcpParseError>
         ensures { parsed_of result ≡ map_ok bye_view (read_as BYE s.now) }
     {
         let bye = Bye::read(s);
         if bye.body == 0 {
-            return ParsedBye::Refused(Bye::why(&s[0..]));
+            return Err(Bye::why(&s[0..]));
         }
-        ParsedBye::Bye(bye)
+        Ok(bye)
     }
 
     // The source with an index, from 0.
-    pub fn source(s: &[u8], i: usize) -> ParsedSource
-        ensures { source_of result ≡ read_source_at s.now i }
+    pub fn source(s: &[u8], i: usize) -> Result<u32, RtcpParseError>
+        ensures { parsed_of result ≡ read_source_at s.now i }
     {
         let bye = Bye::read(s);
         if bye.body == 0 {
-            return ParsedSource::Refused(Bye::why(&s[0..]));
+            return Err(Bye::why(&s[0..]));
         }
         if bye.n_sources <= i {
-            return ParsedSource::Refused(RtcpParseError::NothingLeft);
+            return Err(RtcpParseError::NothingLeft);
         }
-        ParsedSource::Source(utils::parser::u32_from_be_bytes(s, Bye::MIN_PACKET_LEN + 4 * i))
+        Ok(utils::parser::u32_from_be_bytes(s, Bye::MIN_PACKET_LEN + 4 * i))
     }
 
     pub fn reason(self, s: &[u8]) -> &[u8]

@@ -10,7 +10,6 @@ ghost use Rattle.bye.specs.Write.{sources_bytes, ByeFits};
 use crate::Bye;
 use utils::error::RtcpWriteError;
 use utils::writer;
-use utils::writer::Written;
 
 const MAX_REASON_LEN: usize = 255;
 
@@ -94,14 +93,14 @@ pub fn why_size(sources: &[u32], reason: &[u8], padding: u64) -> RtcpWriteError
 }
 
 // The size of a BYE, or why it is refused.
-pub fn calculate_size(sources: &[u32], reason: &[u8], padding: u64) -> Written
+pub fn calculate_size(sources: &[u32], reason: &[u8], padding: u64) -> Result<usize, RtcpWriteError>
     ensures { written_of result ≡ calculate_size (give_bye sources.now reason.now padding) }
 {
     let size = size_of(sources, reason, padding);
     if size == 0 {
-        return Written::Refused(why_size(&sources[0..], &reason[0..], padding));
+        return Err(why_size(&sources[0..], &reason[0..], padding));
     }
-    Written::Size(size)
+    Ok(size)
 }
 
 // Lays a BYE that has this size at the start of buf.
@@ -124,16 +123,16 @@ pub fn write_into_unchecked(
 }
 
 // Writes a BYE at the start of buf.
-pub fn write_into(buf: &mut [u8], sources: &[u32], reason: &[u8], padding: u64) -> Written
+pub fn write_into(buf: &mut [u8], sources: &[u32], reason: &[u8], padding: u64) -> Result<usize, RtcpWriteError>
     ensures { (written_of result, buf.new) ≡ write (give_bye sources.now reason.now padding) buf.old }
 {
     let size = size_of(sources, reason, padding);
     if size == 0 {
-        return Written::Refused(why_size(&sources[0..], &reason[0..], padding));
+        return Err(why_size(&sources[0..], &reason[0..], padding));
     }
     if buf.len() < size {
-        return Written::Refused(RtcpWriteError::OutputTooSmall(size as u64));
+        return Err(RtcpWriteError::OutputTooSmall(size as u64));
     }
     write_into_unchecked(buf, sources, reason, padding, size);
-    Written::Size(size)
+    Ok(size)
 }

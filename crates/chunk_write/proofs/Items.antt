@@ -1,4 +1,5 @@
 -- The cases of an item's size and bytes, each from what the code has tested or called.
+use Rattle.std.specs.Prelude.{Ok}
 use Rattle.rfc3550.proofs.Prelude.{ℕ, suc, ◌+◌, ◌-◌, ◌<◌, ◌≤◌, ◌≡◌, refl, sym, ap, ◌∙◌, Bool, true, false, ◌||◌, ◌&&◌, not, List, [], ◌∷◌, ◌++◌, arith, le-leb, lt-leb, leb-true, eq-eqb, ne_eqb, eqb-true, eqb-false, not-true, not-false, length, take, drop, set, length-append, take-append-drop, length-take-le, leb, eqb}
 use Rattle.rfc3550.specs.Answer.{Refusal, Answer, ok, refused, refusal, need, ◌>>◌, ◌>>=◌, pick}
 use Rattle.rfc3550.specs.Bytes.{store}
@@ -7,7 +8,6 @@ use Rattle.rfc3550.specs.Write.{item_given, item_tests, item_size, room, written
 use Rattle.rfc3550.proofs.Answers.{need_inv, and_inv, ok_injective}
 use Rattle.utils.specs.Error.{or_zero}
 use Rattle.utils.specs.Writer.{size_refusal}
-use Rattle.utils.specs.declared.writer.Written.TheVariants.{Size}
 use Rattle.utils.proofs.WriterCases.{writer}
 use Rattle.utils.proofs.WriterStores.{store_puts, store_store}
 use Rattle.utils.proofs.Parts.{lent_again}
@@ -245,11 +245,11 @@ module _ (t : ℕ) (p v : List ℕ) where
 
       pub item_short : (l : List ℕ) → length l < n → (refused (refusal 10 n 0), l) ≡ write_item (lent t p v) l
       unfolding write_item
-      item_short l f = short_written (Size n) _ _ l item_sized n refl f
+      item_short l f = short_written (Ok n) _ _ l item_sized n refl f
 
       pub item_done : (l l₁ : List ℕ) → n ≤ length l → l₁ ≡ store 0 (item_bytes (item_given (lent t p v))) l → (ok n, l₁) ≡ write_item (lent t p v) l
       unfolding write_item
-      item_done l l₁ f e = done_written (Size n) _ _ l item_sized n l₁ refl f e
+      item_done l l₁ f e = done_written (Ok n) _ _ l item_sized n l₁ refl f e
 
 -- the lists lent again
 pub item_why_lent : (t : ℕ) (p v : List ℕ) (k : Refusal) → k ≡ size_refusal (item_size (lent t (take (length p - 0) p) (take (length v - 0) v))) → k ≡ size_refusal (item_size (lent t p v))

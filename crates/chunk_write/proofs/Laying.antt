@@ -1,4 +1,5 @@
 -- The cases of items and chunks laid one after the other, and of a lone chunk, each from what the code has tested or called.
+use Rattle.std.specs.Prelude.{Ok}
 use Rattle.rfc3550.proofs.Prelude.{ℕ, suc, ◌+◌, ◌-◌, ◌*◌, ◌%◌, ◌<◌, ◌≤◌, ◌^◌, ◌≡◌, refl, sym, ap, ◌∙◌, Bool, true, false, List, [], ◌∷◌, ◌++◌, append-nil, add-zero, add_assoc, zero-add, add-sub_cancel_left, add-one, arith, eq-eqb, ne_eqb, eqb-true, eqb-false, length, take, drop, get_or, replicate, length-append, length-take, length-drop, length-replicate, drop_of_length-le, drop-cons, drop-drop, get_or-drop, get_or-take, take_all, take-take, length-take-le, leb, eqb}
 use Rattle.rfc3550.specs.Answer.{Refusal, Answer, ok, refused, refusal, need, ◌>>◌, pick}
 use Rattle.rfc3550.specs.Bytes.{be, sum, store}
@@ -8,7 +9,6 @@ use Rattle.rfc3550.proofs.Answers.{need_inv, then_inv, ok_injective}
 use Rattle.rfc3550.proofs.Bytes.{length_be, length_store}
 use Rattle.utils.specs.Error.{or_zero}
 use Rattle.utils.specs.Writer.{size_refusal}
-use Rattle.utils.specs.declared.writer.Written.TheVariants.{Size}
 use Rattle.utils.proofs.Parts.{lent_again, drop_take}
 use Rattle.utils.proofs.Values.{number_came}
 use Rattle.utils.proofs.WriterStores.{store_nil, store_store, store_part}
@@ -546,11 +546,11 @@ module _ (ssrc : ℕ) (ts ps vs bs : List ℕ) where
 
       pub lone_short : (l : List ℕ) → length l < n → (refused (refusal 10 n 0), l) ≡ write_chunk ssrc ts ps vs bs l
       unfolding write_chunk
-      lone_short l f = short_written (Size n) _ _ l lone_sized n refl f
+      lone_short l f = short_written (Ok n) _ _ l lone_sized n refl f
 
       pub lone_done : (l l₁ : List ℕ) → n ≤ length l → l₁ ≡ store 0 (laid_chunk ssrc ts ps vs bs) l → (ok n, l₁) ≡ write_chunk ssrc ts ps vs bs l
       unfolding write_chunk
-      lone_done l l₁ f e = done_written (Size n) _ _ l lone_sized n l₁ refl f e
+      lone_done l l₁ f e = done_written (Ok n) _ _ l lone_sized n l₁ refl f e
 
   -- the lists lent again
   pub lone_why_lent : (k : Refusal) → k ≡ size_refusal (chunk_size ssrc (take (length ts - 0) ts) (take (length ps - 0) ps) (take (length vs - 0) vs) (take (length bs - 0) bs)) → k ≡ size_refusal (chunk_size ssrc ts ps vs bs)

@@ -8,7 +8,7 @@ ghost use Rattle.chunk_write.specs.Lists.{laid_chunk, ChunkFits};
 
 use crate::chunks;
 use utils::error::RtcpWriteError;
-use utils::writer::{MAX_PACKET_LEN, Written};
+use utils::writer::MAX_PACKET_LEN;
 
 // What a packet of the greatest length has behind its header.
 const MAX_CHUNK_LEN: usize = MAX_PACKET_LEN - 4;
@@ -59,12 +59,12 @@ pub fn calculate_size(
     prefixes: &[u64],
     values: &[u64],
     bytes: &[u8],
-) -> Written
+) -> Result<usize, RtcpWriteError>
     ensures { written_of result ≡ chunk_size ssrc types.now prefixes.now values.now bytes.now }
 {
     let size = size_of(ssrc, types, prefixes, values, bytes);
     if size == 0 {
-        return Written::Refused(why_size(
+        return Err(why_size(
             ssrc,
             &types[0..],
             &prefixes[0..],
@@ -72,7 +72,7 @@ pub fn calculate_size(
             &bytes[0..],
         ));
     }
-    Written::Size(size)
+    Ok(size)
 }
 
 // Lays a chunk that has a size at the start of buf.
@@ -100,12 +100,12 @@ pub fn write_into(
     prefixes: &[u64],
     values: &[u64],
     bytes: &[u8],
-) -> Written
+) -> Result<usize, RtcpWriteError>
     ensures { (written_of result, buf.new) ≡ write_chunk ssrc types.now prefixes.now values.now bytes.now buf.old }
 {
     let size = size_of(ssrc, types, prefixes, values, bytes);
     if size == 0 {
-        return Written::Refused(why_size(
+        return Err(why_size(
             ssrc,
             &types[0..],
             &prefixes[0..],
@@ -114,8 +114,8 @@ pub fn write_into(
         ));
     }
     if buf.len() < size {
-        return Written::Refused(RtcpWriteError::OutputTooSmall(size as u64));
+        return Err(RtcpWriteError::OutputTooSmall(size as u64));
     }
     write_into_unchecked(buf, ssrc, types, prefixes, values, bytes);
-    Written::Size(size)
+    Ok(size)
 }

@@ -10,7 +10,6 @@ ghost use Rattle.chunk_write.specs.Sizes.{lent, size_of, item_length, priv_head,
 use sdes_chunk::item::SdesItem;
 use utils::error::RtcpWriteError;
 use utils::writer;
-use utils::writer::Written;
 
 // What the length of an item states; of a PRIV item one byte less is prefix and value.
 const MAX_VALUE_LEN: u64 = 255;
@@ -150,27 +149,27 @@ pub fn why_size(item_type: u8, prefix: &[u8], value: &[u8]) -> RtcpWriteError
 }
 
 // The size of a lone item, or why it is refused.
-pub fn calculate_size(item_type: u8, prefix: &[u8], value: &[u8]) -> Written
+pub fn calculate_size(item_type: u8, prefix: &[u8], value: &[u8]) -> Result<usize, RtcpWriteError>
     ensures { written_of result ≡ item_size (lent item_type prefix.now value.now) }
 {
     let size = size_of(item_type, prefix, value);
     if size == 0 {
-        return Written::Refused(why_size(item_type, &prefix[0..], &value[0..]));
+        return Err(why_size(item_type, &prefix[0..], &value[0..]));
     }
-    Written::Size(size)
+    Ok(size)
 }
 
 // Writes a lone item at the start of buf.
-pub fn write_into(buf: &mut [u8], item_type: u8, prefix: &[u8], value: &[u8]) -> Written
+pub fn write_into(buf: &mut [u8], item_type: u8, prefix: &[u8], value: &[u8]) -> Result<usize, RtcpWriteError>
     ensures { (written_of result, buf.new) ≡ write_item (lent item_type prefix.now value.now) buf.old }
 {
     let size = size_of(item_type, prefix, value);
     if size == 0 {
-        return Written::Refused(why_size(item_type, &prefix[0..], &value[0..]));
+        return Err(why_size(item_type, &prefix[0..], &value[0..]));
     }
     if buf.len() < size {
-        return Written::Refused(RtcpWriteError::OutputTooSmall(size as u64));
+        return Err(RtcpWriteError::OutputTooSmall(size as u64));
     }
     let _ = write_into_unchecked(buf, item_type, prefix, value);
-    Written::Size(size)
+    Ok(size)
 }

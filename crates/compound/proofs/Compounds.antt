@@ -1,4 +1,5 @@
 -- A datagram: the steps of a packet's frame, the packet behind it, and the loop over the packets.
+use Rattle.std.specs.Prelude.{Result, Ok, Err}
 use Rattle.rfc3550.proofs.Prelude.{rules, ◌≡◌, refl, sym, ap, ◌∙◌, subst, Bool, true, false, ◌||◌, not, List, [], ◌∷◌, ℕ, zero, suc, ◌+◌, ◌-◌, ◌<◌, ◌≤◌, ◌^◌, zero-add, add-zero, arith, lt-leb, le-leb, lt-ltb, le-ltb, eq-eqb, ne_eqb, eqb-true, leb-true, ltb-true, not-true, not-false, length, take, drop, get_or, length-drop, drop_of_length-le, length-take-le, take_all, drop-drop, get_or-take, drop-cons, eqb, ltb}
 use Rattle.rfc3550.specs.Answer.{Refusal, refusal, Answer, ok, refused, refuse, need, ◌>>◌, ◌>>=◌, map_ok, pick}
 use Rattle.rfc3550.specs.Packet.{Packet as Read, has_cname, some}
@@ -7,20 +8,15 @@ use Rattle.rfc3550.specs.Compound.{read_packet, read_packets, read_compound}
 use Rattle.rfc3550.specs.Walk.{open_walk, step}
 use Rattle.rfc3550.proofs.Answers.{need_inv, ok_injective, map_ok_inv, or_assoc}
 use Rattle.rfc3550.proofs.Compounds.{packet_span, packets_turns}
-use Rattle.utils.specs.Error.{refusal_in, value_or, or_zero}
+use Rattle.utils.specs.Error.{parse_refusal, refusal_in, value_or, or_zero, parsed_of}
 use Rattle.utils.specs.declared.error.RtcpParseError.{RtcpParseError}
 use Rattle.utils.proofs.Reading.{map_ok_refused}
+use Rattle.utils.proofs.Errors.{parse_handed}
 use Rattle.utils.proofs.Values.{value_came, none_came, number_came}
-use Rattle.compound.specs.Packet.{packet_view, parsed_of, verdict_of, verdict}
-use Rattle.compound.specs.Compound.{padding_last, report_first, frame, frame_at, checked_of, with_length, compound_view, parsed_compound_of, walk_at, step_view}
+use Rattle.compound.specs.Packet.{packet_view, verdict_of, verdict}
+use Rattle.compound.specs.Compound.{padding_last, report_first, frame, frame_at, with_length, compound_view, walk_at, step_view}
 use Rattle.compound.specs.declared.packet.Packet.{Packet}
-use Rattle.compound.specs.declared.packet.ParsedPacket.{ParsedPacket}
-use Rattle.compound.specs.declared.packet.ParsedPacket.TheVariants as parsed
-use Rattle.compound.specs.declared.compound.CheckedPacket.{CheckedPacket}
-use Rattle.compound.specs.declared.compound.CheckedPacket.TheVariants as checked
 use Rattle.compound.specs.declared.compound.Compound.{Compound}
-use Rattle.compound.specs.declared.compound.ParsedCompound.{ParsedCompound}
-use Rattle.compound.specs.declared.compound.ParsedCompound.TheVariants as compound
 
 -- ---- the two tests of the frame
 
@@ -312,21 +308,17 @@ next_came s at n c h b k w =
           (cons c n w.packet (read_packets (length s) (drop (at + stated (drop at s)) s)));
     }
 
-module _ (s : List ℕ) (at n : ℕ) (c : Bool) (h : at < length s) (q : CheckedPacket)
-    (g : checked_of q ≡ map_ok (with_length has_cname (take (length s - at) (drop at s))) (read_packet (eqb at 0) (take (length s - at) (drop at s)))) where
-  there : checked_of q ≡ map_ok (with_length has_cname (drop at s)) (read_packet (eqb at 0) (drop at s))
-  there = here has_cname s at (checked_of q) g
+-- what the check answers of the rest as a part
+abbrev asked : List ℕ → ℕ → Answer (Bool × ℕ)
+asked s at = map_ok (with_length has_cname (take (length s - at) (drop at s))) (read_packet (eqb at 0) (take (length s - at) (drop at s)))
 
-  turn_refused : (v : RtcpParseError) (r : Refusal) → q ≡ checked.Refused v → r ≡ refusal_in (checked_of q) → refused r ≡ finish c n (from s at)
+module _ (s : List ℕ) (at n : ℕ) (c : Bool) (h : at < length s) where
+  turn_refused : (r : Refusal) → refused r ≡ asked s at → refused r ≡ finish c n (from s at)
   unfolding finish ◌>>=◌
-  turn_refused v r e z =
-      rw (
-        from_at s at h,
-        gone has_cname (eqb at 0) (drop at s) (checked_of q) r there (ap checked_of e ∙ ap refused (sym (z ∙ ap (λ (q : CheckedPacket). refusal_in (checked_of q)) e))),
-      )
+  turn_refused r g = rw (from_at s at h, gone has_cname (eqb at 0) (drop at s) (refused r) r (here has_cname s at (refused r) g) refl)
 
-  turn_next : (b : Bool) (k : ℕ) → q ≡ checked.Packet b k → Next s at n c b k
-  turn_next b k e = next_came s at n c h b k (came has_cname (eqb at 0) (drop at s) (checked_of q) b k there (ap checked_of e))
+  turn_next : (b : Bool) (k : ℕ) → ok (b, k) ≡ asked s at → Next s at n c b k
+  turn_next b k g = next_came s at n c h b k (came has_cname (eqb at 0) (drop at s) (ok (b, k)) b k (here has_cname s at (ok (b, k)) g) refl)
 
 -- at the end
 none_left : (f : ℕ) → read_packets f [] ≡ ok []
@@ -368,25 +360,22 @@ module _ (s : List ℕ) (at n : ℕ) (c : Bool) (g : Loop s at n c) where
   pub loop_unnamed : length s ≤ at → c ≡ false → refuse 8 0 0 ≡ answer s
   loop_unnamed l z = unnamed_end s at n c g.some (omega (arith, g.within)) z ∙ g.same
 
-  module _ (h : at < length s) (q : CheckedPacket)
-      (e : checked_of q ≡ map_ok (with_length has_cname (take (length s - at) (drop at s))) (read_packet (eqb at 0) (take (length s - at) (drop at s)))) where
-    pub loop_refused : (v : RtcpParseError) (r : Refusal) → q ≡ checked.Refused v → r ≡ refusal_in (checked_of q) → refused r ≡ answer s
-    loop_refused v r w z = turn_refused s at n c h q e v r w z ∙ g.same
+  module _ (h : at < length s) where
+    pub loop_refused : (r : Refusal) → refused r ≡ asked s at → refused r ≡ answer s
+    loop_refused r w = turn_refused s at n c h r w ∙ g.same
 
-    module _ (b : Bool) (k : ℕ) (w : q ≡ checked.Packet b k) where
+    module _ (b : Bool) (k : ℕ) (w : ok (b, k) ≡ asked s at) where
       pub loop_fits : length s < 2 ^ 64 → at + k < 2 ^ 64
-      loop_fits l = let x = turn_next s at n c h q e b k w in omega arith
+      loop_fits l = let x = turn_next s at n c h b k w in omega arith
 
       pub loop_counts : length s < 2 ^ 64 → n + 1 < 2 ^ 64
       loop_counts l = omega (arith, g.count)
 
       pub loop_less : length s - (at + k) < length s - at
-      loop_less = let x = turn_next s at n c h q e b k w in omega arith
+      loop_less = let x = turn_next s at n c h b k w in omega arith
 
-      pub loop_again : (d : Bool) → d ≡ (c || b) → Loop s (at + k) (n + 1) d
-      loop_again d f =
-          let x = turn_next s at n c h q e b k w in
-          record { some = g.some; within = x.within; count = omega (arith, g.count); same = rw f (x.same ∙ g.same) }
+      pub loop_again : Loop s (at + k) (n + 1) (c || b)
+      loop_again = let x = turn_next s at n c h b k w in record { some = g.some; within = x.within; count = omega (arith, g.count); same = x.same ∙ g.same }
 
 -- ---- a walk
 
@@ -461,26 +450,23 @@ module _ (s : List ℕ) (at : ℕ) where
           go (ok p) = refl
           go (refused r) = refl
 
-      module _ (q : ParsedPacket) (g : parsed_of q ≡ map_ok packet_view there_read) where
-        pub step_refused : (v : RtcpParseError) (r : Refusal) → q ≡ parsed.Refused v → r ≡ refusal_in (parsed_of q) → refused r ≡ map_ok step_view (step s at)
-        unfolding map_ok
-        step_refused v r e w = stepped (refused r) (ap refused (w ∙ ap (λ (q : ParsedPacket). refusal_in (parsed_of q)) e) ∙ sym (ap parsed_of e) ∙ g)
+      pub step_refused : (r : Refusal) → refused r ≡ map_ok packet_view there_read → refused r ≡ map_ok step_view (step s at)
+      unfolding map_ok
+      step_refused r e = stepped (refused r) e
 
-        pub step_some : (p : Packet) → q ≡ parsed.Packet p → ok (p, walk_at (at + n)) ≡ map_ok step_view (step s at)
-        unfolding map_ok
-        step_some p e = stepped (ok p) (sym (ap parsed_of e) ∙ g)
+      pub step_some : (p : Packet) → ok p ≡ map_ok packet_view there_read → ok (p, walk_at (at + n)) ≡ map_ok step_view (step s at)
+      unfolding map_ok
+      step_some p e = stepped (ok p) e
 
-module _ (s : List ℕ) (q : ParsedCompound) (g : parsed_compound_of q ≡ answer s) where
-  pub open_refused : (v : RtcpParseError) (r : Refusal) → q ≡ compound.Refused v → r ≡ refusal_in (parsed_compound_of q) → refused r ≡ map_ok walk_at (open_walk s)
+module _ (s : List ℕ) where
+  pub open_refused : (r : Refusal) → refused r ≡ answer s → refused r ≡ map_ok walk_at (open_walk s)
   unfolding open_walk ◌>>=◌ map_ok
-  open_refused v r e z =
-      let w : map_ok compound_view (read_compound s) ≡ refused r = sym g ∙ ap parsed_compound_of e ∙ ap refused (sym (z ∙ ap (λ (q : ParsedCompound). refusal_in (parsed_compound_of q)) e)) in
-      rw (map_ok_refused compound_view (read_compound s) w)
+  open_refused r g = rw (map_ok_refused compound_view (read_compound s) (sym g))
 
-  pub open_ok : (x : Compound) → q ≡ compound.Compound x → ok (walk_at 0) ≡ map_ok walk_at (open_walk s)
+  pub open_ok : (x : Compound) → ok x ≡ answer s → ok (walk_at 0) ≡ map_ok walk_at (open_walk s)
   unfolding open_walk ◌>>=◌ map_ok
-  open_ok x e = rw (map_ok_inv compound_view (read_compound s) (sym g ∙ ap parsed_compound_of e)).1
+  open_ok x g = rw (map_ok_inv compound_view (read_compound s) (sym g)).1
 
 pub ruleset frames = (rules, not-true, not-false, padding_set, padding_clear, later, sender_first, receiver_first, frame_short_len, frame_short_why, frame_version_len, frame_version_why, frame_past_len, frame_past_why, frame_padding_len, frame_padding_why, frame_report_len, frame_report_why, frame_passed_len, frame_passed_why, frame_refused, frame_within, frame_length, verdict_refused, verdict_passed)
 
-pub ruleset compounds = (rules, not-true, not-false, no_byte, loop_start, loop_named, loop_unnamed, loop_refused, loop_fits, loop_counts, loop_less, loop_again, len_none, len_none_why, len_here, len_here_why, step_none, step_start, step_within, step_fits, step_refused, step_some, open_refused, open_ok)
+pub ruleset compounds = (rules, parse_handed, not-true, not-false, no_byte, loop_start, loop_named, loop_unnamed, loop_refused, loop_fits, loop_counts, loop_less, loop_again, len_none, len_none_why, len_here, len_here_why, step_none, step_start, step_within, step_fits, step_refused, step_some, open_refused, open_ok)

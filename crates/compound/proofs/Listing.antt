@@ -1,4 +1,6 @@
 -- The packets of an accepted datagram as rows of three numbers, laid into a list.
+use Rattle.std.specs.Prelude.{Result}
+use Rattle.std.specs.Result.{IsErrAnd}
 use Rattle.rfc3550.proofs.Prelude.{rules, ◌≡◌, refl, sym, ap, ◌∙◌, subst, List, [], ◌∷◌, ◌++◌, ℕ, suc, ◌+◌, ◌-◌, ◌*◌, ◌<◌, ◌≤◌, ◌^◌, arith, length, take, drop, set, get_or, length-append, length-drop, drop-drop, drop-append_seam}
 use Rattle.rfc3550.specs.Answer.{Refusal, refusal, ok, refused, map_ok}
 use Rattle.rfc3550.specs.Bytes.{store}
@@ -9,16 +11,16 @@ use Rattle.rfc3550.proofs.Answers.{map_ok_inv}
 use Rattle.rfc3550.proofs.Bytes.{length_store, bytes_each}
 use Rattle.rfc3550.proofs.Packets.{length_layout}
 use Rattle.rfc3550.proofs.Compounds.{follow_stated, compound_sound}
-use Rattle.utils.specs.Error.{refusal_in}
-use Rattle.utils.specs.List.{lay_list}
+use Rattle.utils.specs.Error.{parse_refusal}
+use Rattle.utils.specs.List.{listed_of, lay_list}
+use Rattle.utils.specs.declared.list.ListError.{ListError}
+use Rattle.utils.specs.declared.list.ListError.TheVariants as list
 use Rattle.utils.specs.declared.error.RtcpParseError.{RtcpParseError}
-use Rattle.utils.proofs.Lists.{lay_refused, lay_short, lay_done}
+use Rattle.utils.proofs.Lists.{lay_handed, lay_short, lay_done}
 use Rattle.utils.proofs.Reading.{map_ok_refused}
 use Rattle.utils.proofs.WriterStores.{store_nil, store_store, puts, store_puts}
-use Rattle.compound.specs.Compound.{compound_view, rows_from, packet_rows, parsed_compound_of}
+use Rattle.compound.specs.Compound.{compound_view, rows_from, packet_rows}
 use Rattle.compound.specs.declared.compound.Compound.{Compound}
-use Rattle.compound.specs.declared.compound.ParsedCompound.{ParsedCompound}
-use Rattle.compound.specs.declared.compound.ParsedCompound.TheVariants as compound
 use Rattle.compound.proofs.Compounds.{rest_is}
 
 length_rows : (at : ℕ) (ps : List Read) → length (rows_from at ps) ≡ length ps * 3
@@ -154,16 +156,15 @@ module _ (s : List ℕ) (n : ℕ) (l : List ℕ) (at i : ℕ) (l₁ : List ℕ) 
 
 -- ---- the whole call
 
-module _ (s l : List ℕ) (q : ParsedCompound) (g : parsed_compound_of q ≡ map_ok compound_view (read_compound s)) where
-  pub packets_refused : (v : RtcpParseError) (r : Refusal) → q ≡ compound.Refused v → r ≡ refusal_in (parsed_compound_of q) → (refused r, l) ≡ lay_list (map_ok packet_rows (read_compound s)) l
+module _ (s l : List ℕ) where
+  pub packets_refused : (q : Result ℕ ListError) (e : RtcpParseError) → IsErrAnd q (λ (x : ListError). x ≡ list.Refused e) → refused (parse_refusal e) ≡ map_ok compound_view (read_compound s)
+      → (listed_of q, l) ≡ lay_list (map_ok packet_rows (read_compound s)) l
   unfolding map_ok
-  packets_refused v r e z =
-      let w : map_ok compound_view (read_compound s) ≡ refused r = sym g ∙ ap parsed_compound_of e ∙ ap refused (sym (z ∙ ap (λ (q : ParsedCompound). refusal_in (parsed_compound_of q)) e)) in
-      lay_refused (map_ok packet_rows (read_compound s)) r l (ap (map_ok packet_rows) (map_ok_refused compound_view (read_compound s) w))
+  packets_refused q e h w = lay_handed (map_ok packet_rows (read_compound s)) q e l h (ap (map_ok packet_rows) (map_ok_refused compound_view (read_compound s) (sym w)))
 
-  module _ (c : Compound) (e : q ≡ compound.Compound c) where
+  module _ (c : Compound) (e : ok c ≡ map_ok compound_view (read_compound s)) where
     pub packets_read : map_ok compound_view (read_compound s) ≡ ok c
-    packets_read = sym g ∙ ap parsed_compound_of e
+    packets_read = sym e
 
     pub packets_few : ((i : ℕ) → get_or s i 0 < 256) → length s < 2 ^ 64 → c.n_packets * 3 < 2 ^ 64
     packets_few k = rows_few s k c packets_read

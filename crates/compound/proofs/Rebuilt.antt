@@ -1,4 +1,5 @@
 -- What a step hands over, with what the accessors give, is the whole packet.
+use Rattle.std.specs.Prelude.{Result, Ok}
 use Rattle.rfc3550.proofs.Prelude.{◌≡◌, refl, sym, ap, ◌∙◌, subst, List, [], ◌∷◌, ℕ, zero, suc, ◌+◌, ◌-◌, ◌≤◌, arith, length, take, drop, length-append, eqb}
 use Rattle.rfc3550.specs.Answer.{Answer, ok, refused, ◌>>=◌, map_ok}
 use Rattle.rfc3550.specs.Bytes.{Bytes}
@@ -11,7 +12,9 @@ use Rattle.rfc3550.proofs.Answers.{need_inv, bind_elim, ok_injective, map_ok_inv
 use Rattle.rfc3550.proofs.Bytes.{bytes_take, bytes_drop}
 use Rattle.rfc3550.proofs.Packets.{read_as_kind}
 use Rattle.rfc3550.proofs.Walks.{walk_gives, sdes_walk_gives, item_walk_gives}
+use Rattle.utils.specs.Error.{parsed_of}
 use Rattle.utils.specs.Parts.{part_in}
+use Rattle.utils.specs.declared.error.RtcpParseError.{RtcpParseError}
 use Rattle.report.specs.Block.{block_view}
 use Rattle.report.proofs.Reports.{receiver_extension, receiver_padding, sender_extension, sender_padding}
 use Rattle.sdes_chunk.specs.Item.{item_view}
@@ -23,12 +26,10 @@ use Rattle.bye.proofs.Byes as byes
 use Rattle.app.proofs.Apps as apps
 use Rattle.compound.proofs.Unknowns.{body_part, padding_part}
 use Rattle.compound.specs.Packet.{view_as, packet_view}
-use Rattle.compound.specs.Compound.{step_view, stepped_of}
+use Rattle.compound.specs.Compound.{step_view}
 use Rattle.compound.specs.Rebuilt.{listed, block_from, block_at, item_at, rebuilt_chunk, chunk_at, rebuilt, packet_at}
 use Rattle.compound.specs.declared.packet.Packet.{Packet}
 use Rattle.compound.specs.declared.compound.Walk.{Walk}
-use Rattle.compound.specs.declared.compound.Stepped.{Stepped}
-use Rattle.compound.specs.declared.compound.Stepped.TheVariants as stepped
 
 -- ---- a run of elements
 
@@ -135,9 +136,9 @@ step_is s at h x e =
     (rw n (rebuilt_is (take (stated (drop at s)) (drop at s)) (bytes_take (stated (drop at s)) (drop at s) (bytes_drop at s h)) _ p g.1)))
 
 -- the answer of a step, and what the accessors give of the bytes between the two places, tell what the step gave
-pub step_rebuilt : (s : List ℕ) (at : ℕ) → Bytes s → (o : Stepped) (p : Packet) (w : Walk) → stepped_of o ≡ map_ok step_view (step s at) → o ≡ stepped.Packet p w
+pub step_rebuilt : (s : List ℕ) (at : ℕ) → Bytes s → (o : Result (Packet × Walk) RtcpParseError) (p : Packet) (w : Walk) → parsed_of o ≡ map_ok step_view (step s at) → o ≡ Ok (p, w)
     → step s at ≡ ok (rebuilt (take (w.at - at) (drop at s)) p, w.at)
-step_rebuilt s at h o p w g q = let m = map_ok_inv step_view (step s at) (sym g ∙ ap stepped_of q) in go m.0 m.1 m.2
+step_rebuilt s at h o p w g q = let m = map_ok_inv step_view (step s at) (sym g ∙ ap parsed_of q) in go m.0 m.1 m.2
   where
     go : (x : Read × ℕ) → step s at ≡ ok x → step_view x ≡ (p, w) → step s at ≡ ok (rebuilt (take (w.at - at) (drop at s)) p, w.at)
     go x e r =

@@ -1,4 +1,5 @@
 -- The rows of `Compound::packets`: row i is packet i's type, and the bytes at its offset and length are its layout.
+use Rattle.std.specs.Prelude.{Ok}
 use Rattle.rfc3550.proofs.Prelude.{ℕ, ◌+◌, ◌≡◌, refl, sym, ap, ◌∙◌, List, [], ◌∷◌, ◌++◌, append_assoc, map, length, take, length-append}
 use Rattle.rfc3550.specs.Answer.{ok, map_ok}
 use Rattle.rfc3550.specs.Bytes.{Bytes}
@@ -8,7 +9,6 @@ use Rattle.rfc3550.proofs.Answers.{map_ok_inv}
 use Rattle.rfc3550.proofs.Compounds.{compound_sound}
 use Rattle.rfc3550.proofs.Places.{at_place}
 use Rattle.utils.specs.List.{listed_of, lay_list}
-use Rattle.utils.specs.declared.list.Listed.TheVariants as listed
 use Rattle.utils.proofs.Filled.{filled}
 use Rattle.compound.specs.Compound.{rows_from, packet_rows, row_parts, row_is}
 
@@ -21,7 +21,7 @@ rows_are s pre at (p ∷ ps) n e =
     (rows_are s (pre ++ layout p) (at + length (layout p)) ps (length-append pre (layout p) ∙ ap (λ (k : ℕ). k + length (layout p)) n) (append_assoc pre (layout p) (layouts ps) ∙ e))
 
 -- what `Compound::packets` returned, and the list that it left
-pub packets_listed : (s : List ℕ) → Bytes s → (n : ℕ) (l l₁ : List ℕ) → (listed_of (listed.Len n), l₁) ≡ lay_list (map_ok packet_rows (read_compound s)) l
+pub packets_listed : (s : List ℕ) → Bytes s → (n : ℕ) (l l₁ : List ℕ) → (listed_of (Ok n), l₁) ≡ lay_list (map_ok packet_rows (read_compound s)) l
     → (ps : List Read) × (read_compound s ≡ ok ps) × (row_parts s (take n l₁) ≡ map row_is ps)
 packets_listed s h n l l₁ e =
     let f = filled (map_ok packet_rows (read_compound s)) n l l₁ e in

@@ -6,16 +6,8 @@ use Rattle.rfc3550.specs.Read.{version_in, padded, type_in, stated}
 use Rattle.utils.specs.Error.{parse_refusal}
 use Rattle.compound.specs.Packet.{packet_view}
 use Rattle.compound.specs.declared.packet.Packet.{Packet}
-use Rattle.compound.specs.declared.compound.CheckedPacket.{CheckedPacket}
-use Rattle.compound.specs.declared.compound.CheckedPacket.TheVariants as checked
 use Rattle.compound.specs.declared.compound.Compound.{Compound}
-use Rattle.compound.specs.declared.compound.ParsedCompound.{ParsedCompound}
-use Rattle.compound.specs.declared.compound.ParsedCompound.TheVariants as parsed
 use Rattle.compound.specs.declared.compound.Walk.{Walk}
-use Rattle.compound.specs.declared.compound.OpenedWalk.{OpenedWalk}
-use Rattle.compound.specs.declared.compound.OpenedWalk.TheVariants as opened
-use Rattle.compound.specs.declared.compound.Stepped.{Stepped}
-use Rattle.compound.specs.declared.compound.Stepped.TheVariants as stepped
 
 -- ---- a packet's frame: what is tested before its own steps
 
@@ -41,10 +33,6 @@ frame_at s at = do
   frame (eqb at 0) (drop at s)
 
 -- ---- the packet at the start of the bytes s, and its length
-
-abbrev pub checked_of : CheckedPacket → Answer (Bool × ℕ)
-checked_of (checked.Packet b n) = ok (b, n)
-checked_of (checked.Refused e) = refused (parse_refusal e)
 
 -- what is asked of the packet, and its length
 abbrev pub with_length : {B : Type 0} → (Read → B) → List ℕ → Read → B × ℕ
@@ -74,20 +62,9 @@ row_parts s (t ∷ at ∷ n ∷ rows) = (t, take n (drop at s)) ∷ row_parts s 
 abbrev pub row_is : Read → ℕ × List ℕ
 row_is p = (type p.content, layout p)
 
-abbrev pub parsed_compound_of : ParsedCompound → Answer Compound
-parsed_compound_of (parsed.Compound c) = ok c
-parsed_compound_of (parsed.Refused e) = refused (parse_refusal e)
-
 abbrev pub walk_at : ℕ → Walk
 walk_at at = record { at = at }
 
 abbrev pub step_view : Read × ℕ → Packet × Walk
 step_view x = (packet_view x.0, walk_at x.1)
 
-abbrev pub opened_of : OpenedWalk → Answer Walk
-opened_of (opened.Walk w) = ok w
-opened_of (opened.Refused e) = refused (parse_refusal e)
-
-abbrev pub stepped_of : Stepped → Answer (Packet × Walk)
-stepped_of (stepped.Packet p w) = ok (p, w)
-stepped_of (stepped.Refused e) = refused (parse_refusal e)

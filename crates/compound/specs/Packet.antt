@@ -17,12 +17,6 @@ use Rattle.compound.specs.Unknown.{unknown_view}
 use Rattle.compound.specs.declared.unknown.Unknown.{Unknown}
 use Rattle.compound.specs.declared.packet.Packet.{Packet}
 use Rattle.compound.specs.declared.packet.Packet.TheVariants as packet
-use Rattle.compound.specs.declared.packet.ParsedPacket.{ParsedPacket}
-use Rattle.compound.specs.declared.packet.ParsedPacket.TheVariants as parsed
-
-abbrev pub parsed_of : ParsedPacket → Answer Packet
-parsed_of (parsed.Packet p) = ok p
-parsed_of (parsed.Refused e) = refused (parse_refusal e)
 
 -- 1 of a packet that is accepted, 2 where it has a CNAME
 abbrev pub verdict_of : Bool → ℕ

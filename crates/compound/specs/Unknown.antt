@@ -4,12 +4,6 @@ use Rattle.rfc3550.specs.Answer.{Answer, ok, refused}
 use Rattle.rfc3550.specs.Packet.{Content, report, sdes, bye, app, unknown, Packet, type, low_bits}
 use Rattle.utils.specs.Error.{parse_refusal}
 use Rattle.compound.specs.declared.unknown.Unknown.{Unknown}
-use Rattle.compound.specs.declared.unknown.ParsedUnknown.{ParsedUnknown}
-use Rattle.compound.specs.declared.unknown.ParsedUnknown.TheVariants as parsed
-
-abbrev pub parsed_unknown_of : ParsedUnknown → Answer Unknown
-parsed_unknown_of (parsed.Unknown u) = ok u
-parsed_unknown_of (parsed.Refused e) = refused (parse_refusal e)
 
 -- the bytes after the header
 abbrev pub body_of : Content → List ℕ

@@ -6,15 +6,15 @@ ghost use Rattle.rfc3550.specs.Packet.{has_cname};
 ghost use Rattle.rfc3550.specs.Read.{type_in, stated};
 ghost use Rattle.rfc3550.specs.Compound.{read_packet, read_compound};
 ghost use Rattle.rfc3550.specs.Walk.{open_walk, step};
-ghost use Rattle.utils.specs.Error.{parse_refusal, refusal_in, or_zero};
+ghost use Rattle.utils.specs.Error.{parse_refusal, refusal_in, or_zero, parsed_of};
 ghost use Rattle.utils.specs.List.{listed_of, lay_list};
-ghost use Rattle.compound.specs.Compound.{frame, padding_last, report_first, frame_at, checked_of, with_length, parsed_compound_of, compound_view, packet_rows, walk_at, opened_of, stepped_of, step_view};
+ghost use Rattle.compound.specs.Compound.{frame, padding_last, report_first, frame_at, with_length, compound_view, packet_rows, walk_at, step_view};
 
-use super::packet::{Packet, ParsedPacket};
+use super::packet::Packet;
 use report::receiver::ReceiverReport;
 use report::sender::SenderReport;
 use utils::error::RtcpParseError;
-use utils::list::Listed;
+use utils::list::ListError;
 
 // No padding, or nothing that follows the packet.
 fn padding_last(rest: &[u8], stated: usize) -> bool
@@ -117,35 +117,18 @@ pub fn why_len(s: &[u8], at: usize) -> RtcpParseError
 }
 
 // Whether the packet at the start of the bytes left has a CNAME, and its length.
-#[derive(Clone, Copy)]
-enum CheckedPacket {
-    Packet(bool, usize),
-    Refused(RtcpParseError),
-}
-
-impl CheckedPacket {
-    fn refusal(self) -> RtcpParseError
-        ensures { parse_refusal result ≡ refusal_in (checked_of self) }
-    {
-        match self {
-            CheckedPacket::Packet(_, _) => RtcpParseError::NothingLeft,
-            CheckedPacket::Refused(e) => e,
-        }
-    }
-}
-
-fn check_packet(rest: &[u8], first: bool) -> CheckedPacket
-    ensures { checked_of result ≡ map_ok (with_length has_cname rest.now) (read_packet first rest.now) }
+fn check_packet(rest: &[u8], first: bool) -> Result<(bool, usize), RtcpParseError>
+    ensures { parsed_of result ≡ map_ok (with_length has_cname rest.now) (read_packet first rest.now) }
 {
     let len = frame_len(rest, first);
     if len == 0 {
-        return CheckedPacket::Refused(why_frame(&rest[0..], first));
+        return Err(why_frame(&rest[0..], first));
     }
     let verdict = Packet::verdict(&rest[..len]);
     if verdict == 0 {
-        return CheckedPacket::Refused(Packet::why(&rest[..len]));
+        return Err(Packet::why(&rest[..len]));
     }
-    CheckedPacket::Packet(verdict == 2, len)
+    Ok((verdict == 2, len))
 }
 
 // An accepted datagram: the number of its packets.
@@ -154,33 +137,15 @@ pub struct Compound {
     pub n_packets: usize,
 }
 
-#[derive(Clone, Copy)]
-pub enum ParsedCompound {
-    Compound(Compound),
-    Refused(RtcpParseError),
-}
-
-impl ParsedCompound {
-    // Why it is refused; NothingLeft where it is not.
-    pub fn refusal(self) -> RtcpParseError
-        ensures { parse_refusal result ≡ refusal_in (parsed_compound_of self) }
-    {
-        match self {
-            ParsedCompound::Compound(_) => RtcpParseError::NothingLeft,
-            ParsedCompound::Refused(e) => e,
-        }
-    }
-}
-
 impl Compound {
     // How many numbers of a lent list one packet takes.
     pub const PACKET_ROW: usize = 3;
 
-    pub fn parse(s: &[u8]) -> ParsedCompound
-        ensures { parsed_compound_of result ≡ map_ok compound_view (read_compound s.now) }
+    pub fn parse(s: &[u8]) -> Result<Compound, RtcpParseError>
+        ensures { parsed_of result ≡ map_ok compound_view (read_compound s.now) }
     {
         if s.len() == 0 {
-            return ParsedCompound::Refused(RtcpParseError::Truncated {
+            return Err(RtcpParseError::Truncated {
                 expected: 4,
                 actual: 0,
             });
@@ -189,35 +154,28 @@ impl Compound {
         let mut n_packets = 0;
         let mut has_cname = false;
         while at < s.len() {
-            let rest = &s[at..];
-            let answer = check_packet(rest, at == 0);
-            let CheckedPacket::Packet(cname, len) = answer else {
-                return ParsedCompound::Refused(answer.refusal());
-            };
-            has_cname = utils::parser::either(has_cname, cname);
-            at = at + len;
-            n_packets = n_packets + 1;
+            let (cname, len) = check_packet(&s[at..], at == 0)?;
+            has_cname |= cname;
+            at += len;
+            n_packets += 1;
         }
         if !has_cname {
-            return ParsedCompound::Refused(RtcpParseError::NoCname);
+            return Err(RtcpParseError::NoCname);
         }
-        ParsedCompound::Compound(Compound { n_packets })
+        Ok(Compound { n_packets })
     }
 
     // Three numbers for each packet, in order, into a lent list: its type, its offset in the datagram and its length.
-    pub fn packets(s: &[u8], packets: &mut [u64]) -> Listed
+    pub fn packets(s: &[u8], packets: &mut [u64]) -> Result<usize, ListError>
         ensures { (listed_of result, packets.new) ≡ lay_list (map_ok packet_rows (read_compound s.now)) packets.old }
     {
-        let parsed = Compound::parse(s);
-        let ParsedCompound::Compound(compound) = parsed else {
-            return Listed::Refused(parsed.refusal());
-        };
+        let compound = Compound::parse(s)?;
         let len = compound.n_packets * Compound::PACKET_ROW;
         if packets.len() < len {
-            return Listed::TooShort(len);
+            return Err(ListError::TooShort(len));
         }
         list_all_unchecked(s, compound, packets);
-        Listed::Len(len)
+        Ok(len)
     }
 }
 
@@ -254,44 +212,26 @@ pub struct Walk {
     pub at: usize,
 }
 
-#[derive(Clone, Copy)]
-pub enum OpenedWalk {
-    Walk(Walk),
-    Refused(RtcpParseError),
-}
-
-#[derive(Clone, Copy)]
-pub enum Stepped {
-    Packet(Packet, Walk),
-    Refused(RtcpParseError),
-}
-
 impl Walk {
     // Opens only on an accepted datagram.
-    pub fn open(s: &[u8]) -> OpenedWalk
-        ensures { opened_of result ≡ map_ok walk_at (open_walk s.now) }
+    pub fn open(s: &[u8]) -> Result<Walk, RtcpParseError>
+        ensures { parsed_of result ≡ map_ok walk_at (open_walk s.now) }
     {
-        let parsed = Compound::parse(s);
-        let ParsedCompound::Compound(_) = parsed else {
-            return OpenedWalk::Refused(parsed.refusal());
-        };
-        OpenedWalk::Walk(Walk { at: 0 })
+        let _ = Compound::parse(s)?;
+        Ok(Walk { at: 0 })
     }
 
     // The packet at the walk's place, and the walk after it.
-    pub fn step(self, s: &[u8]) -> Stepped
-        ensures { stepped_of result ≡ map_ok step_view (step s.now self.at) }
+    pub fn step(self, s: &[u8]) -> Result<(Packet, Walk), RtcpParseError>
+        ensures { parsed_of result ≡ map_ok step_view (step s.now self.at) }
     {
         let at = self.at;
         let len = packet_len(s, at);
         if len == 0 {
-            return Stepped::Refused(why_len(&s[0..], at));
+            return Err(why_len(&s[0..], at));
         }
         let end = at + len;
-        let parsed = Packet::parse(&s[at..end]);
-        let ParsedPacket::Packet(packet) = parsed else {
-            return Stepped::Refused(parsed.refusal());
-        };
-        Stepped::Packet(packet, Walk { at: end })
+        let packet = Packet::parse(&s[at..end])?;
+        Ok((packet, Walk { at: end }))
     }
 }

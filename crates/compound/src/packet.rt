@@ -2,16 +2,16 @@
 ghost use Rattle.std.specs.Prelude.{◌≡◌, eqb};
 ghost use Rattle.rfc3550.specs.Answer.{map_ok, pick};
 ghost use Rattle.rfc3550.specs.Read.{kind_of, type_in, low_in, read_as};
-ghost use Rattle.utils.specs.Error.{parse_refusal, refusal_in, value_or};
-ghost use Rattle.compound.specs.Packet.{packet_view, parsed_of, verdict_of, verdict};
+ghost use Rattle.utils.specs.Error.{parse_refusal, refusal_in, value_or, parsed_of};
+ghost use Rattle.compound.specs.Packet.{packet_view, verdict_of, verdict};
 
 use super::kind::{Kind, kind_of};
-use super::unknown::{ParsedUnknown, Unknown};
-use app::{App, ParsedApp};
-use bye::{Bye, ParsedBye};
-use report::receiver::{ParsedReceiverReport, ReceiverReport};
-use report::sender::{ParsedSenderReport, SenderReport};
-use sdes::sdes::{ParsedSdes, Sdes};
+use super::unknown::Unknown;
+use app::App;
+use bye::Bye;
+use report::receiver::ReceiverReport;
+use report::sender::SenderReport;
+use sdes::sdes::Sdes;
 use utils::error::RtcpParseError;
 
 #[derive(Clone, Copy)]
@@ -22,24 +22,6 @@ pub enum Packet {
     Bye(Bye),
     App(App),
     Unknown(Unknown),
-}
-
-#[derive(Clone, Copy)]
-pub enum ParsedPacket {
-    Packet(Packet),
-    Refused(RtcpParseError),
-}
-
-impl ParsedPacket {
-    // Why it is refused; NothingLeft where it is not.
-    pub fn refusal(self) -> RtcpParseError
-        ensures { parse_refusal result ≡ refusal_in (parsed_of self) }
-    {
-        match self {
-            ParsedPacket::Packet(_) => RtcpParseError::NothingLeft,
-            ParsedPacket::Refused(e) => e,
-        }
-    }
 }
 
 // 0 where the body is, for a packet that is refused; else 1, or 2 where it has a CNAME.
@@ -54,35 +36,18 @@ fn verdict_of(body: usize, has_cname: bool) -> usize
 
 impl Packet {
     // The packet that the bytes are, from the first to the last.
-    pub fn parse(s: &[u8]) -> ParsedPacket
+    pub fn parse(s: &[u8]) -> Result<Packet, RtcpParseError>
         ensures { parsed_of result ≡ map_ok packet_view (read_as (kind_of (type_in s.now) (low_in s.now)) s.now) }
     {
-        match kind_of(s) {
-            Kind::Sr => match SenderReport::parse(s) {
-                ParsedSenderReport::Report(x) => ParsedPacket::Packet(Packet::Sr(x)),
-                ParsedSenderReport::Refused(e) => ParsedPacket::Refused(e),
-            },
-            Kind::Rr => match ReceiverReport::parse(s) {
-                ParsedReceiverReport::Report(x) => ParsedPacket::Packet(Packet::Rr(x)),
-                ParsedReceiverReport::Refused(e) => ParsedPacket::Refused(e),
-            },
-            Kind::Sdes => match Sdes::parse(s) {
-                ParsedSdes::Sdes(x) => ParsedPacket::Packet(Packet::Sdes(x)),
-                ParsedSdes::Refused(e) => ParsedPacket::Refused(e),
-            },
-            Kind::Bye => match Bye::parse(s) {
-                ParsedBye::Bye(x) => ParsedPacket::Packet(Packet::Bye(x)),
-                ParsedBye::Refused(e) => ParsedPacket::Refused(e),
-            },
-            Kind::App => match App::parse(s) {
-                ParsedApp::App(x) => ParsedPacket::Packet(Packet::App(x)),
-                ParsedApp::Refused(e) => ParsedPacket::Refused(e),
-            },
-            Kind::Unknown => match Unknown::parse(s) {
-                ParsedUnknown::Unknown(x) => ParsedPacket::Packet(Packet::Unknown(x)),
-                ParsedUnknown::Refused(e) => ParsedPacket::Refused(e),
-            },
-        }
+        let packet = match kind_of(s) {
+            Kind::Sr => Packet::Sr(SenderReport::parse(s)?),
+            Kind::Rr => Packet::Rr(ReceiverReport::parse(s)?),
+            Kind::Sdes => Packet::Sdes(Sdes::parse(s)?),
+            Kind::Bye => Packet::Bye(Bye::parse(s)?),
+            Kind::App => Packet::App(App::parse(s)?),
+            Kind::Unknown => Packet::Unknown(Unknown::parse(s)?),
+        };
+        Ok(packet)
     }
 
     // Why it is refused; NothingLeft where it is not.

@@ -2,8 +2,8 @@
 ghost use Rattle.std.specs.Prelude.{◌≡◌, ◌-◌, take, drop};
 ghost use Rattle.rfc3550.specs.Answer.{map_ok};
 ghost use Rattle.rfc3550.specs.Read.{UNKNOWN, read_as};
-ghost use Rattle.utils.specs.Error.{parse_refusal, refusal_in, value_or};
-ghost use Rattle.compound.specs.Unknown.{parsed_unknown_of, unknown_view, no_unknown};
+ghost use Rattle.utils.specs.Error.{parse_refusal, refusal_in, value_or, parsed_of};
+ghost use Rattle.compound.specs.Unknown.{unknown_view, no_unknown};
 
 use super::kind::is_unknown;
 use utils::error::RtcpParseError;
@@ -16,12 +16,6 @@ pub struct Unknown {
     pub count: u8,
     pub body: usize,
     pub padding_len: usize,
-}
-
-#[derive(Clone, Copy)]
-pub enum ParsedUnknown {
-    Unknown(Unknown),
-    Refused(RtcpParseError),
 }
 
 impl Unknown {
@@ -57,14 +51,14 @@ impl Unknown {
         parser::why_header_if(s, Unknown::MIN_PACKET_LEN, is_unknown(s), actual, 0)
     }
 
-    pub fn parse(s: &[u8]) -> ParsedUnknown
-        ensures { parsed_unknown_of result ≡ map_ok unknown_view (read_as UNKNOWN s.now) }
+    pub fn parse(s: &[u8]) -> Result<Unknown, RtcpParseError>
+        ensures { parsed_of result ≡ map_ok unknown_view (read_as UNKNOWN s.now) }
     {
         let unknown = Unknown::read(s);
         if unknown.body == 0 {
-            return ParsedUnknown::Refused(Unknown::why(&s[0..]));
+            return Err(Unknown::why(&s[0..]));
         }
-        ParsedUnknown::Unknown(unknown)
+        Ok(unknown)
     }
 
     // The bytes between the header and the padding, of the packet that was parsed.

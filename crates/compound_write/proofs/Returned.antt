@@ -11,13 +11,13 @@ use Rattle.compound_write.specs.Writer.{writer_of, call_of}
 use Rattle.compound_write.specs.Returned.{Result, added, closed, writers}
 use Rattle.compound_write.specs.declared.writer.Writer.{Writer}
 use Rattle.compound_write.specs.declared.writer.Call.{Call}
-use Rattle.compound_write.specs.declared.writer.Outcome.{Outcome}
-use Rattle.compound_write.proofs.Writers.{writer_of_injective, outcome_of_injective}
+use Rattle.utils.proofs.Injective.{written_of_injective}
+use Rattle.compound_write.proofs.Writers.{writer_of_injective}
 
 -- what a call returned loses nothing
 pub call_of_injective : (r s : Call) → call_of r ≡ call_of s → r ≡ s
 call_of_injective r s e =
-    ap (λ (a : Outcome). record { answer = a; writer = r.writer }) (outcome_of_injective r.answer s.answer (ap (λ (x : Answer (Unit {0}) × rfc.Writer). x.0) e))
+    ap (λ (a : _). record { answer = a; writer = r.writer }) (written_of_injective r.answer s.answer (ap (λ (x : Answer (Unit {0}) × rfc.Writer). x.0) e))
     ∙ ap (λ (w : Writer). record { answer = s.answer; writer = w }) (writer_of_injective r.writer s.writer (ap (λ (x : Answer (Unit {0}) × rfc.Writer). x.1) e))
 
 calls : law.Calls writers

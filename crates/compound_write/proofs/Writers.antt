@@ -1,4 +1,5 @@
 -- What every add shares, over the packet given, and closing.
+use Rattle.std.specs.Prelude.{Result, Ok, Err}
 use Rattle.rfc3550.proofs.Prelude.{rules, ℕ, ◌+◌, ◌-◌, ◌^◌, ◌<◌, ◌≤◌, ◌≡◌, refl, sym, ap, ◌∙◌, Bool, true, false, ◌&&◌, ◌||◌, not, List, [], ◌++◌, arith, le-leb, lt-leb, leb-true, leb-false, lt-ltb, le-ltb, ltb-true, eq-eqb, ne_eqb, not-true, not-false, length, take, drop, length-take, length-drop, leb, ltb, eqb}
 use Rattle.rfc3550.specs.Answer.{Refusal, refusal, Answer, ok, refused, need, ◌>>◌, capped, pick}
 use Rattle.rfc3550.specs.Bytes.{store}
@@ -8,7 +9,7 @@ use Rattle.rfc3550.specs.Write.{BlockLists, Given, give_report, give_sdes, give_
 use Rattle.rfc3550.specs.Writer.{Writer, add, close, gives_cname, add_tests, close_tests, after_close, call}
 use Rattle.rfc3550.proofs.Answers.{true≢false, and_inv, need_inv, refused_injective, refused≢ok}
 use Rattle.utils.specs.Error.{write_refusal, or_zero}
-use Rattle.utils.specs.Writer.{size_refusal}
+use Rattle.utils.specs.Writer.{size_refusal, written_of}
 use Rattle.utils.proofs.WriterStores.{store_part}
 use Rattle.bye.proofs.Writes.{bye_fits}
 use Rattle.app.proofs.Writes.{app_fits}
@@ -21,10 +22,9 @@ use Rattle.utils.proofs.WriterPackets.{sized}
 use Rattle.utils.proofs.Sizes.{size_came}
 use Rattle.rfc3550.proofs.Packets.{length_layout}
 use Rattle.utils.proofs.Injective.{write_refusal_injective}
-use Rattle.compound_write.specs.Writer.{writer_of, outcome_of, admits, why_not, advanced}
+use Rattle.utils.specs.declared.error.RtcpWriteError.{RtcpWriteError}
+use Rattle.compound_write.specs.Writer.{writer_of, admits, why_not, advanced}
 use Rattle.compound_write.specs.declared.writer.Writer as code
-use Rattle.compound_write.specs.declared.writer.Outcome.{Outcome}
-use Rattle.compound_write.specs.declared.writer.Outcome.TheVariants as outcome
 use Rattle.compound_write.specs.Names.{lent_cname}
 use Rattle.compound_write.proofs.Names.{agreed, names_lent}
 
@@ -35,12 +35,6 @@ writer_of_injective v w e = ap code_of e
   where
     code_of : Writer → code.Writer
     code_of w = record { len = w.len; padded = w.padded; cname = w.cname; closed = w.closed }
-
-pub outcome_of_injective : (r s : Outcome) → outcome_of r ≡ outcome_of s → r ≡ s
-outcome_of_injective outcome.Done outcome.Done h = refl
-outcome_of_injective outcome.Done (outcome.Refused e) h = absurd (refused≢ok (sym h))
-outcome_of_injective (outcome.Refused e) outcome.Done h = absurd (refused≢ok h)
-outcome_of_injective (outcome.Refused e) (outcome.Refused f) h = ap outcome.Refused (write_refusal_injective e f (refused_injective (write_refusal e) (write_refusal f) h))
 
 -- ---- 26, 29, 27, the packet's own order, 10: in numbers, and why
 

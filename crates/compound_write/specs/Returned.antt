@@ -6,10 +6,11 @@ use Rattle.rfc3550.specs.Write.{Given, give_report, give_sdes, give_bye, give_ap
 use Rattle.rfc3550.specs.Writer.{Request, add, close, call}
 use Rattle.rfc3550.specs.Calls.{compounds}
 use Rattle.rfc3550.specs.Returned.{Caller}
+use Rattle.utils.specs.Writer.{written_of}
 use Rattle.report_write.specs.Report.{block_lists, sender_of}
 use Rattle.report_write.specs.declared.sender.SenderInfo.{SenderInfo}
 use Rattle.sdes_write.specs.Packets.{lists}
-use Rattle.compound_write.specs.Writer.{writer_of, outcome_of}
+use Rattle.compound_write.specs.Writer.{writer_of}
 use Rattle.compound_write.specs.declared.writer.Writer.{Writer}
 use Rattle.compound_write.specs.declared.writer.Call.{Call}
 
@@ -52,8 +53,8 @@ left (closed r) = []
 
 -- each function's own ensures
 abbrev pub Meets : Writer → Result → Type 0
-Meets self (added g buf r out) = (outcome_of r.answer, writer_of r.writer, out) ≡ call (add (given g)) (writer_of self) buf
-Meets self (closed r) = (outcome_of r.answer, writer_of r.writer, []) ≡ call close (writer_of self) []
+Meets self (added g buf r out) = (written_of r.answer, writer_of r.writer, out) ≡ call (add (given g)) (writer_of self) buf
+Meets self (closed r) = (written_of r.answer, writer_of r.writer, []) ≡ call close (writer_of self) []
 
 abbrev pub writers : Caller compounds
 writers =
@@ -65,6 +66,6 @@ writers =
       writer = writer_of;
       request = request;
       lent = lent;
-      answer = λ r. outcome_of (call_returned r).answer;
+      answer = λ r. written_of (call_returned r).answer;
       left = left;
     }

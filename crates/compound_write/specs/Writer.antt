@@ -3,21 +3,15 @@ use Rattle.std.specs.Prelude.{ℕ, ◌+◌, Bool, ◌&&◌, ◌||◌, not, leb, 
 use Rattle.rfc3550.specs.Answer.{Refusal, refusal, Answer, ok, refused, capped, pick}
 use Rattle.rfc3550.specs.Packet.{is_report}
 use Rattle.rfc3550.specs.Writer as rfc
-use Rattle.utils.specs.Error.{write_refusal}
+use Rattle.utils.specs.Writer.{written_of}
 use Rattle.compound_write.specs.declared.writer.Writer.{Writer}
 use Rattle.compound_write.specs.declared.writer.Call.{Call}
-use Rattle.compound_write.specs.declared.writer.Outcome.{Outcome}
-use Rattle.compound_write.specs.declared.writer.Outcome.TheVariants as outcome
 
 abbrev pub writer_of : Writer → rfc.Writer
 writer_of w = record { len = w.len; padded = w.padded; cname = w.cname; closed = w.closed }
 
-abbrev pub outcome_of : Outcome → Answer (Unit {0})
-outcome_of outcome.Done = ok tt
-outcome_of (outcome.Refused e) = refused (write_refusal e)
-
 abbrev pub call_of : Call → Answer (Unit {0}) × rfc.Writer
-call_of r = (outcome_of r.answer, writer_of r.writer)
+call_of r = (written_of r.answer, writer_of r.writer)
 
 -- a packet of this type and size, 0 where its own order refuses it, may be laid down in a buffer of n bytes
 abbrev pub admits : rfc.Writer → ℕ → ℕ → ℕ → Bool

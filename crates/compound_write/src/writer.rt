@@ -4,10 +4,11 @@ ghost use Rattle.rfc3550.specs.Answer.{ok, refused, capped};
 ghost use Rattle.rfc3550.specs.Packet.{receiver, is_report};
 ghost use Rattle.rfc3550.specs.Write.{give_report, give_sdes, give_bye, give_app};
 ghost use Rattle.rfc3550.specs.Writer.{fresh, add, close, call};
+ghost use Rattle.utils.specs.Writer.{written_of};
 ghost use Rattle.utils.specs.Error.{write_refusal};
 ghost use Rattle.report_write.specs.Report.{sender_of, block_lists};
 ghost use Rattle.sdes_write.specs.Packets.{lists};
-ghost use Rattle.compound_write.specs.Writer.{outcome_of, writer_of, call_of, admits, why_not, advanced};
+ghost use Rattle.compound_write.specs.Writer.{writer_of, call_of, admits, why_not, advanced};
 
 use crate::cname;
 use app::App;
@@ -28,16 +29,10 @@ pub struct Writer {
     pub closed: bool,
 }
 
-#[derive(Clone, Copy)]
-pub enum Outcome {
-    Done,
-    Refused(RtcpWriteError),
-}
-
 // The answer to a call, and the writer after it.
 #[derive(Clone, Copy)]
 pub struct Call {
-    pub answer: Outcome,
+    pub answer: Result<(), RtcpWriteError>,
     pub writer: Writer,
 }
 
@@ -134,7 +129,7 @@ impl Writer {
         ensures { call_of result ≡ (refused (write_refusal e), writer_of self) }
     {
         Call {
-            answer: Outcome::Refused(e),
+            answer: Err(e),
             writer: self,
         }
     }
@@ -145,7 +140,7 @@ impl Writer {
         ensures { call_of result ≡ (ok tt, advanced (writer_of self) size padding cname) }
     {
         Call {
-            answer: Outcome::Done,
+            answer: Ok(()),
             writer: Writer {
                 len: self.len + size,
                 padded: 0 < padding,
@@ -164,7 +159,7 @@ impl Writer {
         words: &[u32],
         padding: u64,
     ) -> Call
-        ensures { (outcome_of result.answer, writer_of result.writer, buf.new) ≡ call (add (give_report (receiver ssrc) (block_lists fractions.now losses.now words.now) padding)) (writer_of self) buf.old }
+        ensures { (written_of result.answer, writer_of result.writer, buf.new) ≡ call (add (give_report (receiver ssrc) (block_lists fractions.now losses.now words.now) padding)) (writer_of self) buf.old }
     {
         let size = receiver::size_of(fractions, losses, words, padding);
         if !self.admit(ReceiverReport::PACKET_TYPE, size, buf.len()) {
@@ -193,7 +188,7 @@ impl Writer {
         words: &[u32],
         padding: u64,
     ) -> Call
-        ensures { (outcome_of result.answer, writer_of result.writer, buf.new) ≡ call (add (give_report (sender_of info) (block_lists fractions.now losses.now words.now) padding)) (writer_of self) buf.old }
+        ensures { (written_of result.answer, writer_of result.writer, buf.new) ≡ call (add (give_report (sender_of info) (block_lists fractions.now losses.now words.now) padding)) (writer_of self) buf.old }
     {
         let size = sender::size_of(fractions, losses, words, padding);
         if !self.admit(SenderReport::PACKET_TYPE, size, buf.len()) {
@@ -214,7 +209,7 @@ impl Writer {
     }
 
     pub fn add_bye(self, buf: &mut [u8], sources: &[u32], reason: &[u8], padding: u64) -> Call
-        ensures { (outcome_of result.answer, writer_of result.writer, buf.new) ≡ call (add (give_bye sources.now reason.now padding)) (writer_of self) buf.old }
+        ensures { (written_of result.answer, writer_of result.writer, buf.new) ≡ call (add (give_bye sources.now reason.now padding)) (writer_of self) buf.old }
     {
         let size = bye::write::size_of(sources, reason, padding);
         if !self.admit(Bye::PACKET_TYPE, size, buf.len()) {
@@ -235,7 +230,7 @@ impl Writer {
         data: &[u8],
         padding: u64,
     ) -> Call
-        ensures { (outcome_of result.answer, writer_of result.writer, buf.new) ≡ call (add (give_app subtype ssrc name.now «data».now padding)) (writer_of self) buf.old }
+        ensures { (written_of result.answer, writer_of result.writer, buf.new) ≡ call (add (give_app subtype ssrc name.now «data».now padding)) (writer_of self) buf.old }
     {
         let size = app::write::size_of(subtype, ssrc, name, data, padding);
         if !self.admit(App::PACKET_TYPE, size, buf.len()) {
@@ -258,7 +253,7 @@ impl Writer {
         bytes: &[u8],
         padding: u64,
     ) -> Call
-        ensures { (outcome_of result.answer, writer_of result.writer, buf.new) ≡ call (add (give_sdes (lists ssrcs.now counts.now types.now prefixes.now values.now bytes.now) padding)) (writer_of self) buf.old }
+        ensures { (written_of result.answer, writer_of result.writer, buf.new) ≡ call (add (give_sdes (lists ssrcs.now counts.now types.now prefixes.now values.now bytes.now) padding)) (writer_of self) buf.old }
     {
         let size = sdes_write::size_of(ssrcs, counts, types, prefixes, values, bytes, padding);
         if !self.admit(Sdes::PACKET_TYPE, size, buf.len()) {
@@ -291,14 +286,14 @@ impl Writer {
 
     // 26, then 28.
     pub fn close(self) -> Call
-        ensures { (outcome_of result.answer, writer_of result.writer, []) ≡ call close (writer_of self) [] }
+        ensures { (written_of result.answer, writer_of result.writer, []) ≡ call close (writer_of self) [] }
     {
         if self.closed {
             return self.refuse(RtcpWriteError::WriterClosed);
         }
         if self.cname {
             return Call {
-                answer: Outcome::Done,
+                answer: Ok(()),
                 writer: Writer {
                     len: self.len,
                     padded: self.padded,

@@ -1,4 +1,5 @@
 -- Histories of what the functions of a source returned.
+use Rattle.std.specs.Prelude.{Option, Some, None}
 use Rattle.rfc3550.proofs.Prelude.{ℕ, ◌/◌, ◌<◌, ◌≡◌, refl, ap, ◌∙◌, Bool, true, List, map}
 use Rattle.rfc3550.specs.Packet.{All}
 use Rattle.rfc3550.specs.Reception as rfc
@@ -10,13 +11,12 @@ use Rattle.reception.specs.Reception.{reception_of, update_of, report_of}
 use Rattle.reception.specs.Returned.{Call, updated, asked, happening_of, reply_of, receptions}
 use Rattle.reception.specs.declared.reception.Reception.{Reception}
 use Rattle.reception.specs.declared.reception.Update.{Update}
-use Rattle.reception.specs.declared.reception.ReportedBlock.{ReportedBlock}
-use Rattle.reception.specs.declared.reception.ReportedBlock.TheVariants as reported
+use Rattle.report.specs.declared.report_block.ReportBlock.{ReportBlock}
 
 follows : Follows receptions reception_of happening_of reply_of
 follows s (updated seq timestamp arrival u) m = (m.0, ap (λ (x : rfc.Reception × Bool). x.0) m.1, ap (λ (x : rfc.Reception × Bool). packet_reply x.1) m.1)
-follows s (asked ssrc lsr dlsr (reported.Block b r)) m = (tt, ap (λ (x : Reported × rfc.Reception). x.1) m, ap (λ (x : Reported × rfc.Reception). block_reply x.0) m)
-follows s (asked ssrc lsr dlsr reported.InProbation) m = (tt, ap (λ (x : Reported × rfc.Reception). x.1) m, ap (λ (x : Reported × rfc.Reception). block_reply x.0) m)
+follows s (asked ssrc lsr dlsr (Some (b, r))) m = (tt, ap (λ (x : Reported × rfc.Reception). x.1) m, ap (λ (x : Reported × rfc.Reception). block_reply x.0) m)
+follows s (asked ssrc lsr dlsr None) m = (tt, ap (λ (x : Reported × rfc.Reception). x.1) m, ap (λ (x : Reported × rfc.Reception). block_reply x.0) m)
 
 -- from a state that `new` returned, each answer and the last state are those of the history
 pub answers_returned : (seq : ℕ) (s : Reception) → reception_of s ≡ new_reception seq → (rs : List Call) → Ran receptions rs s
@@ -31,7 +31,7 @@ module _ (s : Reception) (seq timestamp arrival : ℕ) (u : Update) (rs : List C
   pub figures_returned : seq < 65536 → update_of u ≡ update (reception_of s) seq timestamp arrival → verdict (reception_of s) seq ≡ starts → Ran receptions rs u.reception
       → no_start (outcomes (reception_of u.reception) (map happening_of rs)) ≡ true
       → packets_in (outcomes (reception_of u.reception) (map happening_of rs)) < 2147483648 → moved_in (outcomes (reception_of u.reception) (map happening_of rs)) < 2147483648
-      → (ssrc lsr dlsr : ℕ) (r : ReportedBlock) → report_of (reception_of before) r ≡ report_block (reception_of before) ssrc lsr dlsr
+      → (ssrc lsr dlsr : ℕ) (r : Option (ReportBlock × Reception)) → report_of (reception_of before) r ≡ report_block (reception_of before) ssrc lsr dlsr
       → (before.received ≡ received_since (outcomes (reception_of u.reception) (map happening_of rs)))
       × ((report_of (reception_of before) r).0 ≡ made (block_since seq (outcomes (reception_of u.reception) (map happening_of rs)) (before.jitter / 16) ssrc lsr dlsr))
   figures_returned h mu st m none few near ssrc lsr dlsr r mr =

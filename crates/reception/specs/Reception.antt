@@ -1,12 +1,10 @@
 -- What the structs and enums of the code say.
-use Rattle.std.specs.Prelude.{ℕ, Bool}
+use Rattle.std.specs.Prelude.{ℕ, Bool, Option, Some, None}
 use Rattle.rfc3550.specs.Packet.{Block}
 use Rattle.rfc3550.specs.Reception as rfc
 use Rattle.report.specs.declared.report_block.ReportBlock.{ReportBlock}
 use Rattle.reception.specs.declared.reception.Reception.{Reception}
 use Rattle.reception.specs.declared.reception.Update.{Update}
-use Rattle.reception.specs.declared.reception.ReportedBlock.{ReportedBlock}
-use Rattle.reception.specs.declared.reception.ReportedBlock.TheVariants as reported
 
 abbrev pub reception_of : Reception → rfc.Reception
 reception_of s =
@@ -43,6 +41,6 @@ block_is b =
     }
 
 -- from the state that was handed in, which stays in probation
-abbrev pub report_of : rfc.Reception → ReportedBlock → rfc.Reported × rfc.Reception
-report_of s (reported.Block b r) = (rfc.made (block_is b), reception_of r)
-report_of s reported.InProbation = (rfc.in_probation, s)
+abbrev pub report_of : rfc.Reception → Option (ReportBlock × Reception) → rfc.Reported × rfc.Reception
+report_of s (Some (b, r)) = (rfc.made (block_is b), reception_of r)
+report_of s None = (rfc.in_probation, s)

@@ -28,13 +28,6 @@ pub struct Update {
     pub accepted: bool,
 }
 
-// The block and the state after it; none in probation, and the state stays.
-#[derive(Clone, Copy)]
-pub enum ReportedBlock {
-    Block(ReportBlock, Reception),
-    InProbation,
-}
-
 impl Reception {
     // Packets in sequence until a source is valid.
     pub const MIN_SEQUENTIAL: u32 = 2;
@@ -228,12 +221,12 @@ impl Reception {
     }
 
     // A.3: the block, with the last SR and the delay since it from the caller.
-    pub fn report_block(self, ssrc: u32, lsr: u32, dlsr: u32) -> ReportedBlock
+    pub fn report_block(self, ssrc: u32, lsr: u32, dlsr: u32) -> Option<(ReportBlock, Reception)>
         ensures { report_of (reception_of self) result ≡ report_block (reception_of self) ssrc lsr dlsr }
     {
         if 0 < self.probation {
-            return ReportedBlock::InProbation;
+            return None;
         }
-        ReportedBlock::Block(self.block(ssrc, lsr, dlsr), self.reported())
+        Some((self.block(ssrc, lsr, dlsr), self.reported()))
     }
 }

@@ -1,4 +1,5 @@
 -- The cases of a report added from lent records, over whoever reports: what stands around its blocks, where they go, and the whole call.
+use Rattle.std.specs.Prelude.{Result, Ok, Err}
 use Rattle.rfc3550.proofs.Prelude.{ℕ, ◌+◌, ◌-◌, ◌*◌, ◌^◌, ◌<◌, ◌≤◌, ◌≡◌, refl, sym, ap, ◌∙◌, Bool, true, false, ◌&&◌, ◌||◌, not, le-leb, leb-true, leb-false, lt-ltb, le-ltb, ne_eqb, leb, ltb, List, [], ◌++◌, append-nil, add-zero, arith, length, take, drop, length-append, length-drop, take-append-drop, drop_of_length-le, length-take-le, take_all, take-length}
 use lib.Signed.{mag}
 use mir.Syntax.{w32}
@@ -16,8 +17,6 @@ use Rattle.utils.specs.Error.{write_refusal, or_zero}
 use Rattle.utils.specs.Writer.{written_of, size_refusal}
 use Rattle.utils.proofs.Values.{number_came}
 use Rattle.utils.specs.declared.error.RtcpWriteError.{RtcpWriteError}
-use Rattle.utils.specs.declared.writer.Written.{Written}
-use Rattle.utils.specs.declared.writer.Written.TheVariants.{Size, Refused}
 use Rattle.utils.proofs.WriterStores.{store_nil}
 use Rattle.report.specs.declared.report_block.ReportBlock.{ReportBlock}
 use Rattle.records.specs.declared.Reporter.{Reporter}
@@ -122,7 +121,7 @@ module _ (w : rfc.Writer) (t size n : ℕ) (c : Answer ℕ) (b : Bool) (known : 
 -- ---- what stands around the blocks
 
 module _ (p : Reporter) (len count k : ℕ) (l : List ℕ) where
-  pub frame_kept : (r : Written) (e : RtcpWriteError) → r ≡ Refused e → l ≡ add_framed len p count k (written_of r) l
+  pub frame_kept : (r : Result ℕ RtcpWriteError) (e : RtcpWriteError) → r ≡ Err e → l ≡ add_framed len p count k (written_of r) l
   unfolding add_framed
   frame_kept r e q = rw q
 
@@ -149,12 +148,12 @@ counted_own p count loss k x g h = (rw (bits_back loss g) at h) ∙ reason_same 
 
 -- ---- where its blocks start, and where it ends
 
-module _ (r : Written) (len : ℕ) (p : Reporter) where
-  pub at_none : (e : RtcpWriteError) → r ≡ Refused e → 0 ≡ blocks_at len p (written_of r)
+module _ (r : Result ℕ RtcpWriteError) (len : ℕ) (p : Reporter) where
+  pub at_none : (e : RtcpWriteError) → r ≡ Err e → 0 ≡ blocks_at len p (written_of r)
   unfolding blocks_at
   at_none e q = sym (rw q)
 
-  module _ (n s : ℕ) (q : r ≡ Size n) (i : s ≡ least_of p) where
+  module _ (n s : ℕ) (q : r ≡ Ok n) (i : s ≡ least_of p) where
     pub at_start : len + s ≡ blocks_at len p (written_of r)
     unfolding blocks_at
     at_start = sym (rw (q, i))
@@ -162,19 +161,19 @@ module _ (r : Written) (len : ℕ) (p : Reporter) where
     pub at_fits : blocks_at len p (written_of r) < 2 ^ 64 → len + s < 2 ^ 64
     at_fits h = rw (← at_start) at h
 
-pub end_fits : (r : Written) (len n : ℕ) → r ≡ Size n → added_end len (written_of r) < 2 ^ 64 → len + n < 2 ^ 64
+pub end_fits : (r : Result ℕ RtcpWriteError) (len n : ℕ) → r ≡ Ok n → added_end len (written_of r) < 2 ^ 64 → len + n < 2 ^ 64
 unfolding added_end
 end_fits r len n q h = rw q at h
 
 -- ---- the call's answer
 
-module _ (w : rfc.Writer) (r : Written) where
+module _ (w : rfc.Writer) (r : Result ℕ RtcpWriteError) where
   module _ (k : ℕ) (o : Answer (Unit {0}) × rfc.Writer) where
-    pub concluded_refused : (e : RtcpWriteError) → r ≡ Refused e → o ≡ (refused (write_refusal e), w) → o ≡ concluded w (written_of r) k
+    pub concluded_refused : (e : RtcpWriteError) → r ≡ Err e → o ≡ (refused (write_refusal e), w) → o ≡ concluded w (written_of r) k
     unfolding concluded
     concluded_refused e q h = rw q h
 
-    pub concluded_done : (n : ℕ) → r ≡ Size n → o ≡ (ok tt, advanced w n k false) → o ≡ concluded w (written_of r) k
+    pub concluded_done : (n : ℕ) → r ≡ Ok n → o ≡ (ok tt, advanced w n k false) → o ≡ concluded w (written_of r) k
     unfolding concluded
     concluded_done n q h = rw q h
 

@@ -1,4 +1,5 @@
 -- The cases of a report of lent records, over whoever reports: its size, what stands around its blocks, and the whole written.
+use Rattle.std.specs.Prelude.{Result, Ok, Err}
 use Rattle.rfc3550.proofs.Prelude.{ℕ, ◌+◌, ◌-◌, ◌*◌, ◌<◌, ◌≤◌, ◌≡◌, refl, sym, ap, ◌∙◌, List, [], arith, add-one, leb-true, length, take, drop, get_or, length-map, drop_of_length-le, drop-cons, take-length}
 use lib.Signed.{mag}
 use mir.Syntax.{w32}
@@ -14,8 +15,6 @@ use Rattle.rfc3550.proofs.Writes.{length_padding_bytes, blocks_lent_lists_of, bl
 use Rattle.utils.specs.Error.{or_zero}
 use Rattle.utils.specs.Writer.{written_of, header, size_refusal}
 use Rattle.utils.specs.declared.error.RtcpWriteError.{RtcpWriteError}
-use Rattle.utils.specs.declared.writer.Written.{Written}
-use Rattle.utils.specs.declared.writer.Written.TheVariants.{Size, Refused}
 use Rattle.utils.proofs.WriterStores.{store_nil, store_before}
 use Rattle.utils.proofs.WriterPackets.{writes, refused_written, short_written, done_written, padding_most, header_long}
 use Rattle.utils.proofs.Values.{number_came}
@@ -130,12 +129,12 @@ module _ (p : Reporter) where
       sym a ∙ lists_report (reporter_of p) (lists_of (records_of bs)) k
 
   -- what a call that was passed the loss answers
-  pub counted_again : (count : ℕ) (loss : Loss) (k : ℕ) (w : Written) → mag loss < 2147483648 → written_of w ≡ counted_size (least_of p) count (to_z w32 (of_z w32 loss)) k → written_of w ≡ counted_size (least_of p) count loss k
+  pub counted_again : (count : ℕ) (loss : Loss) (k : ℕ) (w : Result ℕ RtcpWriteError) → mag loss < 2147483648 → written_of w ≡ counted_size (least_of p) count (to_z w32 (of_z w32 loss)) k → written_of w ≡ counted_size (least_of p) count loss k
   counted_again count loss k w d e = rw (bits_back loss d) at e
 
   -- ---- what stands around the blocks
 
-  pub frame_fits : (count : ℕ) (loss : Loss) (k : ℕ) (w : Written) (n space : ℕ) → written_of w ≡ counted_size (least_of p) count loss k → w ≡ Size n → n ≤ space → FrameFits (least_of p) count k n space
+  pub frame_fits : (count : ℕ) (loss : Loss) (k : ℕ) (w : Result ℕ RtcpWriteError) (n space : ℕ) → written_of w ≡ counted_size (least_of p) count loss k → w ≡ Ok n → n ≤ space → FrameFits (least_of p) count k n space
   frame_fits count loss k w n space e q h = counted_fits count loss k n space (sym e ∙ ap written_of q) h
 
   module _ (count k n : ℕ) (l : List ℕ) (f : FrameFits (least_of p) count k n (length l)) where
@@ -168,7 +167,7 @@ module _ (p : Reporter) where
     unfolding framed
     frame_done n l₁ e = e
 
-    pub frame_refused : (w : Written) (x : RtcpWriteError) → w ≡ Refused x → l ≡ framed p count k (written_of w) l
+    pub frame_refused : (w : Result ℕ RtcpWriteError) (x : RtcpWriteError) → w ≡ Err x → l ≡ framed p count k (written_of w) l
     unfolding framed
     frame_refused w x q = rw q
 
@@ -177,11 +176,11 @@ module _ (p : Reporter) where
 abbrev answered : Answer ℕ × List ℕ → Answer ℕ
 answered r = r.0
 
-module _ (w : Written) (c : Answer ℕ) (l : List ℕ) (e : written_of w ≡ c) where
-  pub room_refused : (x : RtcpWriteError) → w ≡ Refused x → written_of w ≡ room c (length l)
+module _ (w : Result ℕ RtcpWriteError) (c : Answer ℕ) (l : List ℕ) (e : written_of w ≡ c) where
+  pub room_refused : (x : RtcpWriteError) → w ≡ Err x → written_of w ≡ room c (length l)
   room_refused x q = ap answered (refused_written w c [] l e x q)
 
-  module _ (n : ℕ) (q : w ≡ Size n) where
+  module _ (n : ℕ) (q : w ≡ Ok n) where
     pub room_short : length l < n → refused (refusal 10 n 0) ≡ room c (length l)
     room_short h = ap answered (short_written w c [] l e n q h)
 
@@ -199,12 +198,12 @@ room_ok c space n e =
 
 -- ---- how many blocks are laid
 
-module _ (w : Written) (count : ℕ) where
-  pub none_laid : (x : RtcpWriteError) → w ≡ Refused x → 0 ≡ laid_count (written_of w) count
+module _ (w : Result ℕ RtcpWriteError) (count : ℕ) where
+  pub none_laid : (x : RtcpWriteError) → w ≡ Err x → 0 ≡ laid_count (written_of w) count
   unfolding laid_count
   none_laid x q = sym (rw q)
 
-  pub all_laid : (n : ℕ) → w ≡ Size n → count ≡ laid_count (written_of w) count
+  pub all_laid : (n : ℕ) → w ≡ Ok n → count ≡ laid_count (written_of w) count
   unfolding laid_count
   all_laid n q = sym (rw q)
 

@@ -11,7 +11,7 @@ ghost use Rattle.rfc3550.specs.Write.{lists_of, give_report, calculate_size, roo
 ghost use Rattle.rfc3550.specs.Writer.{add, call};
 ghost use Rattle.utils.specs.Writer.{written_of};
 ghost use Rattle.report_write.specs.Report.{counted_size, head_laid};
-ghost use Rattle.compound_write.specs.Writer.{outcome_of, writer_of, call_of};
+ghost use Rattle.compound_write.specs.Writer.{writer_of, call_of};
 ghost use Rattle.records.specs.Records.{no_block, block_of, records_of, reporter_of, least_of, later_of, tested_of, FrameFits, frame_laid, framed, laid_count};
 ghost use Rattle.records.specs.Adds.{admitted, add_framed, blocks_at, added_end, concluded};
 
@@ -23,7 +23,6 @@ use report_write::sender::SenderInfo;
 use report_write::{receiver, report_block, sender};
 use utils::error::RtcpWriteError;
 use utils::writer;
-use utils::writer::Written;
 
 // Who reports: a receiver, by its SSRC, or a sender.
 #[derive(Clone, Copy)]
@@ -112,18 +111,18 @@ fn packet_type(reporter: Reporter) -> u8
 }
 
 // The size of a report of so many blocks, of which one loss decides, or why it is refused.
-fn check_report(reporter: Reporter, count: usize, loss: i32, padding: u64) -> Written
+fn check_report(reporter: Reporter, count: usize, loss: i32, padding: u64) -> Result<usize, RtcpWriteError>
     ensures { written_of result ≡ counted_size (least_of reporter) count loss padding }
 {
     let size = report_block::size_of_count(count, loss, padding, least(reporter));
     if size == 0 {
-        return Written::Refused(report_block::why_count(count, loss, padding));
+        return Err(report_block::why_count(count, loss, padding));
     }
-    Written::Size(size)
+    Ok(size)
 }
 
 // The size of a report, or why it is refused.
-pub fn calculate_size(reporter: Reporter, blocks: &[ReportBlock], padding: u64) -> Written
+pub fn calculate_size(reporter: Reporter, blocks: &[ReportBlock], padding: u64) -> Result<usize, RtcpWriteError>
     ensures { written_of result ≡ calculate_size (give_report (reporter_of reporter) (lists_of (records_of blocks.now)) padding) }
 {
     let loss = tested_loss(blocks);
@@ -162,27 +161,27 @@ fn write_frame_unchecked(
 }
 
 // Answers for a report, and lays all of it but the blocks.
-fn write_frame(buf: &mut [u8], reporter: Reporter, count: usize, loss: i32, padding: u64) -> Written
+fn write_frame(buf: &mut [u8], reporter: Reporter, count: usize, loss: i32, padding: u64) -> Result<usize, RtcpWriteError>
     ensures { (written_of result ≡ room (counted_size (least_of reporter) count loss padding) (length buf.old)) × (buf.new ≡ framed reporter count padding (written_of result) buf.old) }
 {
     let checked = check_report(reporter, count, loss, padding);
-    let Written::Size(size) = checked else {
+    let Ok(size) = checked else {
         return checked;
     };
     if buf.len() < size {
-        return Written::Refused(RtcpWriteError::OutputTooSmall(size as u64));
+        return Err(RtcpWriteError::OutputTooSmall(size as u64));
     }
     write_frame_unchecked(buf, reporter, count, padding, size);
-    Written::Size(size)
+    Ok(size)
 }
 
 // How many blocks are to be laid: none where the report is refused.
-fn laid_count(answer: Written, count: usize) -> usize
+fn laid_count(answer: Result<usize, RtcpWriteError>, count: usize) -> usize
     ensures { result ≡ laid_count (written_of answer) count }
 {
     match answer {
-        Written::Refused(_) => 0,
-        Written::Size(_) => count,
+        Err(_) => 0,
+        Ok(_) => count,
     }
 }
 
@@ -199,7 +198,7 @@ pub fn write_into(
     reporter: Reporter,
     blocks: &[ReportBlock],
     padding: u64,
-) -> Written
+) -> Result<usize, RtcpWriteError>
     ensures { (written_of result, buf.new) ≡ write (give_report (reporter_of reporter) (lists_of (records_of blocks.now)) padding) buf.old }
 {
     let loss = tested_loss(blocks);
@@ -218,39 +217,39 @@ fn add_frame(
     count: usize,
     loss: i32,
     padding: u64,
-) -> Written
+) -> Result<usize, RtcpWriteError>
     ensures { (written_of result ≡ admitted (writer_of writer) true (counted_size (least_of reporter) count loss padding) (length buf.old)) × (buf.new ≡ add_framed writer.len reporter count padding (written_of result) buf.old) }
 {
     let size = report_block::size_of_count(count, loss, padding, least(reporter));
     let packet_type = packet_type(reporter);
     if !writer.admit(packet_type, size, buf.len()) {
         let own = report_block::why_count(count, loss, padding);
-        return Written::Refused(writer.why(packet_type, size, own, buf.len()));
+        return Err(writer.why(packet_type, size, own, buf.len()));
     }
     let at = writer.len;
     write_frame_unchecked(&mut buf[at..], reporter, count, padding, size);
-    Written::Size(size)
+    Ok(size)
 }
 
 // Where the blocks of a report that passed its tests start.
-fn blocks_at(writer: Writer, reporter: Reporter, tested: Written) -> usize
+fn blocks_at(writer: Writer, reporter: Reporter, tested: Result<usize, RtcpWriteError>) -> usize
     requires { blocks_at writer.len reporter (written_of tested) < 2 ^ 64 }
     ensures { result ≡ blocks_at writer.len reporter (written_of tested) }
 {
     match tested {
-        Written::Refused(_) => 0,
-        Written::Size(_) => writer.len + start(reporter),
+        Err(_) => 0,
+        Ok(_) => writer.len + start(reporter),
     }
 }
 
 // The answer to the call, and the writer after it.
-fn conclude(writer: Writer, tested: Written, padding: u64) -> Call
+fn conclude(writer: Writer, tested: Result<usize, RtcpWriteError>, padding: u64) -> Call
     requires { added_end writer.len (written_of tested) < 2 ^ 64 }
     ensures { call_of result ≡ concluded (writer_of writer) (written_of tested) padding }
 {
     match tested {
-        Written::Refused(e) => writer.refuse(e),
-        Written::Size(size) => writer.advance_unchecked(size, padding, false),
+        Err(e) => writer.refuse(e),
+        Ok(size) => writer.advance_unchecked(size, padding, false),
     }
 }
 
@@ -262,7 +261,7 @@ pub fn add_report(
     blocks: &[ReportBlock],
     padding: u64,
 ) -> Call
-    ensures { (outcome_of result.answer, writer_of result.writer, buf.new) ≡ call (add (give_report (reporter_of reporter) (lists_of (records_of blocks.now)) padding)) (writer_of writer) buf.old }
+    ensures { (written_of result.answer, writer_of result.writer, buf.new) ≡ call (add (give_report (reporter_of reporter) (lists_of (records_of blocks.now)) padding)) (writer_of writer) buf.old }
 {
     let loss = tested_loss(blocks);
     let tested = add_frame(writer, buf, reporter, blocks.len(), loss, padding);

@@ -1,4 +1,3 @@
 pub mod Losses
 pub mod Blocks
 pub mod Reports
-pub mod Injective

@@ -6,12 +6,6 @@ use Rattle.rfc3550.specs.Loss.{Loss}
 use Rattle.rfc3550.specs.Packet.{Block}
 use Rattle.utils.specs.Error.{parse_refusal}
 use Rattle.report.specs.declared.report_block.ReportBlock.{ReportBlock}
-use Rattle.report.specs.declared.report_block.ParsedReportBlock.{ParsedReportBlock}
-use Rattle.report.specs.declared.report_block.ParsedReportBlock.TheVariants as parsed
-
-abbrev pub parsed_block_of : ParsedReportBlock → Answer ReportBlock
-parsed_block_of (parsed.Block b) = ok b
-parsed_block_of (parsed.Refused e) = refused (parse_refusal e)
 
 abbrev pub block_view : Block → ReportBlock
 block_view b =

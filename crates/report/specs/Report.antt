@@ -5,19 +5,7 @@ use Rattle.rfc3550.specs.Packet.{Block, Content, report, sdes, bye, app, unknown
 use Rattle.rfc3550.specs.Read.{least, kind_for, blocks_of}
 use Rattle.utils.specs.Error.{parse_refusal}
 use Rattle.report.specs.declared.receiver.ReceiverReport.{ReceiverReport}
-use Rattle.report.specs.declared.receiver.ParsedReceiverReport.{ParsedReceiverReport}
-use Rattle.report.specs.declared.receiver.ParsedReceiverReport.TheVariants as receiver
 use Rattle.report.specs.declared.sender.SenderReport.{SenderReport}
-use Rattle.report.specs.declared.sender.ParsedSenderReport.{ParsedSenderReport}
-use Rattle.report.specs.declared.sender.ParsedSenderReport.TheVariants as sender
-
-abbrev pub parsed_receiver_of : ParsedReceiverReport → Answer ReceiverReport
-parsed_receiver_of (receiver.Report r) = ok r
-parsed_receiver_of (receiver.Refused e) = refused (parse_refusal e)
-
-abbrev pub parsed_sender_of : ParsedSenderReport → Answer SenderReport
-parsed_sender_of (sender.Report r) = ok r
-parsed_sender_of (sender.Refused e) = refused (parse_refusal e)
 
 -- what stands before the blocks, in reading order
 abbrev pub fields_of : Content → List ℕ

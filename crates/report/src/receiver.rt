@@ -2,14 +2,14 @@
 ghost use Rattle.std.specs.Prelude.{◌≡◌, ◌-◌, take, drop};
 ghost use Rattle.rfc3550.specs.Answer.{map_ok};
 ghost use Rattle.rfc3550.specs.Read.{RR, read_as, read_block_at};
-ghost use Rattle.utils.specs.Error.{parse_refusal, refusal_in, value_or};
+ghost use Rattle.utils.specs.Error.{parse_refusal, refusal_in, value_or, parsed_of};
 ghost use Rattle.utils.specs.List.{listed_of};
-ghost use Rattle.report.specs.Block.{parsed_block_of, block_view, lay_blocks};
-ghost use Rattle.report.specs.Report.{parsed_receiver_of, receiver_view, no_receiver, report_body, report_blocks};
+ghost use Rattle.report.specs.Block.{block_view, lay_blocks};
+ghost use Rattle.report.specs.Report.{receiver_view, no_receiver, report_body, report_blocks};
 
-use super::report_block::{ParsedReportBlock, ReportBlock, list_blocks_unchecked};
+use super::report_block::{ReportBlock, list_blocks_unchecked};
 use utils::error::RtcpParseError;
-use utils::list::Listed;
+use utils::list::ListError;
 
 // The extension lies between the places extension and body, where the padding starts.
 #[derive(Clone, Copy)]
@@ -19,12 +19,6 @@ pub struct ReceiverReport {
     pub extension: usize,
     pub body: usize,
     pub padding_len: usize,
-}
-
-#[derive(Clone, Copy)]
-pub enum ParsedReceiverReport {
-    Report(ReceiverReport),
-    Refused(RtcpParseError),
 }
 
 impl ReceiverReport {
@@ -101,29 +95,29 @@ impl ReceiverReport {
         }
     }
 
-    pub fn parse(s: &[u8]) -> ParsedReceiverReport
-        ensures { parsed_receiver_of result ≡ map_ok receiver_view (read_as RR s.now) }
+    pub fn parse(s: &[u8]) -> Result<ReceiverReport, RtcpParseError>
+        ensures { parsed_of result ≡ map_ok receiver_view (read_as RR s.now) }
     {
         let report = ReceiverReport::read(s);
         if report.body == 0 {
-            return ParsedReceiverReport::Refused(ReceiverReport::why(&s[0..]));
+            return Err(ReceiverReport::why(&s[0..]));
         }
-        ParsedReceiverReport::Report(report)
+        Ok(report)
     }
 
     // The block with an index, from 0.
-    pub fn report_block(s: &[u8], i: usize) -> ParsedReportBlock
-        ensures { parsed_block_of result ≡ map_ok block_view (read_block_at RR s.now i) }
+    pub fn report_block(s: &[u8], i: usize) -> Result<ReportBlock, RtcpParseError>
+        ensures { parsed_of result ≡ map_ok block_view (read_block_at RR s.now i) }
     {
         if ReceiverReport::body_of(s) == 0 {
-            return ParsedReportBlock::Refused(ReceiverReport::why(&s[0..]));
+            return Err(ReceiverReport::why(&s[0..]));
         }
         let n = utils::parser::parse_count(s) as usize;
         if n <= i {
-            return ParsedReportBlock::Refused(RtcpParseError::NothingLeft);
+            return Err(RtcpParseError::NothingLeft);
         }
         let at = ReceiverReport::MIN_PACKET_LEN + ReportBlock::EXPECTED_SIZE * i;
-        ParsedReportBlock::Block(super::report_block::parse_block_unchecked(s, at))
+        Ok(super::report_block::parse_block_unchecked(s, at))
     }
 
     // All blocks, into three lent lists: a fraction and a loss for each, and the five words that follow.
@@ -132,11 +126,11 @@ impl ReceiverReport {
         fractions: &mut [u8],
         losses: &mut [i32],
         words: &mut [u32],
-    ) -> Listed
+    ) -> Result<usize, ListError>
         ensures { (listed_of result, fractions.new, losses.new, words.new) ≡ lay_blocks (map_ok report_blocks (read_as RR s.now)) fractions.old losses.old words.old }
     {
         if ReceiverReport::body_of(s) == 0 {
-            return Listed::Refused(ReceiverReport::why(&s[0..]));
+            return Err(ListError::Refused(ReceiverReport::why(&s[0..])));
         }
         let n = utils::parser::parse_count(s) as usize;
         list_blocks_unchecked(

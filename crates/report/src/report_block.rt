@@ -4,12 +4,13 @@ ghost use Rattle.rfc3550.specs.Answer.{ok, map_ok};
 ghost use Rattle.rfc3550.specs.Bytes.{get};
 ghost use Rattle.rfc3550.specs.Packet.{block_widths};
 ghost use Rattle.rfc3550.specs.Read.{block_from, read_block, read_blocks};
+ghost use Rattle.utils.specs.Error.{parsed_of};
 ghost use Rattle.utils.specs.List.{listed_of};
-ghost use Rattle.report.specs.Block.{parsed_block_of, block_view, lay_blocks, BlockListed, BlocksListed};
+ghost use Rattle.report.specs.Block.{block_view, lay_blocks, BlockListed, BlocksListed};
 
 use super::loss::loss_of;
 use utils::error::RtcpParseError;
-use utils::list::Listed;
+use utils::list::ListError;
 use utils::parser::u32_from_be_bytes;
 
 #[derive(Clone, Copy)]
@@ -23,12 +24,6 @@ pub struct ReportBlock {
     pub delay_since_last_sender_report_timestamp: u32,
 }
 
-#[derive(Clone, Copy)]
-pub enum ParsedReportBlock {
-    Block(ReportBlock),
-    Refused(RtcpParseError),
-}
-
 impl ReportBlock {
     pub const EXPECTED_SIZE: usize = 24;
 
@@ -36,22 +31,22 @@ impl ReportBlock {
     pub const WORDS: usize = 5;
 
     // A block by itself.
-    pub fn parse(s: &[u8]) -> ParsedReportBlock
-        ensures { parsed_block_of result ≡ map_ok block_view (read_block s.now) }
+    pub fn parse(s: &[u8]) -> Result<ReportBlock, RtcpParseError>
+        ensures { parsed_of result ≡ map_ok block_view (read_block s.now) }
     {
         if s.len() < ReportBlock::EXPECTED_SIZE {
-            return ParsedReportBlock::Refused(RtcpParseError::Truncated {
+            return Err(RtcpParseError::Truncated {
                 expected: ReportBlock::EXPECTED_SIZE,
                 actual: s.len(),
             });
         }
         if ReportBlock::EXPECTED_SIZE < s.len() {
-            return ParsedReportBlock::Refused(RtcpParseError::TooLarge {
+            return Err(RtcpParseError::TooLarge {
                 expected: ReportBlock::EXPECTED_SIZE,
                 actual: s.len(),
             });
         }
-        ParsedReportBlock::Block(parse_block_unchecked(s, 0))
+        Ok(parse_block_unchecked(s, 0))
     }
 }
 
@@ -131,19 +126,19 @@ pub fn list_blocks_unchecked(
     fractions: &mut [u8],
     losses: &mut [i32],
     words: &mut [u32],
-) -> Listed
+) -> Result<usize, ListError>
     requires { at + n * 24 ≤ length s.now }
     ensures { (listed_of result, fractions.new, losses.new, words.new) ≡ lay_blocks (ok (read_blocks n (drop at s.now))) fractions.old losses.old words.old }
 {
     if fractions.len() < n {
-        return Listed::TooShort(n);
+        return Err(ListError::TooShort(n));
     }
     if losses.len() < n {
-        return Listed::TooShort(n);
+        return Err(ListError::TooShort(n));
     }
     if words.len() < n * ReportBlock::WORDS {
-        return Listed::TooShort(n);
+        return Err(ListError::TooShort(n));
     }
     list_all_unchecked(s, at, n, fractions, losses, words);
-    Listed::Len(n)
+    Ok(n)
 }

@@ -11,7 +11,6 @@ use crate::report_block;
 use report::sender::SenderReport;
 use utils::error::RtcpWriteError;
 use utils::writer;
-use utils::writer::Written;
 
 // Who sends, and what was sent.
 #[derive(Clone, Copy)]
@@ -37,19 +36,19 @@ pub fn size_of(fractions: &[u8], losses: &[i32], words: &[u32], padding: u64) ->
 }
 
 // The size of a sender report, whatever it says of the sender, or why it is refused.
-pub fn calculate_size(fractions: &[u8], losses: &[i32], words: &[u32], padding: u64) -> Written
+pub fn calculate_size(fractions: &[u8], losses: &[i32], words: &[u32], padding: u64) -> Result<usize, RtcpWriteError>
     ensures { written_of result ≡ calculate_size (give_report (sender 0 0 0 0 0) (block_lists fractions.now losses.now words.now) padding) }
 {
     let size = size_of(fractions, losses, words, padding);
     if size == 0 {
-        return Written::Refused(report_block::why_size(
+        return Err(report_block::why_size(
             &fractions[0..],
             &losses[0..],
             &words[0..],
             padding,
         ));
     }
-    Written::Size(size)
+    Ok(size)
 }
 
 fn write_info(buf: &mut [u8], info: SenderInfo)
@@ -111,12 +110,12 @@ pub fn write_into(
     losses: &[i32],
     words: &[u32],
     padding: u64,
-) -> Written
+) -> Result<usize, RtcpWriteError>
     ensures { (written_of result, buf.new) ≡ write (give_report (sender_of info) (block_lists fractions.now losses.now words.now) padding) buf.old }
 {
     let size = size_of(fractions, losses, words, padding);
     if size == 0 {
-        return Written::Refused(report_block::why_size(
+        return Err(report_block::why_size(
             &fractions[0..],
             &losses[0..],
             &words[0..],
@@ -124,8 +123,8 @@ pub fn write_into(
         ));
     }
     if buf.len() < size {
-        return Written::Refused(RtcpWriteError::OutputTooSmall(size as u64));
+        return Err(RtcpWriteError::OutputTooSmall(size as u64));
     }
     write_into_unchecked(buf, info, fractions, losses, words, padding, size);
-    Written::Size(size)
+    Ok(size)
 }

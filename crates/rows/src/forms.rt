@@ -1,11 +1,13 @@
 // Rows of reports whose blocks are lent as records, and of the walk over chunks that holds its bytes.
+use sdes_chunk::chunk::SdesChunk;
+use utils::error::RtcpParseError;
 use super::print::{four, three, two, written};
 use super::{held, lend, lists};
-use compound_write::writer::{Call, Outcome, Writer};
+use compound_write::writer::{Call, Writer};
 use records::Reporter;
 use report::report_block::ReportBlock;
 use rtcp::write_result::RtcpWritten;
-use sdes::sdes::{ChunkWalk, OpenedChunks, SteppedChunk};
+use sdes::sdes::ChunkWalk;
 use std::io;
 
 fn word(list: &[u32], i: usize) -> u32 {
@@ -46,8 +48,8 @@ fn bit(b: bool) -> u64 {
 fn called(to: &mut Vec<u8>, r: Call) -> io::Result<()> {
     let answer = r.answer;
     match answer {
-        Outcome::Done => three(to, 0, 0, 0)?,
-        Outcome::Refused(e) => {
+        Ok(()) => three(to, 0, 0, 0)?,
+        Err(e) => {
             let code = e.code();
             three(to, code.number, code.first, code.second)?;
         }
@@ -94,13 +96,13 @@ pub fn report(
     }
 }
 
-fn opened(to: &mut Vec<u8>, answer: OpenedChunks) -> io::Result<()> {
+fn opened(to: &mut Vec<u8>, answer: Result<ChunkWalk, RtcpParseError>) -> io::Result<()> {
     match answer {
-        OpenedChunks::Walk(walk) => {
+        Ok(walk) => {
             three(to, 0, 0, 0)?;
             two(to, walk.at as u64, walk.end as u64)
         }
-        OpenedChunks::Refused(e) => {
+        Err(e) => {
             let code = e.code();
             three(to, code.number, code.first, code.second)?;
             two(to, 0, 0)
@@ -109,14 +111,14 @@ fn opened(to: &mut Vec<u8>, answer: OpenedChunks) -> io::Result<()> {
 }
 
 // On a refusal the walk is as it was.
-fn stepped(to: &mut Vec<u8>, answer: SteppedChunk, at: u64, end: u64) -> io::Result<()> {
+fn stepped(to: &mut Vec<u8>, answer: Result<(SdesChunk, ChunkWalk), RtcpParseError>, at: u64, end: u64) -> io::Result<()> {
     match answer {
-        SteppedChunk::Chunk(chunk, next) => {
+        Ok((chunk, next)) => {
             four(to, 0, 0, 0, chunk.ssrc as u64)?;
             two(to, chunk.length as u64, chunk.cname as u64)?;
             two(to, next.at as u64, next.end as u64)
         }
-        SteppedChunk::Refused(e) => {
+        Err(e) => {
             let code = e.code();
             four(to, code.number, code.first, code.second, 0)?;
             four(to, 0, 0, at, end)
@@ -125,11 +127,11 @@ fn stepped(to: &mut Vec<u8>, answer: SteppedChunk, at: u64, end: u64) -> io::Res
 }
 
 // The answer to step n, counted from 0, of a walk that is opened on the bytes; after so many steps as there are bytes it has come to its end.
-fn chunk(s: &[u8], n: u64) -> SteppedChunk {
+fn chunk(s: &[u8], n: u64) -> Result<(SdesChunk, ChunkWalk), RtcpParseError> {
     let first = held::open_and_step(s, ChunkWalk { at: 0, end: 0 });
     let answer = first.opened;
-    if let OpenedChunks::Refused(e) = answer {
-        return SteppedChunk::Refused(e);
+    if let Err(e) = answer {
+        return Err(e);
     }
     let most = lists::limited(n, s);
     let mut place = first.start;

@@ -1,13 +1,15 @@
 // The walk that holds its bytes, opened on them, and stepped from any place.
-use sdes::sdes::{ChunkWalk, OpenedChunks, SteppedChunk};
+use sdes_chunk::chunk::SdesChunk;
+use utils::error::RtcpParseError;
+use sdes::sdes::ChunkWalk;
 use sdes_walk::SdesWalk;
 
 // The two answers, and where the walk that each hands back stands.
 #[derive(Clone, Copy)]
 pub struct Held {
-    pub opened: OpenedChunks,
+    pub opened: Result<ChunkWalk, RtcpParseError>,
     pub start: ChunkWalk,
-    pub stepped: SteppedChunk,
+    pub stepped: Result<(SdesChunk, ChunkWalk), RtcpParseError>,
     pub next: ChunkWalk,
 }
 

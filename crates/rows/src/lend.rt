@@ -1,15 +1,15 @@
 // Blocks by value, the first n of them lent as one run of records to the three functions that take such a run.
 ghost use Rattle.std.specs.Prelude.{◌≤◌};
 
+use utils::error::RtcpWriteError;
 use compound_write::writer::{Call, Writer};
 use records::Reporter;
 use report::report_block::ReportBlock;
-use utils::writer::Written;
 
 #[derive(Clone, Copy)]
 pub struct Lent {
-    pub size: Written,
-    pub written: Written,
+    pub size: Result<usize, RtcpWriteError>,
+    pub written: Result<usize, RtcpWriteError>,
     pub call: Call,
 }
 

@@ -9,7 +9,7 @@ use report::sender::SenderReport;
 use rtcp::read_report::RtcpBlock;
 use rtcp::{read_app, read_bye, read_compound, read_report, read_sdes};
 use sdes::sdes::Sdes;
-use sdes_chunk::item::{ParsedItem, SdesItem};
+use sdes_chunk::item::SdesItem;
 use std::io;
 
 pub fn figures(to: &mut Vec<u8>, r: RtcpBlock) -> io::Result<()> {
@@ -153,7 +153,7 @@ fn datagram(to: &mut Vec<u8>, op: usize, s: &[u8], at: u64) -> io::Result<()> {
 
 fn value(to: &mut Vec<u8>, s: &[u8]) -> io::Result<()> {
     let parsed = SdesItem::parse(s);
-    let ParsedItem::Item(item) = parsed else {
+    let Ok(item) = parsed else {
         return bytes(to, b"");
     };
     bytes(to, item.value(s))

@@ -1,19 +1,20 @@
 -- APP packets: what C gets, from what the reader answers.
+use Rattle.std.specs.Prelude.{Result, Ok}
 use Rattle.rfc3550.proofs.Prelude.{◌≡◌, refl, List, ℕ, ◌≤◌, arith, rules, take, drop}
 use Rattle.rfc3550.specs.Answer.{Answer, ok, map_ok}
 use Rattle.rfc3550.specs.Packet.{Packet}
 use Rattle.rfc3550.specs.Read.{APP, read_as}
-use Rattle.app.specs.App.{parsed_of, app_view, name_of, data_of}
+use Rattle.utils.specs.Error.{parsed_of}
+use Rattle.utils.specs.declared.error.RtcpParseError.{RtcpParseError}
+use Rattle.app.specs.App.{app_view, name_of, data_of}
 use Rattle.app.specs.declared.App.{App}
-use Rattle.app.specs.declared.ParsedApp.{ParsedApp}
-use Rattle.app.specs.declared.ParsedApp.TheVariants as parsed
 use Rattle.app.proofs.Apps.{parts}
 use Rattle.rtcp.specs.App.{app_result}
 use Rattle.rtcp.specs.declared.read_app.RtcpApp.{RtcpApp}
 use Rattle.rtcp.proofs.Results.{viewed}
 
-pub app_order : (o : ParsedApp) (a : App) (x : Answer Packet) → o ≡ parsed.App a → parsed_of o ≡ map_ok app_view x → 12 ≤ a.body
-app_order o a x = viewed parsed_of parsed.App (λ a. refl) app_view (λ (a : App). 12 ≤ a.body) x (λ p e. omega arith) o a
+pub app_order : (o : Result App RtcpParseError) (a : App) (x : Answer Packet) → o ≡ Ok a → parsed_of o ≡ map_ok app_view x → 12 ≤ a.body
+app_order o a x = viewed app_view (λ (a : App). 12 ≤ a.body) x (λ p e. omega arith) o a
 
 -- the bytes at C's places are the packet's fields
 pub record Places (s : List ℕ) (p : Packet) (r : RtcpApp) : Type 0 where

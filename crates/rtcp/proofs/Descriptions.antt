@@ -1,24 +1,20 @@
 -- SDES packets, chunks, items and walks: what C gets, from what the readers answer.
-use Rattle.rfc3550.proofs.Prelude.{◌≡◌, refl, sym, ap, Bool, not, List, ℕ, ◌+◌, ◌-◌, ◌^◌, ◌<◌, ◌≤◌, arith, length, drop, get_or, eqb, ltb, rules, eq-eqb, ne_eqb}
+use Rattle.std.specs.Prelude.{Result, Ok}
+use Rattle.rfc3550.proofs.Prelude.{◌≡◌, refl, sym, ap, Bool, not, List, ℕ, ◌+◌, ◌-◌, ◌^◌, ◌<◌, ◌≤◌, arith, length, length-drop, drop, get_or, eqb, ltb, rules, eq-eqb, ne_eqb}
 use Rattle.rfc3550.specs.Answer.{refusal, Answer, ok, refused, map_ok, pick}
 use Rattle.rfc3550.specs.Packet.{Item, item, priv, item_rest, item_bytes}
 use Rattle.rfc3550.specs.Read.{read_item, read_prefix}
 use Rattle.rfc3550.specs.Walk.{item_step}
 use Rattle.rfc3550.proofs.Answers.{ok_injective, need_inv, bind_elim}
-use Rattle.sdes_chunk.specs.Item.{item_view, item_first, prefix_length, value_start, prefix_in, answer_of, parsed_item_of}
-use Rattle.sdes_chunk.specs.Walk.{item_stepped, stepped_item_of}
+use Rattle.utils.specs.Error.{parsed_of}
+use Rattle.utils.specs.declared.error.RtcpParseError.{RtcpParseError}
+use Rattle.sdes_chunk.specs.Item.{item_view, item_first, prefix_length, value_start, prefix_in, answer_of}
+use Rattle.sdes_chunk.specs.Walk.{item_stepped}
 use Rattle.sdes_chunk.proofs.Readings.{item_placed, Numbered, prefix_numbered}
 use Rattle.sdes_chunk.specs.declared.item.SdesItem.{SdesItem}
-use Rattle.sdes_chunk.specs.declared.item.ParsedItem.{ParsedItem}
-use Rattle.sdes_chunk.specs.declared.item.ParsedItem.TheVariants as parsed
 use Rattle.sdes_chunk.specs.declared.chunk.ItemWalk.{ItemWalk}
 use Rattle.sdes_chunk.specs.declared.chunk.SdesChunk.{SdesChunk}
-use Rattle.sdes_chunk.specs.declared.chunk.SteppedItem.{SteppedItem}
-use Rattle.sdes_chunk.specs.declared.chunk.SteppedItem.TheVariants as stepped_item
-use Rattle.sdes.specs.Walk.{stepped_chunk_of}
 use Rattle.sdes.specs.declared.sdes.ChunkWalk.{ChunkWalk}
-use Rattle.sdes.specs.declared.sdes.SteppedChunk.{SteppedChunk}
-use Rattle.sdes.specs.declared.sdes.SteppedChunk.TheVariants as stepped_chunk
 use Rattle.rtcp.specs.Sdes.{prefix_start, item_parts, prefix_result, chunk_step_result, item_step_result}
 use Rattle.rtcp.proofs.Results.{handed, viewed}
 
@@ -44,14 +40,14 @@ starts (priv p v) = refl
 in_item : (s : List ℕ) {x : Item × List ℕ} → read_item s ≡ ok x → prefix_start (item_view x.0) + prefix_length x.0 ≤ 2 + length (item_rest x.0)
 in_item s {x} e = rw (starts x.0) (item_placed s e).start
 
-module _ (o : ParsedItem) (i : SdesItem) (s : List ℕ) (p : o ≡ parsed.Item i) (q : parsed_item_of o ≡ map_ok item_first (read_item s)) where
+module _ (o : Result SdesItem RtcpParseError) (i : SdesItem) (s : List ℕ) (p : o ≡ Ok i) (q : parsed_of o ≡ map_ok item_first (read_item s)) where
   pub item_order : prefix_start i + i.prefix_len ≤ 2 + i.length
-  item_order = viewed parsed_item_of parsed.Item (λ i. refl) item_first (λ (i : SdesItem). prefix_start i + i.prefix_len ≤ 2 + i.length) (read_item s) (λ x e. in_item s e) o i p q
+  item_order = viewed item_first (λ (i : SdesItem). prefix_start i + i.prefix_len ≤ 2 + i.length) (read_item s) (λ x e. in_item s e) o i p q
 
   pub item_fits : length s < 2 ^ 64 → 0 + (2 + i.length) < 2 ^ 64
   item_fits l =
       let m : 2 + i.length ≤ length s =
-      viewed parsed_item_of parsed.Item (λ i. refl) item_first (λ (i : SdesItem). 2 + i.length ≤ length s) (read_item s) (λ x e. (item_placed s e).within) o i p q
+      viewed item_first (λ (i : SdesItem). 2 + i.length ≤ length s) (read_item s) (λ x e. (item_placed s e).within) o i p q
       in omega arith
 
 -- ---- the prefix
@@ -89,24 +85,27 @@ step_read s at {y} e =
         let k : x.0 ≡ y.0 = ap (λ (z : Item × ℕ). z.0) h in
         (x.1, rw (← k) f, rw (← k) (sym (ap (λ (z : Item × ℕ). z.1) h)))
 
-module _ (o : SteppedItem) (i : SdesItem) (w : ItemWalk) (s : List ℕ) (at : ℕ) (p : o ≡ stepped_item.Item i w) (q : stepped_item_of o ≡ map_ok item_stepped (item_step s at)) where
+module _ (o : Result (SdesItem × ItemWalk) RtcpParseError) (i : SdesItem) (w : ItemWalk) (s : List ℕ) (at : ℕ) (p : o ≡ Ok (i, w)) (q : parsed_of o ≡ map_ok item_stepped (item_step s at)) where
   came : (P : SdesItem × ItemWalk → Type 0) → ((y : Item × ℕ) → item_step s at ≡ ok y → P (item_stepped y)) → P (i, w)
-  came P all = viewed stepped_item_of (λ (x : SdesItem × ItemWalk). stepped_item.Item x.0 x.1) (λ x. refl) item_stepped P (item_step s at) all o (i, w) p q
+  came P all = viewed item_stepped P (item_step s at) all o (i, w) p q
 
   pub step_order : prefix_start i + i.prefix_len ≤ 2 + i.length
   step_order = came (λ x. prefix_start x.0 + x.0.prefix_len ≤ 2 + x.0.length) (λ y e. in_item (drop at s) (step_read s at e).1)
 
-  pub step_fits : w.at < 2 ^ 64 → at + (2 + i.length) < 2 ^ 64
-  step_fits l = let m = came (λ x. x.1.at ≡ at + (2 + x.0.length)) (λ y e. let g = (step_read s at e).2 in omega arith) in omega arith
+  pub step_fits : length s < 2 ^ 64 → at + (2 + i.length) < 2 ^ 64
+  step_fits l =
+      let m : 2 + i.length ≤ length s - at =
+      came (λ x. 2 + x.0.length ≤ length s - at) (λ y e. let g = item_placed (drop at s) (step_read s at e).1 in let d = length-drop at s in omega (arith, g.within))
+      in omega arith
 
 -- ---- what C gets of a step
 
-pub item_stepped_lem : (at : ℕ) (o : SteppedItem) (i : SdesItem) (w : ItemWalk) (x : Answer (SdesItem × ItemWalk)) → o ≡ stepped_item.Item i w → stepped_item_of o ≡ x
+pub item_stepped_lem : (at : ℕ) (o : Result (SdesItem × ItemWalk) RtcpParseError) (i : SdesItem) (w : ItemWalk) (x : Answer (SdesItem × ItemWalk)) → o ≡ Ok (i, w) → parsed_of o ≡ x
     → item_step_result at (ok (i, w)) ≡ item_step_result at x
-item_stepped_lem at o i w x e q = handed (item_step_result at) stepped_item_of (λ (x : SdesItem × ItemWalk). stepped_item.Item x.0 x.1) (λ x. refl) o (i, w) x e q
+item_stepped_lem at o i w x e q = handed (item_step_result at) o (i, w) x e q
 
-pub chunk_stepped_lem : (at end : ℕ) (o : SteppedChunk) (c : SdesChunk) (w : ChunkWalk) (x : Answer (SdesChunk × ChunkWalk)) → o ≡ stepped_chunk.Chunk c w → stepped_chunk_of o ≡ x
+pub chunk_stepped_lem : (at end : ℕ) (o : Result (SdesChunk × ChunkWalk) RtcpParseError) (c : SdesChunk) (w : ChunkWalk) (x : Answer (SdesChunk × ChunkWalk)) → o ≡ Ok (c, w) → parsed_of o ≡ x
     → chunk_step_result at end (ok (c, w)) ≡ chunk_step_result at end x
-chunk_stepped_lem at end o c w x = handed (chunk_step_result at end) stepped_chunk_of (λ (x : SdesChunk × ChunkWalk). stepped_chunk.Chunk x.0 x.1) (λ x. refl) o (c, w) x
+chunk_stepped_lem at end o c w x = handed (chunk_step_result at end) o (c, w) x
 
 pub ruleset descriptions = (rules, start_priv, start_plain, parts_of, item_order, item_fits, prefix_none, prefix_some, step_order, step_fits, chunk_stepped_lem)

@@ -1,4 +1,5 @@
 -- A result of C loses nothing of the answer: number 0 says that it is done, and no refusal has it.
+use Rattle.std.specs.Prelude.{Result, Ok, Err}
 use Rattle.rfc3550.proofs.Prelude.{ℕ, ◌<◌, Bool, true, false, ◌≡◌, refl, sym, ap, ◌∙◌, arith, eqb, ne_eqb}
 use Rattle.rfc3550.specs.Answer.{refusal, Answer, ok, refused, pick}
 use Rattle.rfc3550.specs.Writer.{Writer}
@@ -7,11 +8,9 @@ use Rattle.utils.specs.declared.error.RtcpParseError.{RtcpParseError}
 use Rattle.utils.specs.declared.error.RtcpWriteError.{RtcpWriteError}
 use Rattle.utils.specs.List.{listed_of}
 use Rattle.utils.specs.Writer.{written_of}
-use Rattle.utils.specs.declared.list.Listed.{Listed}
-use Rattle.utils.specs.declared.list.Listed.TheVariants as listed
-use Rattle.utils.specs.declared.writer.Written.{Written}
-use Rattle.utils.specs.declared.writer.Written.TheVariants as written
 use Rattle.utils.proofs.Injective.{injective, no_number, parse_error, parse_refusal_back, write_error, write_refusal_back, written_of_injective}
+use Rattle.utils.specs.declared.list.ListError.{ListError}
+use Rattle.utils.specs.declared.list.ListError.TheVariants as list
 use Rattle.compound.specs.declared.packet.Packet.{Packet}
 use Rattle.compound.specs.declared.packet.Packet.TheVariants as packet
 use Rattle.compound.specs.declared.compound.Walk.{Walk}
@@ -166,29 +165,29 @@ parse_nonzero e = let h = no_number parse_refusal parse_error parse_refusal_back
 write_nonzero : (e : RtcpWriteError) → 0 < number_in (write_refusal e)
 write_nonzero e = let h = no_number write_refusal write_error write_refusal_back 0 (λ a b h. omega arith) e in omega arith
 
-written_nonzero : (w : Written) → Nonzero (written_of w)
-written_nonzero = elim [ written.Size n ↦ tt | written.Refused e ↦ write_nonzero e ]
+written_nonzero : (w : Result ℕ RtcpWriteError) → Nonzero (written_of w)
+written_nonzero = elim [ Ok n ↦ tt | Err e ↦ write_nonzero e ]
 
-listed_nonzero : (w : Listed) → Nonzero (listed_of w)
-listed_nonzero = elim [ listed.Len n ↦ tt | listed.TooShort n ↦ omega arith | listed.Refused e ↦ parse_nonzero e ]
+listed_nonzero : (w : Result ℕ ListError) → Nonzero (listed_of w)
+listed_nonzero = elim [ Ok n ↦ tt | (Err (list.TooShort n)) ↦ omega arith | Err (list.Refused e) ↦ parse_nonzero e ]
 
 -- no refusal of reading has the number of a list too short
-abbrev listed_for : Answer ℕ → Listed
-listed_for (ok n) = listed.Len n
-listed_for (refused r) = pick (eqb (number_in r) 10) (listed.TooShort (first_in r)) (listed.Refused (parse_error r))
+abbrev listed_for : Answer ℕ → Result ℕ ListError
+listed_for (ok n) = Ok n
+listed_for (refused r) = pick (eqb (number_in r) 10) (Err (list.TooShort (first_in r))) (Err (list.Refused (parse_error r)))
 
-listed_back : (w : Listed) → listed_for (listed_of w) ≡ w
-listed_back (listed.Len n) = refl
-listed_back (listed.TooShort n) = refl
-listed_back (listed.Refused e) = rw (ne_eqb (number_in (parse_refusal e)) 10 (no_number parse_refusal parse_error parse_refusal_back 10 (λ a b h. omega arith) e), parse_refusal_back e)
+listed_back : (w : Result ℕ ListError) → listed_for (listed_of w) ≡ w
+listed_back (Ok n) = refl
+listed_back (Err (list.TooShort n)) = refl
+listed_back (Err (list.Refused e)) = rw (ne_eqb (number_in (parse_refusal e)) 10 (no_number parse_refusal parse_error parse_refusal_back 10 (λ a b h. omega arith) e), parse_refusal_back e)
 
 size_injective : Injective written_result
 size_injective = by_fields written_result (λ r. r.size) (λ r. (r.number, r.first, r.second)) (λ a. refl) (λ x. refl)
 
-pub written_out_injective : (v w : Written) → written_result (written_of v) ≡ written_result (written_of w) → v ≡ w
+pub written_out_injective : (v w : Result ℕ RtcpWriteError) → written_result (written_of v) ≡ written_result (written_of w) → v ≡ w
 written_out_injective v w h = written_of_injective v w (size_injective _ _ (written_nonzero v) (written_nonzero w) h)
 
-pub listed_out_injective : (v w : Listed) → written_result (listed_of v) ≡ written_result (listed_of w) → v ≡ w
+pub listed_out_injective : (v w : Result ℕ ListError) → written_result (listed_of v) ≡ written_result (listed_of w) → v ≡ w
 listed_out_injective v w h = injective listed_of listed_for listed_back v w (size_injective _ _ (listed_nonzero v) (listed_nonzero w) h)
 
 pub writer_out_injective : (v w : Writer) → writer_out v ≡ writer_out w → v ≡ w

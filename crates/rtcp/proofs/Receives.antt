@@ -1,4 +1,5 @@
 -- What C gets of a source, and histories of what its functions returned.
+use Rattle.std.specs.Prelude.{Option, Some, None}
 use Rattle.rfc3550.proofs.Prelude.{rules, ℕ, ◌/◌, ◌<◌, ◌≡◌, refl, sym, ap, ◌∙◌, subst, Bool, true, false, List, [], ◌∷◌, map, arith, eqb}
 use Rattle.rfc3550.specs.Answer.{refusal, Answer, ok, refused}
 use Rattle.rfc3550.specs.Packet.{Block, Reporter, All}
@@ -14,8 +15,6 @@ use Rattle.report.specs.Block.{block_view}
 use Rattle.report.specs.declared.report_block.ReportBlock.{ReportBlock}
 use Rattle.reception.specs.Reception.{reception_of, update_of, report_of}
 use Rattle.reception.specs.declared.reception.Update.{Update}
-use Rattle.reception.specs.declared.reception.ReportedBlock.{ReportedBlock}
-use Rattle.reception.specs.declared.reception.ReportedBlock.TheVariants as reported
 use Rattle.reception.specs.declared.reception.Reception as code
 use Rattle.rtcp.specs.Result.{number_of, bit}
 use Rattle.rtcp.specs.WriteResult.{written_with_buffer}
@@ -40,14 +39,14 @@ pub update_out : (s : RtcpReception) (c : code.Reception) (seq timestamp arrival
     → r ≡ reception_result (reception_of u.reception) → a ≡ bit u.accepted → record { reception = r; accepted = a } ≡ update_result (update (reception_in s) seq timestamp arrival)
 update_out s c seq timestamp arrival u r a e m h k = rw (h, k) (ap update_result (m ∙ ap (λ (x : Reception). update x seq timestamp arrival) e))
 
-pub made_out : (s : RtcpReception) (o : ReportedBlock) (b : ReportBlock) (t : code.Reception) (r : RtcpReception) (k : RtcpBlock) → o ≡ reported.Block b t → r ≡ reception_result (reception_of t) → k ≡ block_result (ok b)
+pub made_out : (s : RtcpReception) (o : Option (ReportBlock × code.Reception)) (b : ReportBlock) (t : code.Reception) (r : RtcpReception) (k : RtcpBlock) → o ≡ Some (b, t) → r ≡ reception_result (reception_of t) → k ≡ block_result (ok b)
     → record { reception = r; in_probation = 0; block = k } ≡ report_result (report_of (reception_in s) o)
 made_out s o b t r k e h q = rw (e, h, q)
 
-pub none_out : (s : RtcpReception) (o : ReportedBlock) (k : RtcpBlock) → o ≡ reported.InProbation → k ≡ no_block → record { reception = s; in_probation = 1; block = k } ≡ report_result (report_of (reception_in s) o)
+pub none_out : (s : RtcpReception) (o : Option (ReportBlock × code.Reception)) (k : RtcpBlock) → o ≡ None → k ≡ no_block → record { reception = s; in_probation = 1; block = k } ≡ report_result (report_of (reception_in s) o)
 none_out s o k e q = rw (e, q)
 
-pub report_out : (s : RtcpReception) (c : code.Reception) (ssrc lsr dlsr : ℕ) (o : ReportedBlock) (r : RtcpReceptionBlock) → reception_of c ≡ reception_in s → report_of (reception_of c) o ≡ report_block (reception_of c) ssrc lsr dlsr
+pub report_out : (s : RtcpReception) (c : code.Reception) (ssrc lsr dlsr : ℕ) (o : Option (ReportBlock × code.Reception)) (r : RtcpReceptionBlock) → reception_of c ≡ reception_in s → report_of (reception_of c) o ≡ report_block (reception_of c) ssrc lsr dlsr
     → r ≡ report_result (report_of (reception_in s) o) → r ≡ report_result (report_block (reception_in s) ssrc lsr dlsr)
 report_out s c ssrc lsr dlsr o r e m h = h ∙ ap report_result (ap (λ (x : Reception). report_of x o) (sym e) ∙ m ∙ ap (λ (x : Reception). report_block x ssrc lsr dlsr) e)
 

@@ -1,4 +1,5 @@
 -- Reports: what C gets, from what the readers answer.
+use Rattle.std.specs.Prelude.{Result, Ok, Err}
 use Rattle.rfc3550.proofs.Prelude.{◌≡◌, refl, sym, ap, ◌∙◌, List, ℕ, ◌+◌, ◌-◌, ◌*◌, ◌<◌, ◌≤◌, arith, rules, length, take, drop}
 use lib.Signed.{mag}
 use mir.Syntax.{w32}
@@ -7,20 +8,18 @@ use Rattle.rfc3550.specs.Answer.{Answer, ok, refused, map_ok}
 use Rattle.rfc3550.specs.Loss.{Loss}
 use Rattle.rfc3550.specs.Packet.{Block, Reporter, Packet}
 use Rattle.rfc3550.specs.Read.{Kind, RR, SR, least, read_blocks, read_as}
-use Rattle.utils.specs.Error.{parse_refusal, code_refusal, refusal_in, value_or}
+use Rattle.utils.specs.Error.{parse_refusal, code_refusal, refusal_in, value_or, parsed_of}
 use Rattle.utils.specs.declared.error.Code.{Code}
 use Rattle.utils.specs.declared.error.RtcpParseError.{RtcpParseError}
-use Rattle.utils.specs.declared.list.Listed.{Listed}
-use Rattle.utils.specs.declared.list.Listed.TheVariants as listed
 use Rattle.utils.specs.List.{listed_of}
 use Rattle.utils.proofs.Reading.{parse_read}
-use Rattle.report.specs.Block.{parsed_block_of, lay_blocks}
+use Rattle.utils.specs.declared.list.ListError.{ListError}
+use Rattle.utils.specs.declared.list.ListError.TheVariants as list
+use Rattle.report.specs.Block.{lay_blocks}
 use Rattle.report.specs.Report.{report_blocks, report_body, receiver_view, no_receiver, sender_view, no_sender}
 use Rattle.report.specs.declared.receiver.ReceiverReport.{ReceiverReport}
 use Rattle.report.specs.declared.sender.SenderReport.{SenderReport}
 use Rattle.report.specs.declared.report_block.ReportBlock.{ReportBlock}
-use Rattle.report.specs.declared.report_block.ParsedReportBlock.{ParsedReportBlock}
-use Rattle.report.specs.declared.report_block.ParsedReportBlock.TheVariants as parsed
 use Rattle.report.proofs.Losses.{bits_back}
 use Rattle.report.proofs.Reports.{ReporterKind, receiver_maker, sender_maker, value_refused, value_blocks, value_within}
 use Rattle.rtcp.specs.Report.{block_result, rr_result, sr_result, blocks_out, read_out, read_both}
@@ -31,15 +30,15 @@ use Rattle.rtcp.specs.declared.read_report.RtcpSr.{RtcpSr}
 use Rattle.rtcp.specs.declared.write_result.RtcpWritten.{RtcpWritten}
 
 -- of what the lists' call answers, whose constructor is known
-pub out_known : {A R : Type 0} (result : Answer A → R) (a : Answer A) (q k : Listed) (r : R) → q ≡ k → r ≡ read_out result a (listed_of k) → r ≡ read_out result a (listed_of q)
-out_known result a q k r e p = p ∙ ap (λ (q : Listed). read_out result a (listed_of q)) (sym e)
+pub out_known : {A R : Type 0} (result : Answer A → R) (a : Answer A) (q k : Result ℕ ListError) (r : R) → q ≡ k → r ≡ read_out result a (listed_of k) → r ≡ read_out result a (listed_of q)
+out_known result a q k r e p = p ∙ ap (λ (q : Result ℕ ListError). read_out result a (listed_of q)) (sym e)
 
-pub out_coded : {A R : Type 0} (result : Answer A → R) (a : Answer A) (q : Listed) (c : Code) (e : RtcpParseError) (r : R) → r ≡ result (refused (code_refusal c)) → code_refusal c ≡ parse_refusal e
-    → q ≡ listed.Refused e → r ≡ read_out result a (listed_of q)
-out_coded result a q c e r p h k = out_known result a q (listed.Refused e) r k (coded result c e r p h)
+pub out_coded : {A R : Type 0} (result : Answer A → R) (a : Answer A) (q : Result ℕ ListError) (c : Code) (e : RtcpParseError) (r : R) → r ≡ result (refused (code_refusal c)) → code_refusal c ≡ parse_refusal e
+    → q ≡ Err (list.Refused e) → r ≡ read_out result a (listed_of q)
+out_coded result a q c e r p h k = out_known result a q (Err (list.Refused e)) r k (coded result c e r p h)
 
 -- the numbers of a block, whose loss is passed on by its bits
-pub block_out : (o : ParsedReportBlock) (b : ReportBlock) → o ≡ parsed.Block b → mag b.cumulative_lost < 2147483648
+pub block_out : (o : Result ReportBlock RtcpParseError) (b : ReportBlock) → o ≡ Ok b → mag b.cumulative_lost < 2147483648
     → record {
       number = 0;
       first = 0;
@@ -51,10 +50,10 @@ pub block_out : (o : ParsedReportBlock) (b : ReportBlock) → o ≡ parsed.Block
       interarrival_jitter = b.interarrival_jitter;
       last_sender_report_timestamp = b.last_sender_report_timestamp;
       delay_since_last_sender_report_timestamp = b.delay_since_last_sender_report_timestamp;
-    } ≡ block_result (parsed_block_of o)
+    } ≡ block_result (parsed_of o)
 block_out o b e h = rw (e, bits_back b.cumulative_lost h)
 
-pub lists_out : (q : Listed) (r : RtcpWritten) (f : List ℕ) (l : List Loss) (w : List ℕ) (x : Answer ℕ × List ℕ × List Loss × List ℕ) → r ≡ written_result (listed_of q) → (listed_of q, f, l, w) ≡ x → (r, f, l, w) ≡ blocks_out x
+pub lists_out : (q : Result ℕ ListError) (r : RtcpWritten) (f : List ℕ) (l : List Loss) (w : List ℕ) (x : Answer ℕ × List ℕ × List Loss × List ℕ) → r ≡ written_result (listed_of q) → (listed_of q, f, l, w) ≡ x → (r, f, l, w) ≡ blocks_out x
 lists_out q r f l w x h e = ap (λ (r : RtcpWritten). (r, f, l, w)) h ∙ ap blocks_out e
 
 -- ---- over the kind, its view and its result
@@ -76,7 +75,7 @@ module _ {k : Kind} {ws : List ℕ} {who : List ℕ → Reporter} (m : ReporterK
         ap (λ (r : R). (r, f, l, w)) (coded result v e r p i)
         ∙ sym (ap (λ (a : Answer Packet). read_both result (map_ok view a) (lay_blocks (map_ok report_blocks a) f l w)) (value_refused m none view bodyIn countIn z b c s o h n (parse_refusal e) q))
 
-    both_read : (q : Listed) (r : R) (f₁ : List ℕ) (l₁ : List Loss) (w₁ : List ℕ) → (bodyIn o ≡ 0 → ⊥) → r ≡ read_out result (ok o) (listed_of q)
+    both_read : (q : Result ℕ ListError) (r : R) (f₁ : List ℕ) (l₁ : List Loss) (w₁ : List ℕ) → (bodyIn o ≡ 0 → ⊥) → r ≡ read_out result (ok o) (listed_of q)
         → (listed_of q, f₁, l₁, w₁) ≡ lay_blocks (ok (read_blocks (countIn o) (drop (least k) s))) f l w
         → (r, f₁, l₁, w₁) ≡ read_both result (map_ok view (read_as k s)) (lay_blocks (map_ok report_blocks (read_as k s)) f l w)
     both_read q r f₁ l₁ w₁ n p e =
@@ -107,7 +106,7 @@ module _ (s : List ℕ) (o : ReceiverReport) (h : o ≡ value_or no_receiver rec
         → (r, f, l, w) ≡ read_both rr_result (map_ok receiver_view (read_as RR s)) (lay_blocks (map_ok report_blocks (read_as RR s)) f l w)
     rr_both_refused = both_refused receiver_maker no_receiver receiver_view (λ o. o.body) (λ o. o.n_reports) refl (λ p. refl) (λ p. refl) rr_result s o h f l w
 
-    pub rr_both_read : (q : Listed) (r : RtcpRr) (f₁ : List ℕ) (l₁ : List Loss) (w₁ : List ℕ) → (o.body ≡ 0 → ⊥) → r ≡ read_out rr_result (ok o) (listed_of q)
+    pub rr_both_read : (q : Result ℕ ListError) (r : RtcpRr) (f₁ : List ℕ) (l₁ : List Loss) (w₁ : List ℕ) → (o.body ≡ 0 → ⊥) → r ≡ read_out rr_result (ok o) (listed_of q)
         → (listed_of q, f₁, l₁, w₁) ≡ lay_blocks (ok (read_blocks o.n_reports (drop 8 s))) f l w
         → (r, f₁, l₁, w₁) ≡ read_both rr_result (map_ok receiver_view (read_as RR s)) (lay_blocks (map_ok report_blocks (read_as RR s)) f l w)
     rr_both_read = both_read receiver_maker no_receiver receiver_view (λ o. o.body) (λ o. o.n_reports) refl (λ p. refl) (λ p. refl) rr_result s o h f l w
@@ -134,7 +133,7 @@ module _ (s : List ℕ) (o : SenderReport) (h : o ≡ value_or no_sender sender_
         → (r, f, l, w) ≡ read_both sr_result (map_ok sender_view (read_as SR s)) (lay_blocks (map_ok report_blocks (read_as SR s)) f l w)
     sr_both_refused = both_refused sender_maker no_sender sender_view (λ o. o.body) (λ o. o.n_reports) refl (λ p. refl) (λ p. refl) sr_result s o h f l w
 
-    pub sr_both_read : (q : Listed) (r : RtcpSr) (f₁ : List ℕ) (l₁ : List Loss) (w₁ : List ℕ) → (o.body ≡ 0 → ⊥) → r ≡ read_out sr_result (ok o) (listed_of q)
+    pub sr_both_read : (q : Result ℕ ListError) (r : RtcpSr) (f₁ : List ℕ) (l₁ : List Loss) (w₁ : List ℕ) → (o.body ≡ 0 → ⊥) → r ≡ read_out sr_result (ok o) (listed_of q)
         → (listed_of q, f₁, l₁, w₁) ≡ lay_blocks (ok (read_blocks o.n_reports (drop 28 s))) f l w
         → (r, f₁, l₁, w₁) ≡ read_both sr_result (map_ok sender_view (read_as SR s)) (lay_blocks (map_ok report_blocks (read_as SR s)) f l w)
     sr_both_read = both_read sender_maker no_sender sender_view (λ o. o.body) (λ o. o.n_reports) refl (λ p. refl) (λ p. refl) sr_result s o h f l w

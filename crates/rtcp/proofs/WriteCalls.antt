@@ -1,4 +1,5 @@
 -- The compound writer: what C gets of a call, from what the writer answers. Stated once, over the call.
+use Rattle.std.specs.Prelude.{Ok, Err}
 use Rattle.rfc3550.proofs.Prelude.{ℕ, rules, ◌≡◌, refl, ap, ◌∙◌, Bool, true, false, List, [], ◌∷◌}
 use Rattle.rfc3550.specs.Answer.{Refusal, refused}
 use Rattle.rfc3550.specs.Writer.{Writer, fresh, Request, call}
@@ -8,7 +9,6 @@ use Rattle.utils.specs.declared.error.Code.{Code}
 use Rattle.compound_write.specs.Writer.{writer_of, call_of}
 use Rattle.compound_write.specs.declared.writer.Writer as code
 use Rattle.compound_write.specs.declared.writer.Call.{Call}
-use Rattle.compound_write.specs.declared.writer.Outcome.TheVariants as outcome
 use Rattle.rtcp.specs.Result.{bit}
 use Rattle.rtcp.specs.WriteCompound.{writer_in, writer_out, call_result, call_with_state, call_with_buffer}
 use Rattle.rtcp.specs.declared.write_compound.RtcpCall.{RtcpCall}
@@ -38,11 +38,11 @@ out_fresh v s h e = h ∙ ap writer_out e
 -- ---- a call, handed on
 
 module _ (s : List ℕ) (o : Call) where
-  pub out_done : (s₁ : List ℕ) → o.answer ≡ outcome.Done → s₁ ≡ writer_out (writer_of o.writer)
+  pub out_done : (s₁ : List ℕ) → o.answer ≡ Ok tt → s₁ ≡ writer_out (writer_of o.writer)
       → (record { number = 0; first = 0; second = 0 }, s₁) ≡ call_with_state s (call_of o)
   out_done s₁ p q = rw (p, q)
 
-  pub out_refused : (c : Code) (e : RtcpWriteError) → o.answer ≡ outcome.Refused e → code_refusal c ≡ write_refusal e
+  pub out_refused : (c : Code) (e : RtcpWriteError) → o.answer ≡ Err e → code_refusal c ≡ write_refusal e
       → (record { number = c.number; first = c.first; second = c.second }, s) ≡ call_with_state s (call_of o)
   out_refused c e p h = rw p (ap (λ (k : Refusal). (call_result (refused k), s)) h)
 

@@ -1,4 +1,5 @@
 -- What C gets of a write and of a size, from what a kind's function answers. Stated once, over what is written.
+use Rattle.std.specs.Prelude.{Result, Ok, Err}
 use Rattle.rfc3550.proofs.Prelude.{ℕ, ◌≡◌, refl, sym, ap, ◌∙◌, List, length, length-append, rules}
 use Rattle.rfc3550.specs.Answer.{Refusal, Answer, refused}
 use Rattle.rfc3550.specs.Packet.{content_bytes, chunk_bytes}
@@ -11,30 +12,28 @@ use Rattle.utils.specs.Writer.{written_of}
 use Rattle.utils.specs.declared.error.RtcpParseError.{RtcpParseError}
 use Rattle.utils.specs.declared.error.RtcpWriteError.{RtcpWriteError}
 use Rattle.utils.specs.declared.error.Code.{Code}
-use Rattle.utils.specs.declared.list.Listed.{Listed}
-use Rattle.utils.specs.declared.list.Listed.TheVariants as listed
-use Rattle.utils.specs.declared.writer.Written.{Written}
-use Rattle.utils.specs.declared.writer.Written.TheVariants.{Size, Refused}
+use Rattle.utils.specs.declared.list.ListError.{ListError}
+use Rattle.utils.specs.declared.list.ListError.TheVariants as list
 use Rattle.rtcp.specs.WriteResult.{written_result, written_with_buffer}
 use Rattle.rtcp.specs.declared.write_result.RtcpWritten.{RtcpWritten}
 
-pub size_out : (w : Written) (n : ℕ) → w ≡ Size n → record { number = 0; first = 0; second = 0; size = n } ≡ written_result (written_of w)
+pub size_out : (w : Result ℕ RtcpWriteError) (n : ℕ) → w ≡ Ok n → record { number = 0; first = 0; second = 0; size = n } ≡ written_result (written_of w)
 size_out w n p = rw p
 
-pub refused_out : (w : Written) (e : RtcpWriteError) (c : Code) → w ≡ Refused e → code_refusal c ≡ write_refusal e
+pub refused_out : (w : Result ℕ RtcpWriteError) (e : RtcpWriteError) (c : Code) → w ≡ Err e → code_refusal c ≡ write_refusal e
     → record { number = c.number; first = c.first; second = c.second; size = 0 } ≡ written_result (written_of w)
 refused_out w e c p q = rw p (ap (λ (k : Refusal). written_result (refused k)) q)
 
 -- ---- a list, handed over
 
-module _ (w : Listed) where
-  pub listed_out : (n : ℕ) → w ≡ listed.Len n → record { number = 0; first = 0; second = 0; size = n } ≡ written_result (listed_of w)
+module _ (w : Result ℕ ListError) where
+  pub listed_out : (n : ℕ) → w ≡ Ok n → record { number = 0; first = 0; second = 0; size = n } ≡ written_result (listed_of w)
   listed_out n p = rw p
 
-  pub short_out : (n : ℕ) → w ≡ listed.TooShort n → record { number = 10; first = n; second = 0; size = 0 } ≡ written_result (listed_of w)
+  pub short_out : (n : ℕ) → w ≡ (Err (list.TooShort n)) → record { number = 10; first = n; second = 0; size = 0 } ≡ written_result (listed_of w)
   short_out n p = rw p
 
-  pub unlisted_out : (e : RtcpParseError) (c : Code) → w ≡ listed.Refused e → code_refusal c ≡ parse_refusal e
+  pub unlisted_out : (e : RtcpParseError) (c : Code) → w ≡ Err (list.Refused e) → code_refusal c ≡ parse_refusal e
       → record { number = c.number; first = c.first; second = c.second; size = 0 } ≡ written_result (listed_of w)
   unlisted_out e c p q = rw p (ap (λ (k : Refusal). written_result (refused k)) q)
 
@@ -43,7 +42,7 @@ module _ (w : Listed) where
 
 -- ---- a size and a write, handed on
 
-module _ (w : Written) (r : RtcpWritten) (h : r ≡ written_result (written_of w)) where
+module _ (w : Result ℕ RtcpWriteError) (r : RtcpWritten) (h : r ≡ written_result (written_of w)) where
   pub out_size : (x : Answer ℕ) → written_of w ≡ x → r ≡ written_result x
   out_size x q = h ∙ ap written_result q
 
@@ -66,7 +65,7 @@ chunk_same : (s t : ℕ) (ts ps vs bs : List ℕ) → chunk_size s ts ps vs bs �
 unfolding chunk_size chunk_bytes
 chunk_same s t ts ps vs bs = simp (length-append, length_be)
 
-module _ (w : Written) (r : RtcpWritten) (h : r ≡ written_result (written_of w)) where
+module _ (w : Result ℕ RtcpWriteError) (r : RtcpWritten) (h : r ≡ written_result (written_of w)) where
   pub out_app : (subtype k : ℕ) (name d : List ℕ) → written_of w ≡ calculate_size (give_app subtype 0 name d k) → (ssrc : ℕ) → r ≡ written_result (calculate_size (give_app subtype ssrc name d k))
   out_app subtype k name d q ssrc = out_size w r h _ (q ∙ app_same subtype 0 ssrc name d k)
 

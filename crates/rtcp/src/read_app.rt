@@ -5,7 +5,7 @@ ghost use Rattle.rfc3550.specs.Read.{APP, read_as};
 ghost use Rattle.app.specs.App.{app_view};
 ghost use Rattle.rtcp.specs.App.{app_result};
 
-use app::{App, ParsedApp};
+use app::App;
 
 #[repr(C)]
 #[derive(Clone, Copy)]
@@ -27,7 +27,7 @@ pub fn rtcp_app_parse(s: &[u8]) -> RtcpApp
     ensures { result ≡ app_result (map_ok app_view (read_as APP s.now)) }
 {
     match App::parse(s) {
-        ParsedApp::App(app) => RtcpApp {
+        Ok(app) => RtcpApp {
             number: 0,
             first: 0,
             second: 0,
@@ -40,7 +40,7 @@ pub fn rtcp_app_parse(s: &[u8]) -> RtcpApp
             body: app.body as u64,
             padding_len: app.padding_len as u64,
         },
-        ParsedApp::Refused(e) => {
+        Err(e) => {
             let code = e.code();
             RtcpApp {
                 number: code.number,

@@ -6,7 +6,7 @@ ghost use Rattle.bye.specs.Bye.{bye_view};
 ghost use Rattle.rtcp.specs.Bye.{bye_result, source_result};
 
 use super::result::bit;
-use bye::{Bye, ParsedBye, ParsedSource};
+use bye::Bye;
 
 #[repr(C)]
 #[derive(Clone, Copy)]
@@ -37,7 +37,7 @@ pub fn rtcp_bye_parse(s: &[u8]) -> RtcpBye
     ensures { result ≡ bye_result (map_ok bye_view (read_as BYE s.now)) }
 {
     match Bye::parse(s) {
-        ParsedBye::Bye(bye) => RtcpBye {
+        Ok(bye) => RtcpBye {
             number: 0,
             first: 0,
             second: 0,
@@ -50,7 +50,7 @@ pub fn rtcp_bye_parse(s: &[u8]) -> RtcpBye
             body: bye.body as u64,
             padding_len: bye.padding_len as u64,
         },
-        ParsedBye::Refused(e) => {
+        Err(e) => {
             let code = e.code();
             RtcpBye {
                 number: code.number,
@@ -74,13 +74,13 @@ pub fn rtcp_bye_source(s: &[u8], i: u64) -> RtcpSource
     ensures { result ≡ source_result (read_source_at s.now i) }
 {
     match Bye::source(s, i as usize) {
-        ParsedSource::Source(ssrc) => RtcpSource {
+        Ok(ssrc) => RtcpSource {
             number: 0,
             first: 0,
             second: 0,
             ssrc: ssrc as u64,
         },
-        ParsedSource::Refused(e) => {
+        Err(e) => {
             let code = e.code();
             RtcpSource {
                 number: code.number,

@@ -14,7 +14,7 @@ use super::result::bit;
 use super::write_result::RtcpWritten;
 use app::App;
 use bye::Bye;
-use compound::compound::{Compound, OpenedWalk, ParsedCompound, Walk, packet_len, why_len};
+use compound::compound::{Compound, Walk, packet_len, why_len};
 use compound::kind::{Kind, kind_of};
 use compound::packet::Packet;
 use compound::unknown::Unknown;
@@ -239,13 +239,13 @@ pub fn rtcp_compound_parse(s: &[u8]) -> RtcpCompound
     ensures { result ≡ compound_result (map_ok compound_view (read_compound s.now)) }
 {
     match Compound::parse(s) {
-        ParsedCompound::Compound(compound) => RtcpCompound {
+        Ok(compound) => RtcpCompound {
             number: 0,
             first: 0,
             second: 0,
             n_packets: compound.n_packets as u64,
         },
-        ParsedCompound::Refused(e) => {
+        Err(e) => {
             let code = e.code();
             RtcpCompound {
                 number: code.number,
@@ -268,13 +268,13 @@ pub fn rtcp_walk_open(s: &[u8]) -> RtcpWalk
     ensures { result ≡ walk_result (map_ok walk_at (open_walk s.now)) }
 {
     match Walk::open(s) {
-        OpenedWalk::Walk(walk) => RtcpWalk {
+        Ok(walk) => RtcpWalk {
             number: 0,
             first: 0,
             second: 0,
             at: walk.at as u64,
         },
-        OpenedWalk::Refused(e) => {
+        Err(e) => {
             let code = e.code();
             RtcpWalk {
                 number: code.number,

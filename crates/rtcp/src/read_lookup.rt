@@ -1,10 +1,10 @@
+use utils::error::RtcpParseError;
 // Which chunks of an SDES packet name the SSRCs of a list.
 ghost use Rattle.std.specs.Prelude.{◌≡◌, ℕ};
 ghost use Rattle.rfc3550.specs.Lookup.{Visited, lookup_with};
+ghost use Rattle.utils.specs.Error.{parsed_of};
 ghost use Rattle.rtcp.specs.Lookup.{lookup_result, lookup_with_answers};
-ghost use Rattle.sdes_lookup.specs.Lookup.{looked_up_of};
 
-use sdes_lookup::LookedUp;
 
 #[repr(C)]
 #[derive(Clone, Copy)]
@@ -16,17 +16,17 @@ pub struct RtcpLookup {
 }
 
 impl RtcpLookup {
-    fn from_looked_up(looked_up: LookedUp) -> RtcpLookup
-        ensures { result ≡ lookup_result (looked_up_of looked_up) }
+    fn from_looked_up(looked_up: Result<usize, RtcpParseError>) -> RtcpLookup
+        ensures { result ≡ lookup_result (parsed_of looked_up) }
     {
         match looked_up {
-            LookedUp::Visits(visits) => RtcpLookup {
+            Ok(visits) => RtcpLookup {
                 number: 0,
                 first: 0,
                 second: 0,
                 visits: visits as u64,
             },
-            LookedUp::Refused(e) => {
+            Err(e) => {
                 let code = e.code();
                 RtcpLookup {
                     number: code.number,

@@ -2,18 +2,19 @@
 ghost use Rattle.std.specs.Prelude.{◌≡◌, ◌≤◌};
 ghost use Rattle.rfc3550.specs.Answer.{ok, refused, map_ok};
 ghost use Rattle.rfc3550.specs.Read.{RR, SR, read_as, read_block, read_block_at};
-ghost use Rattle.utils.specs.Error.{code_refusal};
+ghost use Rattle.utils.specs.Error.{code_refusal, parsed_of};
 ghost use Rattle.utils.specs.List.{listed_of};
-ghost use Rattle.report.specs.Block.{parsed_block_of, block_view, lay_blocks};
+ghost use Rattle.report.specs.Block.{block_view, lay_blocks};
 ghost use Rattle.report.specs.Report.{receiver_view, sender_view, report_blocks};
 ghost use Rattle.rtcp.specs.Report.{block_result, rr_result, sr_result, blocks_out, read_out, read_both};
 
+use utils::error::RtcpParseError;
 use super::write_result::RtcpWritten;
 use report::receiver::ReceiverReport;
-use report::report_block::{ParsedReportBlock, ReportBlock, list_blocks_unchecked};
+use report::report_block::{ReportBlock, list_blocks_unchecked};
 use report::sender::SenderReport;
 use utils::error::Code;
-use utils::list::Listed;
+use utils::list::ListError;
 
 #[repr(C)]
 #[derive(Clone, Copy)]
@@ -63,11 +64,11 @@ pub struct RtcpSr {
 }
 
 impl RtcpBlock {
-    pub fn from_parsed(parsed: ParsedReportBlock) -> RtcpBlock
-        ensures { result ≡ block_result (parsed_block_of parsed) }
+    pub fn from_parsed(parsed: Result<ReportBlock, RtcpParseError>) -> RtcpBlock
+        ensures { result ≡ block_result (parsed_of parsed) }
     {
         match parsed {
-            ParsedReportBlock::Block(block) => RtcpBlock {
+            Ok(block) => RtcpBlock {
                 number: 0,
                 first: 0,
                 second: 0,
@@ -79,7 +80,7 @@ impl RtcpBlock {
                 last_sender_report_timestamp: block.last_sender_report_timestamp as u64,
                 delay_since_last_sender_report_timestamp: block.delay_since_last_sender_report_timestamp as u64,
             },
-            ParsedReportBlock::Refused(e) => {
+            Err(e) => {
                 let code = e.code();
                 RtcpBlock {
                     number: code.number,
@@ -134,18 +135,18 @@ impl RtcpRr {
     }
 
     // A report whose blocks were handed over, or why they were not.
-    fn from_listed(rr: ReceiverReport, listed: Listed) -> RtcpRr
+    fn from_listed(rr: ReceiverReport, listed: Result<usize, ListError>) -> RtcpRr
         requires { rr.extension ≤ rr.body }
         ensures { result ≡ read_out rr_result (ok rr) (listed_of listed) }
     {
         match listed {
-            Listed::Len(_) => RtcpRr::from_report(rr),
-            Listed::TooShort(needed) => RtcpRr::coded(Code {
+            Ok(_) => RtcpRr::from_report(rr),
+            Err(ListError::TooShort(needed)) => RtcpRr::coded(Code {
                 number: 10,
                 first: needed as u64,
                 second: 0,
             }),
-            Listed::Refused(e) => RtcpRr::coded(e.code()),
+            Err(ListError::Refused(e)) => RtcpRr::coded(e.code()),
         }
     }
 }
@@ -173,18 +174,18 @@ impl RtcpSr {
     }
 
     // A report whose blocks were handed over, or why they were not.
-    fn from_listed(sr: SenderReport, listed: Listed) -> RtcpSr
+    fn from_listed(sr: SenderReport, listed: Result<usize, ListError>) -> RtcpSr
         requires { sr.extension ≤ sr.body }
         ensures { result ≡ read_out sr_result (ok sr) (listed_of listed) }
     {
         match listed {
-            Listed::Len(_) => RtcpSr::from_report(sr),
-            Listed::TooShort(needed) => RtcpSr::coded(Code {
+            Ok(_) => RtcpSr::from_report(sr),
+            Err(ListError::TooShort(needed)) => RtcpSr::coded(Code {
                 number: 10,
                 first: needed as u64,
                 second: 0,
             }),
-            Listed::Refused(e) => RtcpSr::coded(e.code()),
+            Err(ListError::Refused(e)) => RtcpSr::coded(e.code()),
         }
     }
 

@@ -11,9 +11,9 @@ ghost use Rattle.sdes.specs.Walk.{chunk_walk, chunk_stepped};
 ghost use Rattle.rtcp.specs.Sdes.{sdes_result, prefix_start, item_parts, item_result, prefix_result, chunk_result, chunk_walk_result, chunk_step_result, item_walk_result, item_step_result};
 
 use super::result::bit;
-use sdes::sdes::{ChunkWalk, OpenedChunks, ParsedSdes, Sdes, SteppedChunk};
-use sdes_chunk::chunk::{ItemWalk, OpenedItems, ParsedChunk, SdesChunk, SteppedItem};
-use sdes_chunk::item::{ParsedItem, SdesItem};
+use sdes::sdes::{ChunkWalk, Sdes};
+use sdes_chunk::chunk::{ItemWalk, SdesChunk};
+use sdes_chunk::item::SdesItem;
 
 #[repr(C)]
 #[derive(Clone, Copy)]
@@ -144,7 +144,7 @@ pub fn rtcp_sdes_parse(s: &[u8]) -> RtcpSdes
     ensures { result ≡ sdes_result (map_ok sdes_view (read_as SDES s.now)) }
 {
     match Sdes::parse(s) {
-        ParsedSdes::Sdes(sdes) => RtcpSdes {
+        Ok(sdes) => RtcpSdes {
             number: 0,
             first: 0,
             second: 0,
@@ -153,7 +153,7 @@ pub fn rtcp_sdes_parse(s: &[u8]) -> RtcpSdes
             body: sdes.body as u64,
             padding_len: sdes.padding_len as u64,
         },
-        ParsedSdes::Refused(e) => {
+        Err(e) => {
             let code = e.code();
             RtcpSdes {
                 number: code.number,
@@ -173,7 +173,7 @@ pub fn rtcp_item_parse(s: &[u8]) -> RtcpItem
     ensures { result ≡ item_result (map_ok item_first (read_item s.now)) }
 {
     match SdesItem::parse(s) {
-        ParsedItem::Item(item) => {
+        Ok(item) => {
             let parts = ItemParts::of(item, 0);
             RtcpItem {
                 number: 0,
@@ -187,7 +187,7 @@ pub fn rtcp_item_parse(s: &[u8]) -> RtcpItem
                 value_len: parts.value_len,
             }
         }
-        ParsedItem::Refused(e) => {
+        Err(e) => {
             let code = e.code();
             RtcpItem {
                 number: code.number,
@@ -234,7 +234,7 @@ pub fn rtcp_chunk_parse(s: &[u8]) -> RtcpChunk
     ensures { result ≡ chunk_result (map_ok chunk_first (read_chunk s.now)) }
 {
     match SdesChunk::parse(s) {
-        ParsedChunk::Chunk(chunk) => RtcpChunk {
+        Ok(chunk) => RtcpChunk {
             number: 0,
             first: 0,
             second: 0,
@@ -242,7 +242,7 @@ pub fn rtcp_chunk_parse(s: &[u8]) -> RtcpChunk
             length: chunk.length as u64,
             cname: chunk.cname as u64,
         },
-        ParsedChunk::Refused(e) => {
+        Err(e) => {
             let code = e.code();
             RtcpChunk {
                 number: code.number,
@@ -260,14 +260,14 @@ pub fn rtcp_chunk_walk_open(s: &[u8]) -> RtcpChunkWalk
     ensures { result ≡ chunk_walk_result (map_ok chunk_walk (open_sdes s.now)) }
 {
     match ChunkWalk::open(s) {
-        OpenedChunks::Walk(chunks) => RtcpChunkWalk {
+        Ok(chunks) => RtcpChunkWalk {
             number: 0,
             first: 0,
             second: 0,
             at: chunks.at as u64,
             end: chunks.end as u64,
         },
-        OpenedChunks::Refused(e) => {
+        Err(e) => {
             let code = e.code();
             RtcpChunkWalk {
                 number: code.number,
@@ -288,7 +288,7 @@ pub fn rtcp_chunk_walk_step(s: &[u8], at: u64, end: u64) -> RtcpChunkStep
         end: end as usize,
     };
     match walk.step(s) {
-        SteppedChunk::Chunk(chunk, next) => RtcpChunkStep {
+        Ok((chunk, next)) => RtcpChunkStep {
             number: 0,
             first: 0,
             second: 0,
@@ -298,7 +298,7 @@ pub fn rtcp_chunk_walk_step(s: &[u8], at: u64, end: u64) -> RtcpChunkStep
             at: next.at as u64,
             end: next.end as u64,
         },
-        SteppedChunk::Refused(e) => {
+        Err(e) => {
             let code = e.code();
             RtcpChunkStep {
                 number: code.number,
@@ -318,13 +318,13 @@ pub fn rtcp_item_walk_open(s: &[u8]) -> RtcpItemWalk
     ensures { result ≡ item_walk_result (map_ok item_walk (open_items s.now)) }
 {
     match ItemWalk::open(s) {
-        OpenedItems::Walk(items) => RtcpItemWalk {
+        Ok(items) => RtcpItemWalk {
             number: 0,
             first: 0,
             second: 0,
             at: items.at as u64,
         },
-        OpenedItems::Refused(e) => {
+        Err(e) => {
             let code = e.code();
             RtcpItemWalk {
                 number: code.number,
@@ -342,7 +342,7 @@ pub fn rtcp_item_walk_step(s: &[u8], at: u64) -> RtcpItemStep
 {
     let walk = ItemWalk { at: at as usize };
     match walk.step(s) {
-        SteppedItem::Item(item, next) => {
+        Ok((item, next)) => {
             let parts = ItemParts::of(item, at as usize);
             RtcpItemStep {
                 number: 0,
@@ -357,7 +357,7 @@ pub fn rtcp_item_walk_step(s: &[u8], at: u64) -> RtcpItemStep
                 at: next.at as u64,
             }
         }
-        SteppedItem::Refused(e) => {
+        Err(e) => {
             let code = e.code();
             RtcpItemStep {
                 number: code.number,

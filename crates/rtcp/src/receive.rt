@@ -6,8 +6,8 @@ ghost use Rattle.rtcp.specs.Receive.{reception_in, reception_result, update_resu
 
 use super::read_report::RtcpBlock;
 use super::result::bit;
-use reception::reception::{Reception, ReportedBlock};
-use report::report_block::ParsedReportBlock;
+use report::report_block::ReportBlock;
+use reception::reception::Reception;
 
 #[repr(C)]
 #[derive(Clone, Copy)]
@@ -94,16 +94,16 @@ fn no_block() -> RtcpBlock
 }
 
 impl RtcpReceptionBlock {
-    fn from_reported(before: RtcpReception, reported: ReportedBlock) -> RtcpReceptionBlock
+    fn from_reported(before: RtcpReception, reported: Option<(ReportBlock, Reception)>) -> RtcpReceptionBlock
         ensures { result ≡ report_result (report_of (reception_in before) reported) }
     {
         match reported {
-            ReportedBlock::Block(block, after) => RtcpReceptionBlock {
+            Some((block, after)) => RtcpReceptionBlock {
                 reception: RtcpReception::from_reception(after),
                 in_probation: 0,
-                block: RtcpBlock::from_parsed(ParsedReportBlock::Block(block)),
+                block: RtcpBlock::from_parsed(Ok(block)),
             },
-            ReportedBlock::InProbation => RtcpReceptionBlock {
+            None => RtcpReceptionBlock {
                 reception: before,
                 in_probation: 1,
                 block: no_block(),

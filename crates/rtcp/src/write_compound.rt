@@ -10,7 +10,7 @@ ghost use Rattle.compound_write.specs.Writer.{writer_of, call_of};
 ghost use Rattle.rtcp.specs.WriteCompound.{writer_in, writer_out, call_with_state, call_with_buffer};
 
 use super::result::bit;
-use compound_write::writer::{Call, Outcome, Writer};
+use compound_write::writer::{Call, Writer};
 use report_write::sender::SenderInfo;
 
 // What a call answers: 0, or the refusal and its details, which leaves the writer and the buffer as they were.
@@ -48,7 +48,7 @@ fn hand_on(state: &mut [u64; 4], call: Call) -> RtcpCall
 {
     let answer = call.answer;
     match answer {
-        Outcome::Done => {
+        Ok(()) => {
             writer_out(state, call.writer);
             RtcpCall {
                 number: 0,
@@ -56,7 +56,7 @@ fn hand_on(state: &mut [u64; 4], call: Call) -> RtcpCall
                 second: 0,
             }
         }
-        Outcome::Refused(e) => {
+        Err(e) => {
             let code = e.code();
             RtcpCall {
                 number: code.number,

@@ -4,8 +4,8 @@ ghost use Rattle.utils.specs.List.{listed_of};
 ghost use Rattle.utils.specs.Writer.{written_of};
 ghost use Rattle.rtcp.specs.WriteResult.{written_result};
 
-use utils::list::Listed;
-use utils::writer::Written;
+use utils::error::RtcpWriteError;
+use utils::list::ListError;
 
 #[repr(C)]
 #[derive(Clone, Copy)]
@@ -17,17 +17,17 @@ pub struct RtcpWritten {
 }
 
 impl RtcpWritten {
-    pub fn from_written(written: Written) -> RtcpWritten
+    pub fn from_written(written: Result<usize, RtcpWriteError>) -> RtcpWritten
         ensures { result ≡ written_result (written_of written) }
     {
         match written {
-            Written::Size(size) => RtcpWritten {
+            Ok(size) => RtcpWritten {
                 number: 0,
                 first: 0,
                 second: 0,
                 size: size as u64,
             },
-            Written::Refused(e) => {
+            Err(e) => {
                 let code = e.code();
                 RtcpWritten {
                     number: code.number,
@@ -39,23 +39,23 @@ impl RtcpWritten {
         }
     }
 
-    pub fn from_listed(listed: Listed) -> RtcpWritten
+    pub fn from_listed(listed: Result<usize, ListError>) -> RtcpWritten
         ensures { result ≡ written_result (listed_of listed) }
     {
         match listed {
-            Listed::Len(len) => RtcpWritten {
+            Ok(len) => RtcpWritten {
                 number: 0,
                 first: 0,
                 second: 0,
                 size: len as u64,
             },
-            Listed::TooShort(needed) => RtcpWritten {
+            Err(ListError::TooShort(needed)) => RtcpWritten {
                 number: 10,
                 first: needed as u64,
                 second: 0,
                 size: 0,
             },
-            Listed::Refused(e) => {
+            Err(ListError::Refused(e)) => {
                 let why = e.code();
                 RtcpWritten {
                     number: why.number,

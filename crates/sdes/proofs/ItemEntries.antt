@@ -1,4 +1,5 @@
 -- The rows of `items`: row i is entry i of the packet's chunks, by its numbers and the bytes at its places.
+use Rattle.std.specs.Prelude.{Ok}
 use Rattle.rfc3550.proofs.Prelude.{ℕ, ◌+◌, ◌-◌, ◌/◌, true, false, ◌≡◌, refl, sym, ap, ◌∙◌, List, [], ◌∷◌, ◌++◌, append_assoc, arith, ne_eqb, length, take, replicate, length-append}
 use Rattle.rfc3550.specs.Answer.{Answer, ok, map_ok}
 use Rattle.rfc3550.specs.Bytes.{Bytes, be}
@@ -9,7 +10,6 @@ use Rattle.rfc3550.proofs.Bytes.{length_be}
 use Rattle.rfc3550.proofs.Packets.{packet_sound}
 use Rattle.rfc3550.proofs.Places.{value_at, prefix_at, priv_value_at}
 use Rattle.utils.specs.List.{listed_of, lay_list}
-use Rattle.utils.specs.declared.list.Listed.TheVariants as listed
 use Rattle.utils.proofs.Filled.{filled}
 use Rattle.sdes.specs.ItemRows.{item_rows, chunk_rows, sdes_rows}
 use Rattle.sdes.specs.ItemEntries.{entries_in, item_entries, chunk_entries}
@@ -61,7 +61,7 @@ module _ (s : List ℕ) where
       chunk_rows_lem ((128 + padding_bit padding + length cs) ∷ 202 ∷ be 2 ((length (chunks_bytes cs) + length padding) / 4)) padding 4 cs (rw length_be) q v.content
 
 -- what `items` returned, and the list that it left
-pub items_listed : (s : List ℕ) → Bytes s → (n : ℕ) (l l₁ : List ℕ) → (listed_of (listed.Len n), l₁) ≡ lay_list (map_ok sdes_rows (read_as SDES s)) l
+pub items_listed : (s : List ℕ) → Bytes s → (n : ℕ) (l l₁ : List ℕ) → (listed_of (Ok n), l₁) ≡ lay_list (map_ok sdes_rows (read_as SDES s)) l
     → (p : Packet) × (read_as SDES s ≡ ok p) × (entries_in s (take n l₁) ≡ chunk_entries (chunks_of p.content))
 items_listed s h n l l₁ e =
     let f = filled (map_ok sdes_rows (read_as SDES s)) n l l₁ e in

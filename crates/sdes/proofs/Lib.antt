@@ -1,6 +1,5 @@
 pub mod Packets
 pub mod Walks
-pub mod Injective
 pub mod Returned
 pub mod ItemPlaces
 pub mod ItemTurns

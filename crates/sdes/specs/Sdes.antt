@@ -12,15 +12,9 @@ use Rattle.rfc3550.specs.Answer.{Answer, ok, refused}
 use Rattle.rfc3550.specs.Packet.{Packet, content_bytes, chunks_of, has_cname}
 use Rattle.utils.specs.Error.{parse_refusal}
 use Rattle.sdes.specs.declared.sdes.Sdes.{Sdes}
-use Rattle.sdes.specs.declared.sdes.ParsedSdes.{ParsedSdes}
-use Rattle.sdes.specs.declared.sdes.ParsedSdes.TheVariants as parsed
 
 abbrev pub sdes_view : Packet → Sdes
 sdes_view p = record { n_chunks = length (chunks_of p.content); has_cname = has_cname p; body = 4 + length (content_bytes p.content); padding_len = length p.padding }
-
-abbrev pub parsed_sdes_of : ParsedSdes → Answer Sdes
-parsed_sdes_of (parsed.Sdes p) = ok p
-parsed_sdes_of (parsed.Refused e) = refused (parse_refusal e)
 
 -- what stands for a packet that is refused
 abbrev pub no_sdes : Sdes

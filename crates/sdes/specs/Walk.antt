@@ -6,10 +6,6 @@ use Rattle.utils.specs.Error.{parse_refusal}
 use Rattle.sdes_chunk.specs.declared.chunk.SdesChunk.{SdesChunk}
 use Rattle.sdes_chunk.specs.Chunk.{chunk_view}
 use Rattle.sdes.specs.declared.sdes.ChunkWalk.{ChunkWalk}
-use Rattle.sdes.specs.declared.sdes.OpenedChunks.{OpenedChunks}
-use Rattle.sdes.specs.declared.sdes.OpenedChunks.TheVariants as opened
-use Rattle.sdes.specs.declared.sdes.SteppedChunk.{SteppedChunk}
-use Rattle.sdes.specs.declared.sdes.SteppedChunk.TheVariants as stepped
 
 abbrev pub chunk_walk : SdesWalk → ChunkWalk
 chunk_walk w = record { at = w.at; end = w.end }
@@ -20,10 +16,3 @@ sdes_walk w = record { at = w.at; end = w.end }
 abbrev pub chunk_stepped : Chunk × SdesWalk → SdesChunk × ChunkWalk
 chunk_stepped x = (chunk_view x.0, chunk_walk x.1)
 
-abbrev pub opened_chunks_of : OpenedChunks → Answer ChunkWalk
-opened_chunks_of (opened.Walk w) = ok w
-opened_chunks_of (opened.Refused e) = refused (parse_refusal e)
-
-abbrev pub stepped_chunk_of : SteppedChunk → Answer (SdesChunk × ChunkWalk)
-stepped_chunk_of (stepped.Chunk c w) = ok (c, w)
-stepped_chunk_of (stepped.Refused e) = refused (parse_refusal e)

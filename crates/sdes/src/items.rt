@@ -11,7 +11,7 @@ ghost use Rattle.sdes.specs.ItemPlaces.{chunk_place, HasRow, RowsAt, place_after
 use super::sdes::Sdes;
 use sdes_chunk::item::SdesItem;
 use sdes_chunk::{chunk, item};
-use utils::list::Listed;
+use utils::list::ListError;
 use utils::parser;
 
 // How many numbers a row has.
@@ -206,18 +206,18 @@ fn lay_rows(body: &[u8], rows: &mut [u32]) -> usize
 // prefix, which stands right before the value (PRIV; 0 otherwise), and the length of its value. After the items of each chunk a row of
 // type 0 ends it: the SSRC, 0, the place of the zero that ends them, 0, 0. So a chunk without items has one row, and a packet without
 // chunks none.
-pub fn items(s: &[u8], rows: &mut [u32]) -> Listed
+pub fn items(s: &[u8], rows: &mut [u32]) -> Result<usize, ListError>
     ensures { (listed_of result, rows.new) ≡ lay_list (map_ok sdes_rows (read_as SDES s.now)) rows.old }
 {
     let sdes = Sdes::read(s);
     let end = sdes.body;
     if end == 0 {
-        return Listed::Refused(Sdes::why(&s[0..]));
+        return Err(ListError::Refused(Sdes::why(&s[0..])));
     }
     let body = &s[..end];
     let size = needed(body, rows.len());
     if rows.len() < size {
-        return Listed::TooShort(size);
+        return Err(ListError::TooShort(size));
     }
-    Listed::Len(lay_rows(body, rows))
+    Ok(lay_rows(body, rows))
 }

@@ -3,9 +3,9 @@ ghost use Rattle.std.specs.Prelude.{◌≡◌, ◌≤◌, length, take, drop};
 ghost use Rattle.rfc3550.specs.Answer.{map_ok};
 ghost use Rattle.rfc3550.specs.Read.{SDES, read_as};
 ghost use Rattle.rfc3550.specs.Walk.{open_sdes, sdes_step};
-ghost use Rattle.utils.specs.Error.{parse_refusal, refusal_in, value_or};
-ghost use Rattle.sdes.specs.Sdes.{sdes_view, no_sdes, parsed_sdes_of};
-ghost use Rattle.sdes.specs.Walk.{chunk_walk, sdes_walk, chunk_stepped, opened_chunks_of, stepped_chunk_of};
+ghost use Rattle.utils.specs.Error.{parse_refusal, refusal_in, value_or, parsed_of};
+ghost use Rattle.sdes.specs.Sdes.{sdes_view, no_sdes};
+ghost use Rattle.sdes.specs.Walk.{chunk_walk, sdes_walk, chunk_stepped};
 
 use sdes_chunk::chunk;
 use sdes_chunk::chunk::SdesChunk;
@@ -20,12 +20,6 @@ pub struct Sdes {
     pub has_cname: bool,
     pub body: usize,
     pub padding_len: usize,
-}
-
-#[derive(Clone, Copy)]
-pub enum ParsedSdes {
-    Sdes(Sdes),
-    Refused(RtcpParseError),
 }
 
 impl Sdes {
@@ -95,14 +89,14 @@ impl Sdes {
         RtcpParseError::NothingLeft
     }
 
-    pub fn parse(s: &[u8]) -> ParsedSdes
-        ensures { parsed_sdes_of result ≡ map_ok sdes_view (read_as SDES s.now) }
+    pub fn parse(s: &[u8]) -> Result<Sdes, RtcpParseError>
+        ensures { parsed_of result ≡ map_ok sdes_view (read_as SDES s.now) }
     {
         let sdes = Sdes::read(s);
         if sdes.body == 0 {
-            return ParsedSdes::Refused(Sdes::why(&s[0..]));
+            return Err(Sdes::why(&s[0..]));
         }
-        ParsedSdes::Sdes(sdes)
+        Ok(sdes)
     }
 
     // The padding, of the bytes that were parsed.
@@ -120,18 +114,6 @@ pub struct ChunkWalk {
     pub end: usize,
 }
 
-#[derive(Clone, Copy)]
-pub enum OpenedChunks {
-    Walk(ChunkWalk),
-    Refused(RtcpParseError),
-}
-
-#[derive(Clone, Copy)]
-pub enum SteppedChunk {
-    Chunk(SdesChunk, ChunkWalk),
-    Refused(RtcpParseError),
-}
-
 // The place up to which a step reads.
 fn step_limit(s: &[u8]) -> usize
     ensures { (result ≡ length (take 262144 s.now)) × (result ≤ length s.now) }
@@ -145,38 +127,38 @@ fn step_limit(s: &[u8]) -> usize
 
 impl ChunkWalk {
     // Opens only on an accepted packet.
-    pub fn open(s: &[u8]) -> OpenedChunks
-        ensures { opened_chunks_of result ≡ map_ok chunk_walk (open_sdes s.now) }
+    pub fn open(s: &[u8]) -> Result<ChunkWalk, RtcpParseError>
+        ensures { parsed_of result ≡ map_ok chunk_walk (open_sdes s.now) }
     {
         let sdes = Sdes::read(s);
         if sdes.body == 0 {
-            return OpenedChunks::Refused(Sdes::why(&s[0..]));
+            return Err(Sdes::why(&s[0..]));
         }
-        OpenedChunks::Walk(ChunkWalk {
+        Ok(ChunkWalk {
             at: Sdes::MIN_PACKET_LEN,
             end: sdes.body,
         })
     }
 
     // The chunk at the walk's place, and the walk after it.
-    pub fn step(self, s: &[u8]) -> SteppedChunk
-        ensures { stepped_chunk_of result ≡ map_ok chunk_stepped (sdes_step s.now (sdes_walk self)) }
+    pub fn step(self, s: &[u8]) -> Result<(SdesChunk, ChunkWalk), RtcpParseError>
+        ensures { parsed_of result ≡ map_ok chunk_stepped (sdes_step s.now (sdes_walk self)) }
     {
         let at = self.at;
         let end = self.end;
         let limit = step_limit(s);
         if limit <= at {
-            return SteppedChunk::Refused(RtcpParseError::NothingLeft);
+            return Err(RtcpParseError::NothingLeft);
         }
         if end <= at {
-            return SteppedChunk::Refused(RtcpParseError::NothingLeft);
+            return Err(RtcpParseError::NothingLeft);
         }
         let rest = &s[at..limit];
         let chunk = SdesChunk::read(rest);
         if chunk.length == 0 {
-            return SteppedChunk::Refused(SdesChunk::why(&rest[0..]));
+            return Err(SdesChunk::why(&rest[0..]));
         }
         let next = at + chunk.length;
-        SteppedChunk::Chunk(chunk, ChunkWalk { at: next, end })
+        Ok((chunk, ChunkWalk { at: next, end }))
     }
 }

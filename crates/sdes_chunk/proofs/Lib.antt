@@ -3,5 +3,4 @@ pub mod Readings
 pub mod Items
 pub mod Chunks
 pub mod Walks
-pub mod Injective
 pub mod Returned

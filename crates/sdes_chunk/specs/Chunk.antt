@@ -16,8 +16,6 @@ use Rattle.utils.specs.Error.{parse_refusal, refusal_in, value_or}
 use Rattle.sdes_chunk.specs.declared.chunk.SdesChunk.{SdesChunk}
 use Rattle.sdes_chunk.specs.declared.chunk.ChunkEnd.{ChunkEnd}
 use Rattle.sdes_chunk.specs.declared.chunk.Chunks.{Chunks}
-use Rattle.sdes_chunk.specs.declared.chunk.ParsedChunk.{ParsedChunk}
-use Rattle.sdes_chunk.specs.declared.chunk.ParsedChunk.TheVariants as parsed
 
 -- ---- views
 
@@ -36,10 +34,6 @@ chunk_first x = chunk_view x.0
 -- what stands for a chunk that is refused
 abbrev pub no_chunk : SdesChunk
 no_chunk = record { ssrc = 0; length = 0; cname = 0 }
-
-abbrev pub parsed_chunk_of : ParsedChunk → Answer SdesChunk
-parsed_chunk_of (parsed.Chunk c) = ok c
-parsed_chunk_of (parsed.Refused e) = refused (parse_refusal e)
 
 -- ---- steps
 

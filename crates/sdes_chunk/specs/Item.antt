@@ -16,8 +16,6 @@ use Rattle.rfc3550.specs.Read.{read_item}
 use Rattle.rfc3550.specs.Walk.{item_step}
 use Rattle.utils.specs.Error.{parse_refusal, value_or}
 use Rattle.sdes_chunk.specs.declared.item.SdesItem.{SdesItem}
-use Rattle.sdes_chunk.specs.declared.item.ParsedItem.{ParsedItem}
-use Rattle.sdes_chunk.specs.declared.item.ParsedItem.TheVariants as parsed
 
 -- ---- views
 
@@ -61,10 +59,6 @@ abbrev pub value_len : SdesItem → ℕ
 value_len i = 2 + i.length - value_start i
 
 -- ---- answers
-
-abbrev pub parsed_item_of : ParsedItem → Answer SdesItem
-parsed_item_of (parsed.Item i) = ok i
-parsed_item_of (parsed.Refused e) = refused (parse_refusal e)
 
 -- the part that is handed over for a prefix: none where it is refused
 abbrev pub prefix_in : Answer (List ℕ) → List ℕ

@@ -1,18 +1,19 @@
 -- Steps of a walk over the items of a chunk, and the item of the definitions from what a step hands over and the bytes that it was lent.
-use Rattle.std.specs.Prelude.{ℕ, ◌+◌, ◌-◌, ◌≡◌, List, take, drop, eqb}
+use Rattle.std.specs.Prelude.{ℕ, ◌+◌, ◌-◌, ◌≡◌, List, take, drop, eqb, Result}
 use Rattle.rfc3550.specs.Answer.{map_ok, pick}
 use Rattle.rfc3550.specs.Packet.{Item, item, priv}
 use Rattle.rfc3550.specs.Walk.{item_step, walk_after}
 use Rattle.rfc3550.specs.Returned.{Stepper}
+use Rattle.utils.specs.Error.{parsed_of}
+use Rattle.utils.specs.declared.error.RtcpParseError.{RtcpParseError}
 use Rattle.sdes_chunk.specs.Item.{item_view}
-use Rattle.sdes_chunk.specs.Walk.{item_stepped, stepped_item_of}
+use Rattle.sdes_chunk.specs.Walk.{item_stepped}
 use Rattle.sdes_chunk.specs.declared.item.SdesItem.{SdesItem}
 use Rattle.sdes_chunk.specs.declared.chunk.ItemWalk.{ItemWalk}
-use Rattle.sdes_chunk.specs.declared.chunk.SteppedItem.{SteppedItem}
 
 -- the ensures of `ItemWalk::step` on the bytes s, and the walk that is left
 abbrev pub item_steps : List ℕ → Stepper
-item_steps s = record { H = ItemWalk; R = SteppedItem; Meets = λ self r. stepped_item_of r ≡ map_ok item_stepped (item_step s self.at); next = λ self r. walk_after self (stepped_item_of r) }
+item_steps s = record { H = ItemWalk; R = Result (SdesItem × ItemWalk) RtcpParseError; Meets = λ self r. parsed_of r ≡ map_ok item_stepped (item_step s self.at); next = λ self r. walk_after self (parsed_of r) }
 
 -- of an item that stands at `at`
 abbrev pub item_from : List ℕ → ℕ → SdesItem → Item

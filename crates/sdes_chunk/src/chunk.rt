@@ -4,9 +4,9 @@ ghost use Rattle.rfc3550.specs.Answer.{map_ok, pick};
 ghost use Rattle.rfc3550.specs.Packet.{fill};
 ghost use Rattle.rfc3550.specs.Read.{read_chunk};
 ghost use Rattle.rfc3550.specs.Walk.{open_items, item_step};
-ghost use Rattle.utils.specs.Error.{parse_refusal, refusal_in, value_or};
-ghost use Rattle.sdes_chunk.specs.Chunk.{no_chunk, chunk_first, no_end, chunk_end, chunks_from, zero_at, first_cname, filled_end, ItemsEnd, ZerosEnd, parsed_chunk_of};
-ghost use Rattle.sdes_chunk.specs.Walk.{item_walk, item_stepped, opened_items_of, stepped_item_of};
+ghost use Rattle.utils.specs.Error.{parse_refusal, refusal_in, value_or, parsed_of};
+ghost use Rattle.sdes_chunk.specs.Chunk.{no_chunk, chunk_first, no_end, chunk_end, chunks_from, zero_at, first_cname, filled_end, ItemsEnd, ZerosEnd};
+ghost use Rattle.sdes_chunk.specs.Walk.{item_walk, item_stepped};
 
 use super::item::SdesItem;
 use utils::error::RtcpParseError;
@@ -18,12 +18,6 @@ pub struct SdesChunk {
     pub ssrc: u32,
     pub length: usize,
     pub cname: usize,
-}
-
-#[derive(Clone, Copy)]
-pub enum ParsedChunk {
-    Chunk(SdesChunk),
-    Refused(RtcpParseError),
 }
 
 // The next word boundary above a place.
@@ -258,14 +252,14 @@ impl SdesChunk {
     }
 
     // The chunk at the start of the rest of a body.
-    pub fn parse(rest: &[u8]) -> ParsedChunk
-        ensures { parsed_chunk_of result ≡ map_ok chunk_first (read_chunk rest.now) }
+    pub fn parse(rest: &[u8]) -> Result<SdesChunk, RtcpParseError>
+        ensures { parsed_of result ≡ map_ok chunk_first (read_chunk rest.now) }
     {
         let chunk = SdesChunk::read(rest);
         if chunk.length == 0 {
-            return ParsedChunk::Refused(SdesChunk::why(&rest[0..]));
+            return Err(SdesChunk::why(&rest[0..]));
         }
-        ParsedChunk::Chunk(chunk)
+        Ok(chunk)
     }
 }
 
@@ -275,42 +269,30 @@ pub struct ItemWalk {
     pub at: usize,
 }
 
-#[derive(Clone, Copy)]
-pub enum OpenedItems {
-    Walk(ItemWalk),
-    Refused(RtcpParseError),
-}
-
-#[derive(Clone, Copy)]
-pub enum SteppedItem {
-    Item(SdesItem, ItemWalk),
-    Refused(RtcpParseError),
-}
-
 impl ItemWalk {
     // Opens only on an accepted chunk.
-    pub fn open(s: &[u8]) -> OpenedItems
-        ensures { opened_items_of result ≡ map_ok item_walk (open_items s.now) }
+    pub fn open(s: &[u8]) -> Result<ItemWalk, RtcpParseError>
+        ensures { parsed_of result ≡ map_ok item_walk (open_items s.now) }
     {
         let chunk = SdesChunk::read(s);
         if chunk.length == 0 {
-            return OpenedItems::Refused(SdesChunk::why(&s[0..]));
+            return Err(SdesChunk::why(&s[0..]));
         }
-        OpenedItems::Walk(ItemWalk {
+        Ok(ItemWalk {
             at: SdesChunk::MIN_LEN,
         })
     }
 
     // The item at the walk's place, and the walk after it.
-    pub fn step(self, s: &[u8]) -> SteppedItem
-        ensures { stepped_item_of result ≡ map_ok item_stepped (item_step s.now self.at) }
+    pub fn step(self, s: &[u8]) -> Result<(SdesItem, ItemWalk), RtcpParseError>
+        ensures { parsed_of result ≡ map_ok item_stepped (item_step s.now self.at) }
     {
         let at = self.at;
         let end = super::item::item_end(s, at);
         if end == 0 {
-            return SteppedItem::Refused(super::item::why_end(&s[0..], at));
+            return Err(super::item::why_end(&s[0..], at));
         }
         let item = super::item::item_of_unchecked(&s[at..]);
-        SteppedItem::Item(item, ItemWalk { at: end })
+        Ok((item, ItemWalk { at: end }))
     }
 }

@@ -4,8 +4,8 @@ ghost use Rattle.rfc3550.specs.Answer.{ok, map_ok};
 ghost use Rattle.rfc3550.specs.Packet.{is_cname};
 ghost use Rattle.rfc3550.specs.Read.{read_item, read_prefix};
 ghost use Rattle.rfc3550.specs.Walk.{item_step};
-ghost use Rattle.utils.specs.Error.{parse_refusal, refusal_in, value_or};
-ghost use Rattle.sdes_chunk.specs.Item.{item_first, item_size, read_end, step_end, value_start, value_len, prefix_in, answer_of, parsed_item_of};
+ghost use Rattle.utils.specs.Error.{parse_refusal, refusal_in, value_or, parsed_of};
+ghost use Rattle.sdes_chunk.specs.Item.{item_first, item_size, read_end, step_end, value_start, value_len, prefix_in, answer_of};
 
 use utils::error::{Code, RtcpParseError};
 use utils::parser;
@@ -16,12 +16,6 @@ pub struct SdesItem {
     pub type_: u8,
     pub length: usize,
     pub prefix_len: usize,
-}
-
-#[derive(Clone, Copy)]
-pub enum ParsedItem {
-    Item(SdesItem),
-    Refused(RtcpParseError),
 }
 
 // The place behind the item at a place that has two bytes at least; 0 where it is refused.
@@ -181,14 +175,14 @@ impl SdesItem {
     pub const PRIV: u8 = 8;
 
     // The item at the start of the rest of a chunk.
-    pub fn parse(rest: &[u8]) -> ParsedItem
-        ensures { parsed_item_of result ≡ map_ok item_first (read_item rest.now) }
+    pub fn parse(rest: &[u8]) -> Result<SdesItem, RtcpParseError>
+        ensures { parsed_of result ≡ map_ok item_first (read_item rest.now) }
     {
         let size = item_size(rest);
         if size == 0 {
-            return ParsedItem::Refused(why_item(&rest[0..]));
+            return Err(why_item(&rest[0..]));
         }
-        ParsedItem::Item(item_of_unchecked(rest))
+        Ok(item_of_unchecked(rest))
     }
 
     // The test that an item is a CNAME.

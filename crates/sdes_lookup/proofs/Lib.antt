@@ -2,4 +2,3 @@ pub mod Marks
 pub mod Passes
 pub mod Calls
 pub mod Returned
-pub mod Injective

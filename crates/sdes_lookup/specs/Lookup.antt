@@ -6,12 +6,6 @@ use Rattle.rfc3550.specs.Packet.{Chunk}
 use Rattle.rfc3550.specs.Read.{read_chunks}
 use Rattle.rfc3550.specs.Lookup.{found_in, coded}
 use Rattle.utils.specs.Error.{parse_refusal}
-use Rattle.sdes_lookup.specs.declared.LookedUp.{LookedUp}
-use Rattle.sdes_lookup.specs.declared.LookedUp.TheVariants as looked
-
-abbrev pub looked_up_of : LookedUp → Answer ℕ
-looked_up_of (looked.Visits visits) = ok visits
-looked_up_of (looked.Refused e) = refused (parse_refusal e)
 
 -- chunk k is the answer for this SSRC, where there is none yet
 unfoldable pub marked : ℕ → ℕ → List ℕ → List ℕ → List ℕ

@@ -6,7 +6,8 @@ ghost use Rattle.rfc3550.specs.Answer.{ok, pick};
 ghost use Rattle.rfc3550.specs.Packet.{Chunk};
 ghost use Rattle.rfc3550.specs.Read.{read_chunks};
 ghost use Rattle.rfc3550.specs.Lookup.{Visited, lookup_with};
-ghost use Rattle.sdes_lookup.specs.Lookup.{looked_up_of, marked, unanswered_in, Answered};
+ghost use Rattle.utils.specs.Error.{parsed_of};
+ghost use Rattle.sdes_lookup.specs.Lookup.{marked, unanswered_in, Answered};
 
 use sdes::sdes::Sdes;
 use sdes_chunk::chunk::SdesChunk;
@@ -14,13 +15,6 @@ use utils::error::RtcpParseError;
 
 // The answer for an SSRC that no chunk names.
 pub const NO_CHUNK: u8 = 255;
-
-// The number of chunks visited.
-#[derive(Clone, Copy)]
-pub enum LookedUp {
-    Visits(usize),
-    Refused(RtcpParseError),
-}
 
 fn blank(answers: &mut [u8], n: usize)
     requires { n ≤ length answers.old }
@@ -87,16 +81,16 @@ fn answer_all(body: &[u8], n_chunks: usize, ssrcs: &[u32], answers: &mut [u8]) -
 
 // For each SSRC of the list the index of the first chunk with that SSRC and a CNAME in it, or NO_CHUNK. A refusal writes no answer, and so the packet
 // is accepted first. Of the number of visits no more is promised than that it is at most the number of chunks.
-pub fn lookup(s: &[u8], ssrcs: &[u32], answers: &mut [u8]) -> LookedUp
-    ensures { (visits : ℕ) × Visited s.now ssrcs.now visits × ((looked_up_of result, answers.new) ≡ lookup_with visits s.now ssrcs.now answers.old) }
+pub fn lookup(s: &[u8], ssrcs: &[u32], answers: &mut [u8]) -> Result<usize, RtcpParseError>
+    ensures { (visits : ℕ) × Visited s.now ssrcs.now visits × ((parsed_of result, answers.new) ≡ lookup_with visits s.now ssrcs.now answers.old) }
 {
     if answers.len() < ssrcs.len() {
-        return LookedUp::Refused(RtcpParseError::AnswersTooShort);
+        return Err(RtcpParseError::AnswersTooShort);
     }
     let sdes = Sdes::read(s);
     let end = sdes.body;
     if end == 0 {
-        return LookedUp::Refused(Sdes::why(&s[0..]));
+        return Err(Sdes::why(&s[0..]));
     }
-    LookedUp::Visits(answer_all(&s[..end], sdes.n_chunks, ssrcs, answers))
+    Ok(answer_all(&s[..end], sdes.n_chunks, ssrcs, answers))
 }

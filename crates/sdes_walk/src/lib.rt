@@ -4,10 +4,13 @@
 ghost use Rattle.std.specs.Prelude.{◌≡◌};
 ghost use Rattle.rfc3550.specs.Answer.{map_ok};
 ghost use Rattle.rfc3550.specs.Walk.{open_sdes, walk_after};
-ghost use Rattle.sdes.specs.Walk.{chunk_walk, opened_chunks_of, stepped_chunk_of};
+ghost use Rattle.utils.specs.Error.{parsed_of};
+ghost use Rattle.sdes.specs.Walk.{chunk_walk};
 ghost use Rattle.sdes_walk.specs.Walk.{start_of, step_at, opened_on, moved_on};
 
-use sdes::sdes::{ChunkWalk, OpenedChunks, SteppedChunk};
+use sdes_chunk::chunk::SdesChunk;
+use utils::error::RtcpParseError;
+use sdes::sdes::ChunkWalk;
 
 #[derive(Clone, Copy)]
 pub struct SdesWalk<'a> {
@@ -18,39 +21,39 @@ pub struct SdesWalk<'a> {
 // The answer to opening, and the walk. Of a packet that is refused there is nothing to walk.
 #[derive(Clone, Copy)]
 pub struct OpenedWalk<'a> {
-    pub answer: OpenedChunks,
+    pub answer: Result<ChunkWalk, RtcpParseError>,
     pub walk: SdesWalk<'a>,
 }
 
 // The answer to a step, and the walk after it. A refusal leaves the walk as it was.
 #[derive(Clone, Copy)]
 pub struct SteppedWalk<'a> {
-    pub answer: SteppedChunk,
+    pub answer: Result<(SdesChunk, ChunkWalk), RtcpParseError>,
     pub walk: SdesWalk<'a>,
 }
 
-fn start(answer: OpenedChunks) -> ChunkWalk
-    ensures { result ≡ start_of (opened_chunks_of answer) }
+fn start(answer: Result<ChunkWalk, RtcpParseError>) -> ChunkWalk
+    ensures { result ≡ start_of (parsed_of answer) }
 {
     match answer {
-        OpenedChunks::Walk(walk) => walk,
-        OpenedChunks::Refused(_) => ChunkWalk { at: 0, end: 0 },
+        Ok(walk) => walk,
+        Err(_) => ChunkWalk { at: 0, end: 0 },
     }
 }
 
-fn after(answer: SteppedChunk, position: ChunkWalk) -> ChunkWalk
-    ensures { result ≡ walk_after position (stepped_chunk_of answer) }
+fn after(answer: Result<(SdesChunk, ChunkWalk), RtcpParseError>, position: ChunkWalk) -> ChunkWalk
+    ensures { result ≡ walk_after position (parsed_of answer) }
 {
     match answer {
-        SteppedChunk::Chunk(_, next) => next,
-        SteppedChunk::Refused(_) => position,
+        Ok((_, next)) => next,
+        Err(_) => position,
     }
 }
 
 impl<'a> SdesWalk<'a> {
     // Opens only on an accepted packet.
     pub fn open(data: &'a [u8]) -> OpenedWalk<'a>
-        ensures { (opened_chunks_of result.answer ≡ map_ok chunk_walk (open_sdes «data».now)) × (result.walk ≡ opened_on «data».entry) }
+        ensures { (parsed_of result.answer ≡ map_ok chunk_walk (open_sdes «data».now)) × (result.walk ≡ opened_on «data».entry) }
     {
         let answer = ChunkWalk::open(data);
         let position = start(answer);
@@ -62,7 +65,7 @@ impl<'a> SdesWalk<'a> {
 
     // The chunk at the walk's place, and the walk after it.
     pub fn step(self) -> SteppedWalk<'a>
-        ensures { (stepped_chunk_of result.answer ≡ step_at self.entry.«data».now self.entry.position) × (result.walk ≡ moved_on self.entry) }
+        ensures { (parsed_of result.answer ≡ step_at self.entry.«data».now self.entry.position) × (result.walk ≡ moved_on self.entry) }
     {
         let data = self.data;
         let from = self.position;

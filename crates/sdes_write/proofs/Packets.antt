@@ -1,4 +1,5 @@
 -- The cases of a packet's lists, of its size and of its bytes, each from what the code has tested or called.
+use Rattle.std.specs.Prelude.{Result, Ok}
 use Rattle.rfc3550.proofs.Prelude.{ℕ, suc, ◌+◌, ◌-◌, ◌*◌, ◌<◌, ◌≤◌, ◌^◌, ◌≡◌, refl, sym, ap, ◌∙◌, Bool, true, false, ◌&&◌, List, [], ◌∷◌, arith, le-leb, lt-leb, leb-true, leb-false, eq-eqb, ne_eqb, eqb-true, eqb-false, not-true, not-false, length, take, drop, get_or, leb, eqb}
 use Rattle.rfc3550.specs.Answer.{Refusal, Answer, ok, refused, refusal, need, ◌>>◌, pick}
 use Rattle.rfc3550.specs.Bytes.{sum, store}
@@ -7,11 +8,10 @@ use Rattle.rfc3550.specs.Write.{LentItem, lent_items, lent_chunks, Given, give_s
 use Rattle.rfc3550.proofs.Answers.{need_inv, then_inv, and_inv, ok_injective}
 use Rattle.utils.specs.Error.{or_zero}
 use Rattle.utils.specs.Writer.{written_of, size_refusal, header}
-use Rattle.utils.specs.declared.writer.Written.{Written}
-use Rattle.utils.specs.declared.writer.Written.TheVariants.{Size}
 use Rattle.utils.proofs.Parts.{lent_again}
 use Rattle.utils.proofs.WriterPackets.{writes, padding_most, sized, size_ok, size_over, size_refused, header_last, header_long, packet_laid}
 use Rattle.utils.proofs.Sizes.{size_why, write_why, size_came, write_room, write_laid, why_last}
+use Rattle.utils.specs.declared.error.RtcpWriteError.{RtcpWriteError}
 use Rattle.chunk_write.specs.Sizes.{SameLengths, items_refusal, at_most, chunks_end, ChunksMeasured}
 use Rattle.chunk_write.specs.Lists.{laid_chunks, ChunksFit}
 use Rattle.chunk_write.proofs.Sizes.{Agreed, agreed, chunks_are, refusal_of, EndKnown, end_known, end_none}
@@ -212,7 +212,7 @@ module _ (ss cs ts ps vs bs : List ℕ) (k : ℕ) where
         room = h;
       }
 
-  pub sdes_fits : (w : Written) (n space : ℕ) → written_of w ≡ calculate_size given → w ≡ Size n → n ≤ space → SdesFits ss cs ts ps vs bs k n space
+  pub sdes_fits : (w : Result ℕ RtcpWriteError) (n space : ℕ) → written_of w ≡ calculate_size given → w ≡ Ok n → n ≤ space → SdesFits ss cs ts ps vs bs k n space
   sdes_fits w n space e q h = fits_of n space (sym e ∙ ap written_of q) h
 
   pub size_fits : (n space : ℕ) → n ≡ or_zero (calculate_size given) → (n ≡ 0 → ⊥) → n ≤ space → SdesFits ss cs ts ps vs bs k n space

@@ -13,7 +13,6 @@ use chunk_write::chunks;
 use sdes::sdes::Sdes;
 use utils::error::RtcpWriteError;
 use utils::writer;
-use utils::writer::Written;
 
 // The lists of a packet agree.
 fn lists_agree(
@@ -130,12 +129,12 @@ pub fn calculate_size(
     values: &[u64],
     bytes: &[u8],
     padding: u64,
-) -> Written
+) -> Result<usize, RtcpWriteError>
     ensures { written_of result ≡ calculate_size (give_sdes (lists ssrcs.now counts.now types.now prefixes.now values.now bytes.now) padding) }
 {
     let end = end_of(ssrcs, counts, types, prefixes, values, bytes, padding);
     if end == 0 {
-        return Written::Refused(why_size(
+        return Err(why_size(
             &ssrcs[0..],
             &counts[0..],
             &types[0..],
@@ -145,7 +144,7 @@ pub fn calculate_size(
             padding,
         ));
     }
-    Written::Size(end + padding as usize)
+    Ok(end + padding as usize)
 }
 
 // Lays the header of a packet of so many chunks and bytes, and its padding, around chunks that are laid.
@@ -195,12 +194,12 @@ pub fn write_into(
     values: &[u64],
     bytes: &[u8],
     padding: u64,
-) -> Written
+) -> Result<usize, RtcpWriteError>
     ensures { (written_of result, buf.new) ≡ write (give_sdes (lists ssrcs.now counts.now types.now prefixes.now values.now bytes.now) padding) buf.old }
 {
     let end = end_of(ssrcs, counts, types, prefixes, values, bytes, padding);
     if end == 0 {
-        return Written::Refused(why_size(
+        return Err(why_size(
             &ssrcs[0..],
             &counts[0..],
             &types[0..],
@@ -212,10 +211,10 @@ pub fn write_into(
     }
     let size = end + padding as usize;
     if buf.len() < size {
-        return Written::Refused(RtcpWriteError::OutputTooSmall(size as u64));
+        return Err(RtcpWriteError::OutputTooSmall(size as u64));
     }
     write_into_unchecked(
         buf, ssrcs, counts, types, prefixes, values, bytes, padding, size,
     );
-    Written::Size(size)
+    Ok(size)
 }

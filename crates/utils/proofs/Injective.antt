@@ -1,15 +1,14 @@
 -- The interpretations lose nothing: each has an inverse on what it gives.
+use Rattle.std.specs.Prelude.{Result, Ok, Err}
 use Rattle.rfc3550.proofs.Prelude.{◌≡◌, refl, ap, ◌∙◌, sym, ℕ, eqb}
 use Rattle.rfc3550.specs.Answer.{Refusal, refusal, Answer, ok, refused, pick}
-use Rattle.utils.specs.Error.{number_in, parse_refusal, write_refusal, code_refusal}
+use Rattle.utils.specs.Error.{number_in, parse_refusal, write_refusal, parsed_of, code_refusal}
 use Rattle.utils.specs.declared.error.RtcpParseError.{RtcpParseError}
 use Rattle.utils.specs.declared.error.RtcpParseError.TheVariants as parse
 use Rattle.utils.specs.declared.error.RtcpWriteError.{RtcpWriteError}
 use Rattle.utils.specs.declared.error.RtcpWriteError.TheVariants as write
 use Rattle.utils.specs.declared.error.Code.{Code}
 use Rattle.utils.specs.Writer.{written_of}
-use Rattle.utils.specs.declared.writer.Written.{Written}
-use Rattle.utils.specs.declared.writer.Written.TheVariants as written
 
 pub injective : {A B : Type 0} (f : A → B) (g : B → A) → ((a : A) → g (f a) ≡ a) → (a b : A) → f a ≡ f b → a ≡ b
 injective f g h a b e = sym (h a) ∙ ap g e ∙ h b
@@ -100,20 +99,17 @@ write_refusal_back write.AlreadyPadded = refl
 pub write_refusal_injective : (e f : RtcpWriteError) → write_refusal e ≡ write_refusal f → e ≡ f
 write_refusal_injective = injective write_refusal write_error write_refusal_back
 
--- an enum of a value and a refusal, from the answer that it stands for: where that gives it back, nothing is lost
-abbrev pub from_answer : {A E O : Type 0} → (Refusal → E) → (A → O) → (E → O) → Answer A → O
-from_answer errorOf value refusing (ok a) = value a
-from_answer errorOf value refusing (refused r) = refusing (errorOf r)
+-- what a function says, from the answer that it stands for: where that gives it back, nothing is lost
+abbrev pub from_answer : {A E : Type 0} → (Refusal → E) → Answer A → Result A E
+from_answer errorOf (ok a) = Ok a
+from_answer errorOf (refused r) = Err (errorOf r)
 
-module _ {A O : Type 0} (of : O → Answer A) (value : A → O) where
-  pub parsed_injective : (refusing : RtcpParseError → O) → ((o : O) → from_answer parse_error value refusing (of o) ≡ o) → (o p : O) → of o ≡ of p → o ≡ p
-  parsed_injective refusing back = injective of (from_answer parse_error value refusing) back
+module _ {A : Type 0} where
+  pub parsed_of_injective : (r s : Result A RtcpParseError) → parsed_of r ≡ parsed_of s → r ≡ s
+  parsed_of_injective = injective parsed_of (from_answer parse_error) (elim [ Ok a ↦ refl | Err e ↦ ap Err (parse_refusal_back e) ])
 
-  pub written_injective : (refusing : RtcpWriteError → O) → ((o : O) → from_answer write_error value refusing (of o) ≡ o) → (o p : O) → of o ≡ of p → o ≡ p
-  written_injective refusing back = injective of (from_answer write_error value refusing) back
-
-pub written_of_injective : (r s : Written) → written_of r ≡ written_of s → r ≡ s
-written_of_injective = written_injective written_of written.Size written.Refused (elim [ written.Size n ↦ refl | written.Refused e ↦ ap written.Refused (write_refusal_back e) ])
+  pub written_of_injective : (r s : Result A RtcpWriteError) → written_of r ≡ written_of s → r ≡ s
+  written_of_injective = injective written_of (from_answer write_error) (elim [ Ok a ↦ refl | Err e ↦ ap Err (write_refusal_back e) ])
 
 abbrev code_for : Refusal → Code
 code_for (refusal n a b) = record { number = n; first = a; second = b }

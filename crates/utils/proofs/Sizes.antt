@@ -1,4 +1,5 @@
 -- Writing, numbers first: what a size or 0, and why there is none, say of the size's answer and of the write, over what is given.
+use Rattle.std.specs.Prelude.{Ok}
 use Rattle.rfc3550.proofs.Prelude.{ℕ, ◌<◌, ◌≤◌, ◌≡◌, refl, sym, ap, ◌∙◌, Bool, true, false, List, arith, length, leb}
 use Rattle.rfc3550.specs.Answer.{Refusal, refusal, Answer, ok, refused, need, ◌>>◌, ◌>>=◌}
 use Rattle.rfc3550.specs.Bytes.{store}
@@ -6,7 +7,6 @@ use Rattle.rfc3550.specs.Packet.{layout}
 use Rattle.rfc3550.specs.Write.{Given, packet_given, size_given, own_tests, tests, calculate_size, room, write}
 use Rattle.utils.specs.Error.{or_zero}
 use Rattle.utils.specs.Writer.{size_refusal}
-use Rattle.utils.specs.declared.writer.Written.TheVariants.{Size}
 use Rattle.utils.proofs.Values.{number_came}
 use Rattle.utils.proofs.WriterPackets.{sized, write_short, write_done}
 
@@ -46,9 +46,9 @@ module _ (g : Given) (n : ℕ) (h : n ≡ or_zero (calculate_size g)) where
     size_is = sym size_came
 
     pub write_room : (l : List ℕ) → length l < n → (refused (refusal 10 n 0), l) ≡ write g l
-    write_room l f = write_short g (Size n) l size_is n refl f
+    write_room l f = write_short g (Ok n) l size_is n refl f
 
     pub write_laid : (l l₁ : List ℕ) → n ≤ length l → l₁ ≡ store 0 (layout (packet_given g)) l → (ok n, l₁) ≡ write g l
-    write_laid l l₁ f e = write_done g (Size n) l size_is n l₁ refl f e
+    write_laid l l₁ f e = write_done g (Ok n) l size_is n l₁ refl f e
 
 pub ruleset sizes = (size_is, write_room, write_laid)

@@ -1,4 +1,5 @@
 -- A write of anything that has a size and bytes, and a packet laid as header, content, padding.
+use Rattle.std.specs.Prelude.{Result, Ok, Err}
 use Rattle.rfc3550.proofs.Prelude.{ℕ, suc, ◌+◌, ◌-◌, ◌/◌, ◌%◌, ◌<◌, ◌≤◌, ◌≡◌, sym, ap, ◌∙◌, List, ◌++◌, Bool, true, arith, length, length-append, leb, eqb, le-leb, lt-leb, leb-true}
 use Rattle.rfc3550.specs.Answer.{Answer, ok, refused, refusal, need, ◌>>◌, ◌>>=◌}
 use Rattle.rfc3550.specs.Bytes.{store}
@@ -10,36 +11,34 @@ use Rattle.rfc3550.proofs.Packets.{length_layout}
 use Rattle.rfc3550.proofs.Writes.{length_padding_bytes}
 use Rattle.utils.specs.Writer.{written_of, header}
 use Rattle.utils.specs.declared.error.RtcpWriteError.{RtcpWriteError}
-use Rattle.utils.specs.declared.writer.Written.{Written}
-use Rattle.utils.specs.declared.writer.Written.TheVariants.{Size, Refused}
 use Rattle.utils.proofs.WriterStores.{store_store, store_before}
 use Rattle.utils.proofs.WriterCases.{writer}
 
 -- ---- the answer and the buffer of a write
 
-module _ (r : Written) (size : Answer ℕ) (bs l : List ℕ) (h : written_of r ≡ size) where
-  pub refused_written : (e : RtcpWriteError) → r ≡ Refused e → (written_of r, l) ≡ written size bs l
+module _ (r : Result ℕ RtcpWriteError) (size : Answer ℕ) (bs l : List ℕ) (h : written_of r ≡ size) where
+  pub refused_written : (e : RtcpWriteError) → r ≡ Err e → (written_of r, l) ≡ written size bs l
   unfolding room ◌>>=◌
   refused_written e q = simp (← h, q)
 
-  pub short_written : (n : ℕ) → r ≡ Size n → length l < n → (refused (refusal 10 n 0), l) ≡ written size bs l
+  pub short_written : (n : ℕ) → r ≡ Ok n → length l < n → (refused (refusal 10 n 0), l) ≡ written size bs l
   unfolding room ◌>>=◌ ◌>>◌ need
   short_written n q f = simp (← h, q, lt-leb _ _ f)
 
-  pub done_written : (n : ℕ) (l₁ : List ℕ) → r ≡ Size n → n ≤ length l → l₁ ≡ store 0 bs l → (ok n, l₁) ≡ written size bs l
+  pub done_written : (n : ℕ) (l₁ : List ℕ) → r ≡ Ok n → n ≤ length l → l₁ ≡ store 0 bs l → (ok n, l₁) ≡ written size bs l
   unfolding room ◌>>=◌ ◌>>◌ need
   done_written n l₁ q f e = rw e (simp (← h, q, le-leb _ _ f))
 
-module _ (g : Given) (r : Written) (l : List ℕ) (h : written_of r ≡ calculate_size g) where
-  pub write_refused : (e : RtcpWriteError) → r ≡ Refused e → (written_of r, l) ≡ write g l
+module _ (g : Given) (r : Result ℕ RtcpWriteError) (l : List ℕ) (h : written_of r ≡ calculate_size g) where
+  pub write_refused : (e : RtcpWriteError) → r ≡ Err e → (written_of r, l) ≡ write g l
   unfolding write
   write_refused e q = refused_written r _ _ l h e q
 
-  pub write_short : (n : ℕ) → r ≡ Size n → length l < n → (refused (refusal 10 n 0), l) ≡ write g l
+  pub write_short : (n : ℕ) → r ≡ Ok n → length l < n → (refused (refusal 10 n 0), l) ≡ write g l
   unfolding write
   write_short n q f = short_written r _ _ l h n q f
 
-  pub write_done : (n : ℕ) (l₁ : List ℕ) → r ≡ Size n → n ≤ length l → l₁ ≡ store 0 (layout (packet_given g)) l → (ok n, l₁) ≡ write g l
+  pub write_done : (n : ℕ) (l₁ : List ℕ) → r ≡ Ok n → n ≤ length l → l₁ ≡ store 0 (layout (packet_given g)) l → (ok n, l₁) ≡ write g l
   unfolding write
   write_done n l₁ q f e = done_written r _ _ l h n l₁ q f e
 

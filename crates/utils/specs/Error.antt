@@ -1,5 +1,5 @@
 -- The number and the details that document 01 gives each refusal of the code.
-use Rattle.std.specs.Prelude.{ℕ}
+use Rattle.std.specs.Prelude.{ℕ, Result, Ok, Err}
 use Rattle.rfc3550.specs.Answer.{Refusal, refusal, Answer, ok, refused}
 use Rattle.utils.specs.declared.error.RtcpParseError.{RtcpParseError}
 use Rattle.utils.specs.declared.error.RtcpParseError.TheVariants as parse
@@ -41,6 +41,11 @@ write_refusal write.WriterClosed = refusal 26 0 0
 write_refusal write.FirstPacketNoReport = refusal 27 0 0
 write_refusal write.NoCname = refusal 28 0 0
 write_refusal write.AlreadyPadded = refusal 29 0 0
+
+-- what a function that reads says
+abbrev pub parsed_of : {A : Type 0} → Result A RtcpParseError → Answer A
+parsed_of (Ok a) = ok a
+parsed_of (Err e) = refused (parse_refusal e)
 
 abbrev pub code_refusal : Code → Refusal
 code_refusal c = refusal c.number c.first c.second

@@ -1,16 +1,16 @@
 -- What a write answers, and the first four bytes of a packet.
-use Rattle.std.specs.Prelude.{ℕ, ◌+◌, ◌-◌, ◌/◌, ◌%◌, List, [], ◌∷◌, ◌++◌}
+use Rattle.std.specs.Prelude.{ℕ, ◌+◌, ◌-◌, ◌/◌, ◌%◌, List, [], ◌∷◌, ◌++◌, Result, Ok, Err}
 use Rattle.rfc3550.specs.Answer.{Refusal, refusal, Answer, ok, refused}
 use Rattle.rfc3550.specs.Bytes.{be}
 use Rattle.rfc3550.specs.Packet.{padding_bit}
 use Rattle.rfc3550.specs.Write.{padding_bytes}
 use Rattle.utils.specs.Error.{write_refusal}
-use Rattle.utils.specs.declared.writer.Written.{Written}
-use Rattle.utils.specs.declared.writer.Written.TheVariants as written
+use Rattle.utils.specs.declared.error.RtcpWriteError.{RtcpWriteError}
 
-abbrev pub written_of : Written → Answer ℕ
-written_of (written.Size size) = ok size
-written_of (written.Refused e) = refused (write_refusal e)
+-- what a function that writes says
+abbrev pub written_of : {A : Type 0} → Result A RtcpWriteError → Answer A
+written_of (Ok a) = ok a
+written_of (Err e) = refused (write_refusal e)
 
 -- why there is no size; where there is one, 22, which no caller asks for
 abbrev pub size_refusal : Answer ℕ → Refusal

@@ -1,10 +1,20 @@
-// What a call hands over into a lent list.
+// Handing numbers over into a lent list.
+ghost use Rattle.std.specs.Prelude.{◌≡◌};
+ghost use Rattle.utils.specs.declared.list.ListError.TheVariants.{Refused};
+
 use crate::error::RtcpParseError;
 
-// How many numbers were laid at the list's start; how many there are, where the list is too short; or why there are none.
+// Why no number was laid: the list has fewer than so many, or the bytes are refused.
 #[derive(Clone, Copy)]
-pub enum Listed {
-    Len(usize),
+pub enum ListError {
     TooShort(usize),
     Refused(RtcpParseError),
+}
+
+impl From<RtcpParseError> for ListError {
+    ghost from_gives = { λ e r. r ≡ Refused e };
+
+    fn from(e: RtcpParseError) -> ListError {
+        ListError::Refused(e)
+    }
 }

@@ -15,13 +15,6 @@ pub const MAX_COUNT: usize = 31;
 // The bytes of the greatest length that a header states.
 pub const MAX_PACKET_LEN: usize = 262144;
 
-// The size of what was written, or why nothing was.
-#[derive(Clone, Copy)]
-pub enum Written {
-    Size(usize),
-    Refused(RtcpWriteError),
-}
-
 pub fn write_u16_unchecked(buf: &mut [u8], at: usize, v: u16)
     requires { at + 2 ≤ length buf.old }
     ensures { buf.new ≡ store at (be 2 v) buf.old }

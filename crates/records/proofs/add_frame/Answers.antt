@@ -1,5 +1,5 @@
+use Rattle.std.specs.Prelude.{Err}
 use Rattle.rfc3550.proofs.Prelude.{rules, refl, length}
-use Rattle.utils.specs.declared.writer.Written.TheVariants.{Refused}
 use Rattle.utils.proofs.Values.{number_came}
 use Rattle.report_write.specs.Report.{counted_size}
 use Rattle.compound_write.specs.Writer.{writer_of}
@@ -12,7 +12,7 @@ use Rattle.records.proofs.add_frame.Goals as goal
 pub returns-then-not-admit : goal.returns-then-not-admit
 returns-then-not-admit c = let a = c.args in
     let s = counted_number a.reporter _ a.count a.loss a.padding _ c.least.ensures (search rules) c.size_of_count-size.ensures in
-    (told_refused (writer_of a.writer) c.packet_type-packet_type.result c.size_of_count-size.result (length a.buf.now) (counted_size (least_of a.reporter) a.count a.loss a.padding) _ c.packet_type-packet_type.ensures s (counted_some a.reporter _ _ _) c.admit.ensures _ _ c.if-not-admit.true (counted_own a.reporter _ _ _ _ (search rules) c.why_count-own.ensures) c.why.ensures, frame_kept a.reporter _ _ _ _ (Refused c.why.result) c.why.result refl)
+    (told_refused (writer_of a.writer) c.packet_type-packet_type.result c.size_of_count-size.result (length a.buf.now) (counted_size (least_of a.reporter) a.count a.loss a.padding) _ c.packet_type-packet_type.ensures s (counted_some a.reporter _ _ _) c.admit.ensures _ _ c.if-not-admit.true (counted_own a.reporter _ _ _ _ (search rules) c.why_count-own.ensures) c.why.ensures, frame_kept a.reporter _ _ _ _ (Err c.why.result) c.why.result refl)
 
 pub write_frame_unchecked-requires : goal.write_frame_unchecked-requires
 write_frame_unchecked-requires c = let a = c.args in

@@ -1,12 +1,12 @@
+use Rattle.std.specs.Prelude.{Ok, Err}
 use Rattle.rfc3550.proofs.Prelude.{refl, rules}
-use Rattle.bye.specs.Bye.{source_of}
-use Rattle.bye.specs.declared.ParsedSource.TheVariants as parsed
+use Rattle.utils.specs.Error.{parsed_of}
 use Rattle.rtcp.specs.Bye.{source_result}
 use Rattle.rtcp.proofs.Results.{handed, turned}
 use Rattle.rtcp.proofs.read_bye.rtcp_bye_source.Goals as goal
 
-pub returns-in-Source : goal.returns-in-Source
-returns-in-Source c = search (rules, handed source_result source_of parsed.Source (λ x. refl))
+pub returns-in-Ok : goal.returns-in-Ok
+returns-in-Ok c = search (rules, handed source_result)
 
-pub returns-in-Refused : goal.returns-in-Refused
-returns-in-Refused c = search (rules, turned source_result source_of parsed.Refused (λ e. refl) c.code-code.result)
+pub returns-in-Err : goal.returns-in-Err
+returns-in-Err c = search (rules, turned source_result c.code-code.result)

@@ -1,12 +1,13 @@
+use Rattle.std.specs.Prelude.{Ok, Err}
 use Rattle.rfc3550.proofs.Prelude.{refl, rules}
-use Rattle.compound.specs.Compound.{parsed_compound_of}
-use Rattle.compound.specs.declared.compound.ParsedCompound.TheVariants as parsed
+use Rattle.utils.specs.Error.{parsed_of}
 use Rattle.rtcp.specs.Compound.{compound_result}
 use Rattle.rtcp.proofs.Results.{handed, turned}
 use Rattle.rtcp.proofs.read_compound.rtcp_compound_parse.Goals as goal
+use Rattle.compound.specs.declared.compound.Compound.{Compound}
 
-pub returns-in-Compound : goal.returns-in-Compound
-returns-in-Compound c = search (rules, handed compound_result parsed_compound_of parsed.Compound (λ x. refl))
+pub returns-in-Ok : goal.returns-in-Ok
+returns-in-Ok c = search (rules, handed compound_result)
 
-pub returns-in-Refused : goal.returns-in-Refused
-returns-in-Refused c = search (rules, turned compound_result parsed_compound_of parsed.Refused (λ e. refl) c.code-code.result)
+pub returns-in-Err : goal.returns-in-Err
+returns-in-Err c = search (rules, turned compound_result c.code-code.result)

@@ -1,16 +1,20 @@
-use mathlib.Core.Path.{refl}
-use Rattle.sdes_chunk.specs.Walk.{stepped_item_of}
-use Rattle.sdes_chunk.specs.declared.chunk.SteppedItem.TheVariants as stepped
+use Rattle.std.specs.Prelude.{Err}
+use Rattle.rfc3550.proofs.Prelude.{◌<◌, ◌^◌, length, arith}
 use Rattle.rtcp.specs.Sdes.{item_step_result}
 use Rattle.rtcp.proofs.Results.{turned}
-use Rattle.rtcp.proofs.Descriptions.{descriptions, item_stepped_lem}
+use Rattle.rtcp.proofs.Descriptions.{descriptions, step_order, step_fits, item_stepped_lem}
 use Rattle.rtcp.proofs.read_sdes.rtcp_item_walk_step.Goals as goal
+use Rattle.utils.specs.Error.{parsed_of}
 
 pub of-parts-requires : goal.of-parts-requires
-of-parts-requires c = search descriptions
+of-parts-requires c =
+    let l : length c.args.s.now < 2 ^ 64 = omega arith in
+    let i = c.in-Ok.item in
+    let w = c.in-Ok.next in
+    (step_order _ i w _ _ c.in-Ok.is c.step.ensures, step_fits _ i w _ _ c.in-Ok.is c.step.ensures l)
 
-pub returns-in-Item : goal.returns-in-Item
-returns-in-Item c = rw c.of-parts.ensures (search (descriptions, item_stepped_lem))
+pub returns-in-Ok : goal.returns-in-Ok
+returns-in-Ok c = rw c.of-parts.ensures (search (descriptions, item_stepped_lem))
 
-pub returns-in-Refused : goal.returns-in-Refused
-returns-in-Refused c = search (descriptions, turned (item_step_result c.args.at) stepped_item_of stepped.Refused (λ e. refl) c.code-code.result)
+pub returns-in-Err : goal.returns-in-Err
+returns-in-Err c = search (descriptions, turned (item_step_result c.args.at) c.code-code.result)

@@ -10,8 +10,8 @@ overflow_add-end c = search compounds
 pub slice_bounds-parse-end : goal.slice_bounds-parse-end
 slice_bounds-parse-end c = search compounds
 
-pub returns-in_default : goal.returns-in_default
-returns-in_default c = search compounds
+pub returns-in_err-packet : goal.returns-in_err-packet
+returns-in_err-packet c = search compounds
 
 pub returns : goal.returns
 returns c = search compounds
