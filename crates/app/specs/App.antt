@@ -1,8 +1,6 @@
 -- An APP packet's fields, as functions of the packet.
 use Rattle.std.specs.Prelude.{ℕ, ◌+◌, List, [], length}
-use Rattle.rfc3550.specs.Answer.{Answer, ok, refused}
 use Rattle.rfc3550.specs.Packet.{Content, report, sdes, bye, app, unknown, Packet, low_bits}
-use Rattle.utils.specs.Error.{parse_refusal}
 use Rattle.app.specs.declared.App.{App}
 
 abbrev pub ssrc_of : Content → ℕ

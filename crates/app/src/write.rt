@@ -84,7 +84,13 @@ pub fn why_size(subtype: u64, ssrc: u32, name: &[u8], data: &[u8], padding: u64)
 }
 
 // The size of an APP, or why it is refused.
-pub fn calculate_size(subtype: u64, ssrc: u32, name: &[u8], data: &[u8], padding: u64) -> Result<usize, RtcpWriteError>
+pub fn calculate_size(
+    subtype: u64,
+    ssrc: u32,
+    name: &[u8],
+    data: &[u8],
+    padding: u64,
+) -> Result<usize, RtcpWriteError>
     ensures { written_of result ≡ calculate_size (give_app subtype ssrc name.now «data».now padding) }
 {
     let size = size_of(subtype, ssrc, name, data, padding);

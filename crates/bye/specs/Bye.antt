@@ -1,9 +1,7 @@
 -- A BYE packet's fields, as functions of the packet.
 use Rattle.std.specs.Prelude.{ℕ, ◌+◌, ◌*◌, Bool, true, false, List, [], length}
-use Rattle.rfc3550.specs.Answer.{Answer, ok, refused}
 use Rattle.rfc3550.specs.Packet.{Leaving, no_reason, reason, Content, report, sdes, bye, app, unknown, Packet}
 use Rattle.rfc3550.specs.Read.{sources_of}
-use Rattle.utils.specs.Error.{parse_refusal}
 use Rattle.bye.specs.declared.Bye.{Bye}
 
 -- what follows the sources

@@ -122,10 +122,7 @@ impl Bye {
     pub fn source(s: &[u8], i: usize) -> Result<u32, RtcpParseError>
         ensures { parsed_of result ≡ read_source_at s.now i }
     {
-        let bye = Bye::read(s);
-        if bye.body == 0 {
-            return Err(Bye::why(&s[0..]));
-        }
+        let bye = Bye::parse(s)?;
         if bye.n_sources <= i {
             return Err(RtcpParseError::NothingLeft);
         }

@@ -123,7 +123,12 @@ pub fn write_into_unchecked(
 }
 
 // Writes a BYE at the start of buf.
-pub fn write_into(buf: &mut [u8], sources: &[u32], reason: &[u8], padding: u64) -> Result<usize, RtcpWriteError>
+pub fn write_into(
+    buf: &mut [u8],
+    sources: &[u32],
+    reason: &[u8],
+    padding: u64,
+) -> Result<usize, RtcpWriteError>
     ensures { (written_of result, buf.new) ≡ write (give_bye sources.now reason.now padding) buf.old }
 {
     let size = size_of(sources, reason, padding);

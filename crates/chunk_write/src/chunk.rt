@@ -64,13 +64,7 @@ pub fn calculate_size(
 {
     let size = size_of(ssrc, types, prefixes, values, bytes);
     if size == 0 {
-        return Err(why_size(
-            ssrc,
-            &types[0..],
-            &prefixes[0..],
-            &values[0..],
-            &bytes[0..],
-        ));
+        return Err(why_size(ssrc, &types[0..], &prefixes[0..], &values[0..], &bytes[0..]));
     }
     Ok(size)
 }
@@ -105,13 +99,7 @@ pub fn write_into(
 {
     let size = size_of(ssrc, types, prefixes, values, bytes);
     if size == 0 {
-        return Err(why_size(
-            ssrc,
-            &types[0..],
-            &prefixes[0..],
-            &values[0..],
-            &bytes[0..],
-        ));
+        return Err(why_size(ssrc, &types[0..], &prefixes[0..], &values[0..], &bytes[0..]));
     }
     if buf.len() < size {
         return Err(RtcpWriteError::OutputTooSmall(size as u64));

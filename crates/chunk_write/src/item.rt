@@ -160,7 +160,12 @@ pub fn calculate_size(item_type: u8, prefix: &[u8], value: &[u8]) -> Result<usiz
 }
 
 // Writes a lone item at the start of buf.
-pub fn write_into(buf: &mut [u8], item_type: u8, prefix: &[u8], value: &[u8]) -> Result<usize, RtcpWriteError>
+pub fn write_into(
+    buf: &mut [u8],
+    item_type: u8,
+    prefix: &[u8],
+    value: &[u8],
+) -> Result<usize, RtcpWriteError>
     ensures { (written_of result, buf.new) ≡ write_item (lent item_type prefix.now value.now) buf.old }
 {
     let size = size_of(item_type, prefix, value);

@@ -1,5 +1,4 @@
 -- A datagram: the steps of a packet's frame, the packet behind it, and the loop over the packets.
-use Rattle.std.specs.Prelude.{Result, Ok, Err}
 use Rattle.rfc3550.proofs.Prelude.{rules, ◌≡◌, refl, sym, ap, ◌∙◌, subst, Bool, true, false, ◌||◌, not, List, [], ◌∷◌, ℕ, zero, suc, ◌+◌, ◌-◌, ◌<◌, ◌≤◌, ◌^◌, zero-add, add-zero, arith, lt-leb, le-leb, lt-ltb, le-ltb, eq-eqb, ne_eqb, eqb-true, leb-true, ltb-true, not-true, not-false, length, take, drop, get_or, length-drop, drop_of_length-le, length-take-le, take_all, drop-drop, get_or-take, drop-cons, eqb, ltb}
 use Rattle.rfc3550.specs.Answer.{Refusal, refusal, Answer, ok, refused, refuse, need, ◌>>◌, ◌>>=◌, map_ok, pick}
 use Rattle.rfc3550.specs.Packet.{Packet as Read, has_cname, some}
@@ -8,8 +7,7 @@ use Rattle.rfc3550.specs.Compound.{read_packet, read_packets, read_compound}
 use Rattle.rfc3550.specs.Walk.{open_walk, step}
 use Rattle.rfc3550.proofs.Answers.{need_inv, ok_injective, map_ok_inv, or_assoc}
 use Rattle.rfc3550.proofs.Compounds.{packet_span, packets_turns}
-use Rattle.utils.specs.Error.{parse_refusal, refusal_in, value_or, or_zero, parsed_of}
-use Rattle.utils.specs.declared.error.RtcpParseError.{RtcpParseError}
+use Rattle.utils.specs.Error.{refusal_in, value_or, or_zero}
 use Rattle.utils.proofs.Reading.{map_ok_refused}
 use Rattle.utils.proofs.Errors.{parse_handed}
 use Rattle.utils.proofs.Values.{value_came, none_came, number_came}

@@ -2,7 +2,7 @@
 use Rattle.std.specs.Prelude.{Result}
 use Rattle.std.specs.Result.{IsErrAnd}
 use Rattle.rfc3550.proofs.Prelude.{rules, ◌≡◌, refl, sym, ap, ◌∙◌, subst, List, [], ◌∷◌, ◌++◌, ℕ, suc, ◌+◌, ◌-◌, ◌*◌, ◌<◌, ◌≤◌, ◌^◌, arith, length, take, drop, set, get_or, length-append, length-drop, drop-drop, drop-append_seam}
-use Rattle.rfc3550.specs.Answer.{Refusal, refusal, ok, refused, map_ok}
+use Rattle.rfc3550.specs.Answer.{refusal, ok, refused, map_ok}
 use Rattle.rfc3550.specs.Bytes.{store}
 use Rattle.rfc3550.specs.Packet.{Packet as Read, type, layout, layouts, Valid, All}
 use Rattle.rfc3550.specs.Read.{type_in, stated}

@@ -1,9 +1,8 @@
 -- What the code hands over of a datagram and of a walk over it, and the steps of a packet's frame.
 use Rattle.std.specs.Prelude.{ℕ, ◌+◌, Bool, ◌||◌, not, List, [], ◌∷◌, length, take, drop, leb, ltb, eqb}
-use Rattle.rfc3550.specs.Answer.{Answer, ok, refused, ◌>>◌, need}
+use Rattle.rfc3550.specs.Answer.{Answer, ok, ◌>>◌, need}
 use Rattle.rfc3550.specs.Packet.{Packet as Read, type, layout, is_report}
 use Rattle.rfc3550.specs.Read.{version_in, padded, type_in, stated}
-use Rattle.utils.specs.Error.{parse_refusal}
 use Rattle.compound.specs.Packet.{packet_view}
 use Rattle.compound.specs.declared.packet.Packet.{Packet}
 use Rattle.compound.specs.declared.compound.Compound.{Compound}
@@ -67,4 +66,3 @@ walk_at at = record { at = at }
 
 abbrev pub step_view : Read × ℕ → Packet × Walk
 step_view x = (packet_view x.0, walk_at x.1)
-

@@ -1,9 +1,7 @@
 -- What the code hands over of a packet of any kind: its kind's fields, as functions of the packet.
 use Rattle.std.specs.Prelude.{ℕ, Bool, true, false}
-use Rattle.rfc3550.specs.Answer.{Answer, ok, refused}
 use Rattle.rfc3550.specs.Packet.{Packet as Read, has_cname}
 use Rattle.rfc3550.specs.Read.{Kind, SR, RR, SDES, BYE, APP, UNKNOWN, kind_for}
-use Rattle.utils.specs.Error.{parse_refusal}
 use Rattle.report.specs.Report.{sender_view, receiver_view}
 use Rattle.report.specs.declared.sender.SenderReport.{SenderReport}
 use Rattle.report.specs.declared.receiver.ReceiverReport.{ReceiverReport}

@@ -1,8 +1,6 @@
 -- An unknown packet's fields and its body, as functions of the packet.
 use Rattle.std.specs.Prelude.{ℕ, ◌+◌, List, [], length}
-use Rattle.rfc3550.specs.Answer.{Answer, ok, refused}
 use Rattle.rfc3550.specs.Packet.{Content, report, sdes, bye, app, unknown, Packet, type, low_bits}
-use Rattle.utils.specs.Error.{parse_refusal}
 use Rattle.compound.specs.declared.unknown.Unknown.{Unknown}
 
 -- the bytes after the header

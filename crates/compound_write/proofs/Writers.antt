@@ -1,5 +1,4 @@
 -- What every add shares, over the packet given, and closing.
-use Rattle.std.specs.Prelude.{Result, Ok, Err}
 use Rattle.rfc3550.proofs.Prelude.{rules, ℕ, ◌+◌, ◌-◌, ◌^◌, ◌<◌, ◌≤◌, ◌≡◌, refl, sym, ap, ◌∙◌, Bool, true, false, ◌&&◌, ◌||◌, not, List, [], ◌++◌, arith, le-leb, lt-leb, leb-true, leb-false, lt-ltb, le-ltb, ltb-true, eq-eqb, ne_eqb, not-true, not-false, length, take, drop, length-take, length-drop, leb, ltb, eqb}
 use Rattle.rfc3550.specs.Answer.{Refusal, refusal, Answer, ok, refused, need, ◌>>◌, capped, pick}
 use Rattle.rfc3550.specs.Bytes.{store}
@@ -7,9 +6,9 @@ use Rattle.rfc3550.specs.Loss.{Loss}
 use Rattle.rfc3550.specs.Packet.{Reporter, type, layout, is_report}
 use Rattle.rfc3550.specs.Write.{BlockLists, Given, give_report, give_sdes, give_bye, give_app, packet_given, content_given, padding_given, size_given, lists_agree, tests, own_tests, calculate_size}
 use Rattle.rfc3550.specs.Writer.{Writer, add, close, gives_cname, add_tests, close_tests, after_close, call}
-use Rattle.rfc3550.proofs.Answers.{true≢false, and_inv, need_inv, refused_injective, refused≢ok}
-use Rattle.utils.specs.Error.{write_refusal, or_zero}
-use Rattle.utils.specs.Writer.{size_refusal, written_of}
+use Rattle.rfc3550.proofs.Answers.{true≢false, and_inv, need_inv}
+use Rattle.utils.specs.Error.{or_zero}
+use Rattle.utils.specs.Writer.{size_refusal}
 use Rattle.utils.proofs.WriterStores.{store_part}
 use Rattle.bye.proofs.Writes.{bye_fits}
 use Rattle.app.proofs.Writes.{app_fits}
@@ -21,8 +20,6 @@ use Rattle.utils.proofs.Parts.{lent_again}
 use Rattle.utils.proofs.WriterPackets.{sized}
 use Rattle.utils.proofs.Sizes.{size_came}
 use Rattle.rfc3550.proofs.Packets.{length_layout}
-use Rattle.utils.proofs.Injective.{write_refusal_injective}
-use Rattle.utils.specs.declared.error.RtcpWriteError.{RtcpWriteError}
 use Rattle.compound_write.specs.Writer.{writer_of, admits, why_not, advanced}
 use Rattle.compound_write.specs.declared.writer.Writer as code
 use Rattle.compound_write.specs.Names.{lent_cname}

@@ -1,6 +1,6 @@
 -- The writer and its answers as the code has them, and what every add shares.
 use Rattle.std.specs.Prelude.{ℕ, ◌+◌, Bool, ◌&&◌, ◌||◌, not, leb, ltb, eqb}
-use Rattle.rfc3550.specs.Answer.{Refusal, refusal, Answer, ok, refused, capped, pick}
+use Rattle.rfc3550.specs.Answer.{Refusal, refusal, Answer, capped, pick}
 use Rattle.rfc3550.specs.Packet.{is_report}
 use Rattle.rfc3550.specs.Writer as rfc
 use Rattle.utils.specs.Writer.{written_of}

@@ -111,7 +111,12 @@ fn packet_type(reporter: Reporter) -> u8
 }
 
 // The size of a report of so many blocks, of which one loss decides, or why it is refused.
-fn check_report(reporter: Reporter, count: usize, loss: i32, padding: u64) -> Result<usize, RtcpWriteError>
+fn check_report(
+    reporter: Reporter,
+    count: usize,
+    loss: i32,
+    padding: u64,
+) -> Result<usize, RtcpWriteError>
     ensures { written_of result ≡ counted_size (least_of reporter) count loss padding }
 {
     let size = report_block::size_of_count(count, loss, padding, least(reporter));
@@ -122,7 +127,11 @@ fn check_report(reporter: Reporter, count: usize, loss: i32, padding: u64) -> Re
 }
 
 // The size of a report, or why it is refused.
-pub fn calculate_size(reporter: Reporter, blocks: &[ReportBlock], padding: u64) -> Result<usize, RtcpWriteError>
+pub fn calculate_size(
+    reporter: Reporter,
+    blocks: &[ReportBlock],
+    padding: u64,
+) -> Result<usize, RtcpWriteError>
     ensures { written_of result ≡ calculate_size (give_report (reporter_of reporter) (lists_of (records_of blocks.now)) padding) }
 {
     let loss = tested_loss(blocks);
@@ -161,7 +170,13 @@ fn write_frame_unchecked(
 }
 
 // Answers for a report, and lays all of it but the blocks.
-fn write_frame(buf: &mut [u8], reporter: Reporter, count: usize, loss: i32, padding: u64) -> Result<usize, RtcpWriteError>
+fn write_frame(
+    buf: &mut [u8],
+    reporter: Reporter,
+    count: usize,
+    loss: i32,
+    padding: u64,
+) -> Result<usize, RtcpWriteError>
     ensures { (written_of result ≡ room (counted_size (least_of reporter) count loss padding) (length buf.old)) × (buf.new ≡ framed reporter count padding (written_of result) buf.old) }
 {
     let checked = check_report(reporter, count, loss, padding);

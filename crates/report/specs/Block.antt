@@ -4,7 +4,6 @@ use Rattle.std.proofs.lemmas.List.Edits.{sets}
 use Rattle.rfc3550.specs.Answer.{Answer, ok, refused, refuse}
 use Rattle.rfc3550.specs.Loss.{Loss}
 use Rattle.rfc3550.specs.Packet.{Block}
-use Rattle.utils.specs.Error.{parse_refusal}
 use Rattle.report.specs.declared.report_block.ReportBlock.{ReportBlock}
 
 abbrev pub block_view : Block → ReportBlock

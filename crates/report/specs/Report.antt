@@ -1,9 +1,7 @@
 -- A report's fields, its blocks and its extension, as functions of the packet.
 use Rattle.std.specs.Prelude.{ℕ, ◌+◌, ◌*◌, List, [], length, get_or}
-use Rattle.rfc3550.specs.Answer.{Answer, ok, refused}
 use Rattle.rfc3550.specs.Packet.{Block, Content, report, sdes, bye, app, unknown, Packet, reporter_fields}
 use Rattle.rfc3550.specs.Read.{least, kind_for, blocks_of}
-use Rattle.utils.specs.Error.{parse_refusal}
 use Rattle.report.specs.declared.receiver.ReceiverReport.{ReceiverReport}
 use Rattle.report.specs.declared.sender.SenderReport.{SenderReport}
 

@@ -26,17 +26,17 @@ pub fn size_of(fractions: &[u8], losses: &[i32], words: &[u32], padding: u64) ->
 }
 
 // The size of a receiver report, whatever its SSRC, or why it is refused.
-pub fn calculate_size(fractions: &[u8], losses: &[i32], words: &[u32], padding: u64) -> Result<usize, RtcpWriteError>
+pub fn calculate_size(
+    fractions: &[u8],
+    losses: &[i32],
+    words: &[u32],
+    padding: u64,
+) -> Result<usize, RtcpWriteError>
     ensures { written_of result ≡ calculate_size (give_report (receiver 0) (block_lists fractions.now losses.now words.now) padding) }
 {
     let size = size_of(fractions, losses, words, padding);
     if size == 0 {
-        return Err(report_block::why_size(
-            &fractions[0..],
-            &losses[0..],
-            &words[0..],
-            padding,
-        ));
+        return Err(report_block::why_size(&fractions[0..], &losses[0..], &words[0..], padding));
     }
     Ok(size)
 }
@@ -88,12 +88,7 @@ pub fn write_into(
 {
     let size = size_of(fractions, losses, words, padding);
     if size == 0 {
-        return Err(report_block::why_size(
-            &fractions[0..],
-            &losses[0..],
-            &words[0..],
-            padding,
-        ));
+        return Err(report_block::why_size(&fractions[0..], &losses[0..], &words[0..], padding));
     }
     if buf.len() < size {
         return Err(RtcpWriteError::OutputTooSmall(size as u64));

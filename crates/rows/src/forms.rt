@@ -1,6 +1,4 @@
 // Rows of reports whose blocks are lent as records, and of the walk over chunks that holds its bytes.
-use sdes_chunk::chunk::SdesChunk;
-use utils::error::RtcpParseError;
 use super::print::{four, three, two, written};
 use super::{held, lend, lists};
 use compound_write::writer::{Call, Writer};
@@ -8,7 +6,9 @@ use records::Reporter;
 use report::report_block::ReportBlock;
 use rtcp::write_result::RtcpWritten;
 use sdes::sdes::ChunkWalk;
+use sdes_chunk::chunk::SdesChunk;
 use std::io;
+use utils::error::RtcpParseError;
 
 fn word(list: &[u32], i: usize) -> u32 {
     if i < list.len() { list[i] } else { 0 }
@@ -111,7 +111,12 @@ fn opened(to: &mut Vec<u8>, answer: Result<ChunkWalk, RtcpParseError>) -> io::Re
 }
 
 // On a refusal the walk is as it was.
-fn stepped(to: &mut Vec<u8>, answer: Result<(SdesChunk, ChunkWalk), RtcpParseError>, at: u64, end: u64) -> io::Result<()> {
+fn stepped(
+    to: &mut Vec<u8>,
+    answer: Result<(SdesChunk, ChunkWalk), RtcpParseError>,
+    at: u64,
+    end: u64,
+) -> io::Result<()> {
     match answer {
         Ok((chunk, next)) => {
             four(to, 0, 0, 0, chunk.ssrc as u64)?;

@@ -1,8 +1,8 @@
 // The walk that holds its bytes, opened on them, and stepped from any place.
-use sdes_chunk::chunk::SdesChunk;
-use utils::error::RtcpParseError;
 use sdes::sdes::ChunkWalk;
+use sdes_chunk::chunk::SdesChunk;
 use sdes_walk::SdesWalk;
+use utils::error::RtcpParseError;
 
 // The two answers, and where the walk that each hands back stands.
 #[derive(Clone, Copy)]

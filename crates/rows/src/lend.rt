@@ -1,10 +1,10 @@
 // Blocks by value, the first n of them lent as one run of records to the three functions that take such a run.
 ghost use Rattle.std.specs.Prelude.{◌≤◌};
 
-use utils::error::RtcpWriteError;
 use compound_write::writer::{Call, Writer};
 use records::Reporter;
 use report::report_block::ReportBlock;
+use utils::error::RtcpWriteError;
 
 #[derive(Clone, Copy)]
 pub struct Lent {

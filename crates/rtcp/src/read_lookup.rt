@@ -5,7 +5,6 @@ ghost use Rattle.rfc3550.specs.Lookup.{Visited, lookup_with};
 ghost use Rattle.utils.specs.Error.{parsed_of};
 ghost use Rattle.rtcp.specs.Lookup.{lookup_result, lookup_with_answers};
 
-
 #[repr(C)]
 #[derive(Clone, Copy)]
 pub struct RtcpLookup {

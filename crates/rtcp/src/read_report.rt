@@ -8,12 +8,11 @@ ghost use Rattle.report.specs.Block.{block_view, lay_blocks};
 ghost use Rattle.report.specs.Report.{receiver_view, sender_view, report_blocks};
 ghost use Rattle.rtcp.specs.Report.{block_result, rr_result, sr_result, blocks_out, read_out, read_both};
 
-use utils::error::RtcpParseError;
 use super::write_result::RtcpWritten;
 use report::receiver::ReceiverReport;
 use report::report_block::{ReportBlock, list_blocks_unchecked};
 use report::sender::SenderReport;
-use utils::error::Code;
+use utils::error::{Code, RtcpParseError};
 use utils::list::ListError;
 
 #[repr(C)]

@@ -6,8 +6,8 @@ ghost use Rattle.rtcp.specs.Receive.{reception_in, reception_result, update_resu
 
 use super::read_report::RtcpBlock;
 use super::result::bit;
-use report::report_block::ReportBlock;
 use reception::reception::Reception;
+use report::report_block::ReportBlock;
 
 #[repr(C)]
 #[derive(Clone, Copy)]
@@ -94,7 +94,10 @@ fn no_block() -> RtcpBlock
 }
 
 impl RtcpReceptionBlock {
-    fn from_reported(before: RtcpReception, reported: Option<(ReportBlock, Reception)>) -> RtcpReceptionBlock
+    fn from_reported(
+        before: RtcpReception,
+        reported: Option<(ReportBlock, Reception)>,
+    ) -> RtcpReceptionBlock
         ensures { result ≡ report_result (report_of (reception_in before) reported) }
     {
         match reported {

@@ -11,7 +11,10 @@ ghost use Rattle.sdes.specs.Walk.{chunk_walk, chunk_stepped};
 ghost use Rattle.rtcp.specs.Sdes.{sdes_result, item_result, prefix_result, chunk_result, chunk_walk_result, chunk_step_result, item_walk_result, item_step_result};
 
 use rtcp::read_sdes;
-use rtcp::read_sdes::{RtcpChunk, RtcpChunkStep, RtcpChunkWalk, RtcpItem, RtcpItemStep, RtcpItemWalk, RtcpPart, RtcpSdes};
+use rtcp::read_sdes::{
+    RtcpChunk, RtcpChunkStep, RtcpChunkWalk, RtcpItem, RtcpItemStep, RtcpItemWalk, RtcpPart,
+    RtcpSdes,
+};
 
 #[unsafe(no_mangle)]
 pub extern "C" fn rtcp_sdes_parse(s: &[u8]) -> RtcpSdes

@@ -4,10 +4,12 @@ use Rattle.rfc3550.specs.Answer.{Refusal, ok, refused, refuse, need, ◌>>◌, �
 use Rattle.rfc3550.specs.Packet.{Chunk, chunk_bytes, Packet, content_bytes}
 use Rattle.rfc3550.specs.Read.{SDES, read_chunk, read_as}
 use Rattle.rfc3550.specs.Walk.{open_sdes, sdes_step}
+use Rattle.rfc3550.proofs.Answers.{map_ok_inv}
+use Rattle.utils.proofs.Errors.{parse_handed}
 use Rattle.utils.specs.Error.{refusal_in, value_or}
 use Rattle.utils.proofs.Values.{value_came, none_came}
 use Rattle.utils.proofs.Parts.{drop_take}
-use Rattle.utils.proofs.Reading.{got}
+use Rattle.utils.proofs.Reading.{map_ok_refused, got}
 use Rattle.sdes_chunk.specs.declared.chunk.SdesChunk.{SdesChunk}
 use Rattle.sdes_chunk.specs.Chunk.{chunk_first, no_chunk}
 use Rattle.sdes_chunk.proofs.Answers.{rest_is}
@@ -15,21 +17,19 @@ use Rattle.sdes_chunk.proofs.Chunks.{chunk_long}
 use Rattle.sdes_chunk.proofs.Readings.{chunk_in}
 use Rattle.sdes.specs.declared.sdes.Sdes.{Sdes}
 use Rattle.sdes.specs.declared.sdes.ChunkWalk.{ChunkWalk}
-use Rattle.sdes.specs.Sdes.{sdes_view, no_sdes}
+use Rattle.sdes.specs.Sdes.{sdes_view}
 use Rattle.sdes.specs.Walk.{chunk_walk, sdes_walk, chunk_stepped}
 use Rattle.sdes.proofs.Packets.{sdes_body}
 
-module _ (s : List ℕ) (o : Sdes) (h : o ≡ value_or no_sdes sdes_view (read_as SDES s)) where
-  pub chunks_not_opened : (k : Refusal) → o.body ≡ 0 → k ≡ refusal_in (read_as SDES (take (length s - 0) (drop 0 s))) → refused k ≡ map_ok chunk_walk (open_sdes s)
+module _ (s : List ℕ) where
+  pub chunks_not_opened : (k : Refusal) → refused k ≡ map_ok sdes_view (read_as SDES s) → refused k ≡ map_ok chunk_walk (open_sdes s)
   unfolding open_sdes ◌>>=◌ map_ok
-  chunks_not_opened k z q =
-      let w = none_came no_sdes sdes_view (λ o. o.body) refl (λ p. omega arith) (read_as SDES s) o h z in
-      rw w (ap refused (q ∙ ap (λ (s : List ℕ). refusal_in (read_as SDES s)) (rest_is s 0)))
+  chunks_not_opened k e = rw (map_ok_refused sdes_view (read_as SDES s) (sym e))
 
-  pub chunks_opened : (o.body ≡ 0 → ⊥) → ok (record { at = 4; end = o.body }) ≡ map_ok chunk_walk (open_sdes s)
+  pub chunks_opened : (o : Sdes) → ok o ≡ map_ok sdes_view (read_as SDES s) → ok (record { at = 4; end = o.body }) ≡ map_ok chunk_walk (open_sdes s)
   unfolding open_sdes ◌>>=◌ map_ok
-  chunks_opened z =
-      let w = value_came no_sdes sdes_view (λ o. o.body) refl (read_as SDES s) o h z in
+  chunks_opened o e =
+      let w = map_ok_inv sdes_view (read_as SDES s) (sym e) in
       go w.0 w.1 w.2
     where
       go : (x : Packet) → read_as SDES s ≡ ok x → sdes_view x ≡ o → ok (record { at = 4; end = o.body }) ≡ map_ok chunk_walk (open_sdes s)
@@ -96,4 +96,4 @@ module _ (s : List ℕ) (n : ℕ) (r : n ≡ length (take 262144 s)) where
                 → ok (c, record { at = w.at + c.length; end = w.end }) ≡ map_ok chunk_stepped (sdes_step s (sdes_walk w))
             go x q a = rw (← r, lt-ltb w.at n l, lt-ltb w.at w.end m, q, ← a)
 
-pub ruleset walks = (rules, chunks_not_opened, chunks_opened, limit_all, limit_most, chunk_past_limit, chunk_past_end, chunk_not_stepped, chunk_fits, chunk_stepped_lem)
+pub ruleset walks = (rules, parse_handed, chunks_not_opened, chunks_opened, limit_all, limit_most, chunk_past_limit, chunk_past_end, chunk_not_stepped, chunk_fits, chunk_stepped_lem)

@@ -8,9 +8,7 @@
 --
 -- What the code hands over of it: numbers that its layout fixes.
 use Rattle.std.specs.Prelude.{◌+◌, false, length}
-use Rattle.rfc3550.specs.Answer.{Answer, ok, refused}
 use Rattle.rfc3550.specs.Packet.{Packet, content_bytes, chunks_of, has_cname}
-use Rattle.utils.specs.Error.{parse_refusal}
 use Rattle.sdes.specs.declared.sdes.Sdes.{Sdes}
 
 abbrev pub sdes_view : Packet → Sdes

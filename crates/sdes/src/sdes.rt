@@ -130,10 +130,7 @@ impl ChunkWalk {
     pub fn open(s: &[u8]) -> Result<ChunkWalk, RtcpParseError>
         ensures { parsed_of result ≡ map_ok chunk_walk (open_sdes s.now) }
     {
-        let sdes = Sdes::read(s);
-        if sdes.body == 0 {
-            return Err(Sdes::why(&s[0..]));
-        }
+        let sdes = Sdes::parse(s)?;
         Ok(ChunkWalk {
             at: Sdes::MIN_PACKET_LEN,
             end: sdes.body,

@@ -4,28 +4,26 @@ use Rattle.rfc3550.specs.Answer.{Refusal, Answer, ok, refused, need, ◌>>◌, �
 use Rattle.rfc3550.specs.Packet.{Item}
 use Rattle.rfc3550.specs.Read.{read_item, read_chunk}
 use Rattle.rfc3550.specs.Walk.{open_items, item_step}
-use Rattle.rfc3550.proofs.Answers.{need_inv, bind_elim, ok_injective}
+use Rattle.rfc3550.proofs.Answers.{map_ok_inv, need_inv, bind_elim, ok_injective}
 use Rattle.utils.specs.Error.{refusal_in, value_or}
-use Rattle.utils.proofs.Values.{value_came, none_came}
+use Rattle.utils.proofs.Errors.{parse_handed}
+use Rattle.utils.proofs.Reading.{map_ok_refused}
 use Rattle.sdes_chunk.specs.declared.item.SdesItem.{SdesItem}
 use Rattle.sdes_chunk.specs.declared.chunk.SdesChunk.{SdesChunk}
 use Rattle.sdes_chunk.specs.Item.{item_first, item_size, item_end, step_end}
-use Rattle.sdes_chunk.specs.Chunk.{chunk_first, no_chunk}
+use Rattle.sdes_chunk.specs.Chunk.{chunk_first}
 use Rattle.sdes_chunk.specs.Walk.{item_walk, item_stepped}
 use Rattle.sdes_chunk.proofs.Answers.{rest_is}
 use Rattle.sdes_chunk.proofs.Items.{Steps, steps}
-use Rattle.sdes_chunk.proofs.Chunks.{chunk_long}
 
-module _ (s : List ℕ) (c : SdesChunk) (h : c ≡ value_or no_chunk chunk_first (read_chunk s)) where
-  pub items_not_opened : (k : Refusal) → c.length ≡ 0 → k ≡ refusal_in (read_chunk (take (length s - 0) (drop 0 s))) → refused k ≡ map_ok item_walk (open_items s)
+module _ (s : List ℕ) where
+  pub items_not_opened : (k : Refusal) → refused k ≡ map_ok chunk_first (read_chunk s) → refused k ≡ map_ok item_walk (open_items s)
   unfolding open_items ◌>>=◌ map_ok
-  items_not_opened k z q =
-      let w = none_came no_chunk chunk_first (λ c. c.length) refl chunk_long (read_chunk s) c h z in
-      rw w (ap refused (q ∙ ap (λ (s : List ℕ). refusal_in (read_chunk s)) (rest_is s 0)))
+  items_not_opened k e = rw (map_ok_refused chunk_first (read_chunk s) (sym e))
 
-  pub items_opened : (c.length ≡ 0 → ⊥) → ok (record { at = 4 }) ≡ map_ok item_walk (open_items s)
+  pub items_opened : (c : SdesChunk) → ok c ≡ map_ok chunk_first (read_chunk s) → ok (record { at = 4 }) ≡ map_ok item_walk (open_items s)
   unfolding open_items ◌>>=◌ map_ok
-  items_opened z = let w = value_came no_chunk chunk_first (λ c. c.length) refl (read_chunk s) c h z in rw w.1
+  items_opened c e = rw (map_ok_inv chunk_first (read_chunk s) (sym e)).1
 
 -- a step that gives an item goes on
 step_kept : (s : List ℕ) (at : ℕ) {y : Item × ℕ} → item_step s at ≡ ok y → at < y.1
@@ -67,4 +65,4 @@ module _ (s : List ℕ) (at n : ℕ) (h : n ≡ step_end s at) where
             let v : i ≡ item_first x = ok_injective (q ∙ ap (λ (s : List ℕ). map_ok item_first (read_item s)) (rest_is s at) ∙ rw r) in
             rw (lt-ltb at (length s) l, ne_eqb (get_or s at 0) 0 z, r, v, ← m)
 
-pub ruleset walks = (rules, items_not_opened, items_opened, item_not_stepped, step_inside, step_some, item_stepped_lem)
+pub ruleset walks = (rules, parse_handed, items_not_opened, items_opened, item_not_stepped, step_inside, step_some, item_stepped_lem)

@@ -12,7 +12,7 @@ use Rattle.std.specs.Prelude.{ℕ, zero, suc, ◌+◌, ◌<◌, ◌≤◌, ◌�
 use Rattle.rfc3550.specs.Answer.{Answer, ok, refused, refuse, map_ok, pick}
 use Rattle.rfc3550.specs.Packet.{Item, item_type, item_rest, item_bytes, is_cname, Chunk, chunk_bytes, fill}
 use Rattle.rfc3550.specs.Read.{read_item, read_fill, read_chunk}
-use Rattle.utils.specs.Error.{parse_refusal, refusal_in, value_or}
+use Rattle.utils.specs.Error.{refusal_in, value_or}
 use Rattle.sdes_chunk.specs.declared.chunk.SdesChunk.{SdesChunk}
 use Rattle.sdes_chunk.specs.declared.chunk.ChunkEnd.{ChunkEnd}
 use Rattle.sdes_chunk.specs.declared.chunk.Chunks.{Chunks}

@@ -14,7 +14,7 @@ use Rattle.rfc3550.specs.Answer.{refusal, Answer, ok, refused, pick}
 use Rattle.rfc3550.specs.Packet.{Item, item, priv, item_type, item_rest, item_bytes}
 use Rattle.rfc3550.specs.Read.{read_item}
 use Rattle.rfc3550.specs.Walk.{item_step}
-use Rattle.utils.specs.Error.{parse_refusal, value_or}
+use Rattle.utils.specs.Error.{value_or}
 use Rattle.sdes_chunk.specs.declared.item.SdesItem.{SdesItem}
 
 -- ---- views

@@ -274,10 +274,7 @@ impl ItemWalk {
     pub fn open(s: &[u8]) -> Result<ItemWalk, RtcpParseError>
         ensures { parsed_of result ≡ map_ok item_walk (open_items s.now) }
     {
-        let chunk = SdesChunk::read(s);
-        if chunk.length == 0 {
-            return Err(SdesChunk::why(&s[0..]));
-        }
+        let _ = SdesChunk::parse(s)?;
         Ok(ItemWalk {
             at: SdesChunk::MIN_LEN,
         })

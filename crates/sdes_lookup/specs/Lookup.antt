@@ -1,11 +1,10 @@
 -- What the code of the lookup answers, and the answers while its pass goes on.
 use Rattle.std.specs.Prelude.{ℕ, zero, suc, ◌+◌, ◌≤◌, ◌≡◌, ◌&&◌, List, [], ◌∷◌, map, length, drop, eqb}
-use Rattle.rfc3550.specs.Answer.{Answer, ok, refused, pick}
+use Rattle.rfc3550.specs.Answer.{ok, pick}
 use Rattle.rfc3550.specs.Bytes.{store}
 use Rattle.rfc3550.specs.Packet.{Chunk}
 use Rattle.rfc3550.specs.Read.{read_chunks}
 use Rattle.rfc3550.specs.Lookup.{found_in, coded}
-use Rattle.utils.specs.Error.{parse_refusal}
 
 -- chunk k is the answer for this SSRC, where there is none yet
 unfoldable pub marked : ℕ → ℕ → List ℕ → List ℕ → List ℕ

@@ -8,9 +8,9 @@ ghost use Rattle.utils.specs.Error.{parsed_of};
 ghost use Rattle.sdes.specs.Walk.{chunk_walk};
 ghost use Rattle.sdes_walk.specs.Walk.{start_of, step_at, opened_on, moved_on};
 
+use sdes::sdes::ChunkWalk;
 use sdes_chunk::chunk::SdesChunk;
 use utils::error::RtcpParseError;
-use sdes::sdes::ChunkWalk;
 
 #[derive(Clone, Copy)]
 pub struct SdesWalk<'a> {

@@ -1,14 +1,20 @@
-use Rattle.bye.proofs.Byes.{byes}
+use Rattle.bye.proofs.Byes.{byes, source_scaled, source_fits, source_within}
 use Rattle.bye.proofs.Bye.source.Goals as goal
 
-pub returns-then-bye-eq0 : goal.returns-then-bye-eq0
-returns-then-bye-eq0 c = search byes
+pub returns-in_err-bye : goal.returns-in_err-bye
+returns-in_err-bye c = search byes
 
 pub returns-then-bye-i : goal.returns-then-bye-i
 returns-then-bye-i c = search byes
 
+pub overflow_mul-i : goal.overflow_mul-i
+overflow_mul-i c = search (byes, source_scaled c.args.s.now c.args.i c.in_ok-bye.bye c.in_ok-bye.ensures)
+
+pub overflow_add-i : goal.overflow_add-i
+overflow_add-i c = search (byes, source_fits c.args.s.now c.args.i c.in_ok-bye.bye c.in_ok-bye.ensures)
+
 pub u32_from_be_bytes-requires : goal.u32_from_be_bytes-requires
-u32_from_be_bytes-requires c = search byes
+u32_from_be_bytes-requires c = source_within _ _ _ c.in_ok-bye.ensures c.if-bye-i.false
 
 pub returns : goal.returns
 returns c = search byes

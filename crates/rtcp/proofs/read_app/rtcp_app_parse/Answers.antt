@@ -1,11 +1,7 @@
-use Rattle.std.specs.Prelude.{Ok, Err}
-use mathlib.Core.Path.{refl}
 use Rattle.rtcp.specs.App.{app_result}
 use Rattle.rtcp.proofs.Results.{handed, turned}
 use Rattle.rtcp.proofs.Apps.{apps}
 use Rattle.rtcp.proofs.read_app.rtcp_app_parse.Goals as goal
-use Rattle.utils.specs.Error.{parsed_of}
-use Rattle.app.specs.declared.App.{App}
 
 pub overflow_sub-result : goal.overflow_sub-result
 overflow_sub-result c = search apps

@@ -1,11 +1,7 @@
-use Rattle.std.specs.Prelude.{Ok, Err}
-use mathlib.Core.Path.{refl}
 use Rattle.rtcp.specs.Bye.{bye_result}
 use Rattle.rtcp.proofs.Results.{handed, turned}
 use Rattle.rtcp.proofs.Byes.{byes}
 use Rattle.rtcp.proofs.read_bye.rtcp_bye_parse.Goals as goal
-use Rattle.utils.specs.Error.{parsed_of}
-use Rattle.bye.specs.declared.Bye.{Bye}
 
 pub overflow_add-result : goal.overflow_add-result
 overflow_add-result c = search byes

@@ -1,6 +1,4 @@
-use Rattle.std.specs.Prelude.{Ok, Err}
-use Rattle.rfc3550.proofs.Prelude.{refl, rules}
-use Rattle.utils.specs.Error.{parsed_of}
+use Rattle.rfc3550.proofs.Prelude.{rules}
 use Rattle.rtcp.specs.Bye.{source_result}
 use Rattle.rtcp.proofs.Results.{handed, turned}
 use Rattle.rtcp.proofs.read_bye.rtcp_bye_source.Goals as goal

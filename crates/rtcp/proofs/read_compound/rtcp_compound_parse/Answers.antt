@@ -1,10 +1,7 @@
-use Rattle.std.specs.Prelude.{Ok, Err}
-use Rattle.rfc3550.proofs.Prelude.{refl, rules}
-use Rattle.utils.specs.Error.{parsed_of}
+use Rattle.rfc3550.proofs.Prelude.{rules}
 use Rattle.rtcp.specs.Compound.{compound_result}
 use Rattle.rtcp.proofs.Results.{handed, turned}
 use Rattle.rtcp.proofs.read_compound.rtcp_compound_parse.Goals as goal
-use Rattle.compound.specs.declared.compound.Compound.{Compound}
 
 pub returns-in-Ok : goal.returns-in-Ok
 returns-in-Ok c = search (rules, handed compound_result)

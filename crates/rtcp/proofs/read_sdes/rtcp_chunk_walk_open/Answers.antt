@@ -1,10 +1,7 @@
-use Rattle.std.specs.Prelude.{Ok, Err}
-use Rattle.rfc3550.proofs.Prelude.{refl, rules}
-use Rattle.utils.specs.Error.{parsed_of}
+use Rattle.rfc3550.proofs.Prelude.{rules}
 use Rattle.rtcp.specs.Sdes.{chunk_walk_result}
 use Rattle.rtcp.proofs.Results.{handed, turned}
 use Rattle.rtcp.proofs.read_sdes.rtcp_chunk_walk_open.Goals as goal
-use Rattle.compound.specs.declared.compound.Walk.{Walk}
 
 pub returns-in-Ok : goal.returns-in-Ok
 returns-in-Ok c = search (rules, handed chunk_walk_result)

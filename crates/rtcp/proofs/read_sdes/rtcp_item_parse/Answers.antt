@@ -1,10 +1,7 @@
-use Rattle.std.specs.Prelude.{Ok, Err}
-use mathlib.Core.Path.{refl}
 use Rattle.rtcp.specs.Sdes.{item_result}
 use Rattle.rtcp.proofs.Results.{handed, turned}
 use Rattle.rtcp.proofs.Descriptions.{descriptions}
 use Rattle.rtcp.proofs.read_sdes.rtcp_item_parse.Goals as goal
-use Rattle.utils.specs.Error.{parsed_of}
 
 pub of-parts-requires : goal.of-parts-requires
 of-parts-requires c = search descriptions

@@ -1,10 +1,8 @@
-use Rattle.std.specs.Prelude.{Err}
 use Rattle.rfc3550.proofs.Prelude.{◌<◌, ◌^◌, length, arith}
 use Rattle.rtcp.specs.Sdes.{item_step_result}
 use Rattle.rtcp.proofs.Results.{turned}
 use Rattle.rtcp.proofs.Descriptions.{descriptions, step_order, step_fits, item_stepped_lem}
 use Rattle.rtcp.proofs.read_sdes.rtcp_item_walk_step.Goals as goal
-use Rattle.utils.specs.Error.{parsed_of}
 
 pub of-parts-requires : goal.of-parts-requires
 of-parts-requires c =

@@ -1,10 +1,7 @@
-use Rattle.std.specs.Prelude.{Ok, Err}
-use Rattle.rfc3550.proofs.Prelude.{refl, rules}
-use Rattle.utils.specs.Error.{parsed_of}
+use Rattle.rfc3550.proofs.Prelude.{rules}
 use Rattle.rtcp.specs.Sdes.{sdes_result}
 use Rattle.rtcp.proofs.Results.{handed, turned}
 use Rattle.rtcp.proofs.read_sdes.rtcp_sdes_parse.Goals as goal
-use Rattle.sdes.specs.declared.sdes.Sdes.{Sdes}
 
 pub returns-in-Ok : goal.returns-in-Ok
 returns-in-Ok c = rw c.bit.ensures (search (rules, handed sdes_result))

@@ -1,6 +1,4 @@
-use Rattle.std.specs.Prelude.{Err}
 use Rattle.rfc3550.proofs.Prelude.{refl, rules}
-use Rattle.utils.specs.Error.{parsed_of}
 use Rattle.rtcp.specs.Report.{block_result}
 use Rattle.rtcp.proofs.Reports.{block_out}
 use Rattle.rtcp.proofs.Results.{turned}

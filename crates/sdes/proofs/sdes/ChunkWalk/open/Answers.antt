@@ -1,8 +1,8 @@
 use Rattle.sdes.proofs.Walks.{walks}
 use Rattle.sdes.proofs.sdes.ChunkWalk.open.Goals as goal
 
-pub returns-then-sdes-eq0 : goal.returns-then-sdes-eq0
-returns-then-sdes-eq0 c = search walks
+pub returns-in_err-sdes : goal.returns-in_err-sdes
+returns-in_err-sdes c = search (walks, c.in_err-sdes.ensures)
 
 pub returns : goal.returns
-returns c = search walks
+returns c = search (walks, c.in_ok-sdes.ensures)

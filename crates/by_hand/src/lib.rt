@@ -1,2 +1,0 @@
-// What the proofs by hand share: laws in proofs/. No code.
-#![tactic(auto)]
