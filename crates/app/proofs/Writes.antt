@@ -1,5 +1,7 @@
 -- The cases of an APP's size and bytes, each from what the code has tested or called.
-use Rattle.rfc3550.proofs.Prelude.{ℕ, ◌+◌, ◌-◌, ◌%◌, ◌<◌, ◌≤◌, ◌≡◌, refl, sym, ap, ◌∙◌, Bool, true, false, List, [], ◌++◌, add-one, arith, le-leb, lt-leb, leb-true, eq-eqb, ne_eqb, not-true, not-false, length, take, drop, get_or, replicate, length-append, length-replicate, drop_of_length-le, drop-cons, leb}
+use Rattle.rfc3550.proofs.Prelude.{ℕ, zero, suc, ◌+◌, ◌-◌, ◌%◌, ◌<◌, ◌≤◌, ◌≡◌, refl, sym, ap, ◌∙◌, Bool, true, false, ◌&&◌, List, [], ◌∷◌, ◌++◌, arith, le-leb, lt-leb, leb-true, eq-eqb, ne_eqb, not-true, not-false, length, take, drop, get_or, replicate, length-append, length-replicate, leb}
+use Rattle.std.specs.Bool.{MatchBool}
+use Rattle.std.specs.Str.{IsAscii, IsNotAscii}
 use Rattle.rfc3550.specs.Answer.{Refusal, refusal, ok, refused, need, ◌>>◌}
 use Rattle.rfc3550.specs.Bytes.{be, store}
 use Rattle.rfc3550.specs.Packet.{app, content_bytes, layout}
@@ -16,24 +18,27 @@ use Rattle.app.specs.Write.{AppFits, name_ok}
 
 -- ---- the name
 
-pub ascii_start : (name : List ℕ) → ascii (drop 0 name) ≡ ascii name
-ascii_start name = refl
+ascii_each : (name : List ℕ) → IsAscii name → true ≡ ascii name
+ascii_each [] h = refl
+ascii_each (b ∷ bs) h =
+    let f : b < 128 = h 0 in
+    rw (le-leb b 127 (omega arith)) (ascii_each bs (λ i. h (suc i)))
 
-module _ (name : List ℕ) (i : ℕ) where
-  pub ascii_above : ascii (drop i name) ≡ ascii name → i < length name → 127 < get_or name i 0 → false ≡ ascii name
-  ascii_above e h f = rw (drop-cons name i 0 h, lt-leb _ _ f) at e
-
-  pub ascii_again : ascii (drop i name) ≡ ascii name → i < length name → get_or name i 0 ≤ 127 → ascii (drop (i + 1) name) ≡ ascii name
-  ascii_again e h f = rw add-one (rw (drop-cons name i 0 h, le-leb _ _ f) at e)
-
-  pub ascii_done : ascii (drop i name) ≡ ascii name → length name ≤ i → true ≡ ascii name
-  ascii_done e h = let z : drop i name ≡ [] = drop_of_length-le name {i = i} h in rw z at e
+ascii_none : (name : List ℕ) (i : ℕ) → 128 ≤ get_or name i 0 → false ≡ ascii name
+ascii_none [] i h = absurd (omega arith)
+ascii_none (b ∷ bs) zero h = rw (lt-leb b 127 (omega arith)) refl
+ascii_none (b ∷ bs) (suc i) h = rw (← ascii_none bs i h) (go (leb b 127))
+  where
+    go : (t : Bool) → false ≡ t && false
+    go true = refl
+    go false = refl
 
 pub name_long : (name : List ℕ) → 4 < length name → false ≡ name_ok name
 name_long name h = sym (rw (lt-leb _ _ h))
 
-pub name_short : (name : List ℕ) (r : Bool) → length name ≤ 4 → r ≡ ascii name → r ≡ name_ok name
-name_short name r h e = e ∙ sym (rw (le-leb _ _ h))
+pub name_short : (name : List ℕ) (r : Bool) → length name ≤ 4 → MatchBool r (IsAscii name) (IsNotAscii name) → r ≡ name_ok name
+name_short name true h a = rw (le-leb _ _ h) (ascii_each name a)
+name_short name false h a = rw (le-leb _ _ h) (ascii_none name a.0 a.1)
 
 -- ---- the size
 
@@ -150,4 +155,4 @@ module _ (subtype ssrc : ℕ) (name d : List ℕ) (k : ℕ) where
       let p₃ = parts_laid 4 8 (be 4 ssrc) (name_given name ++ d) l₁ l₂ l₅ e₂ p₂ (omega arith) (omega arith) in
       packet_laid (app subtype ssrc (name_given name) d) k size (size - k) l l₁ l₅ l₆ (omega arith) m (omega arith) e₁ p₃ e₆
 
-pub ruleset writes = (writer, sizes, not-true, not-false, why_of, subtype_over, name_bad, data_odd, bad_padding_lem, ascii_start, ascii_above, ascii_again, ascii_done, name_long, name_short, none_subtype, none_name, none_data, none_padding, why_over, app_over, app_size, app_fits, app_refused, app_not_written, app_laid)
+pub ruleset writes = (writer, sizes, not-true, not-false, why_of, subtype_over, name_bad, data_odd, bad_padding_lem, name_long, name_short, none_subtype, none_name, none_data, none_padding, why_over, app_over, app_size, app_fits, app_refused, app_not_written, app_laid)

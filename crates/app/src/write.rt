@@ -2,7 +2,7 @@
 ghost use Rattle.std.specs.Prelude.{◌≡◌, length};
 ghost use Rattle.rfc3550.specs.Bytes.{store};
 ghost use Rattle.rfc3550.specs.Packet.{layout};
-ghost use Rattle.rfc3550.specs.Write.{give_app, ascii, packet_given, calculate_size, write};
+ghost use Rattle.rfc3550.specs.Write.{give_app, packet_given, calculate_size, write};
 ghost use Rattle.utils.specs.Error.{or_zero, write_refusal};
 ghost use Rattle.utils.specs.Writer.{written_of, size_refusal};
 ghost use Rattle.app.specs.Write.{AppFits, name_ok};
@@ -11,20 +11,6 @@ use crate::App;
 use utils::error::RtcpWriteError;
 use utils::writer;
 
-fn is_ascii(name: &[u8]) -> bool
-    ensures { result ≡ ascii name.now }
-{
-    let n = name.len();
-    let mut i: usize = 0;
-    while i < n {
-        if 127 < name[i] {
-            return false;
-        }
-        i += 1;
-    }
-    true
-}
-
 // A name has at most 4 bytes, each ASCII.
 fn check_name(name: &[u8]) -> bool
     ensures { result ≡ name_ok name.now }
@@ -32,7 +18,7 @@ fn check_name(name: &[u8]) -> bool
     if App::NAME_LEN < name.len() {
         return false;
     }
-    is_ascii(name)
+    name.is_ascii()
 }
 
 // The size of an APP; 0 where it is refused.

@@ -17,11 +17,8 @@ fn write_sources(buf: &mut [u8], at: usize, sources: &[u32])
     requires { at + length sources.now * 4 ≤ length buf.old }
     ensures { buf.new ≡ store at (sources_bytes sources.now) buf.old }
 {
-    let n = sources.len();
-    let mut i: usize = 0;
-    while i < n {
-        writer::write_u32_unchecked(buf, at + i * 4, sources[i]);
-        i += 1;
+    for (i, source) in sources.iter().enumerate() {
+        writer::write_u32_unchecked(buf, at + i * 4, *source);
     }
 }
 
