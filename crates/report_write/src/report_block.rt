@@ -27,27 +27,16 @@ pub fn later_loss(loss: i32, next: i32) -> i32
 fn tested_loss(losses: &[i32]) -> i32
     ensures { result ≡ tested_loss no_loss losses.now }
 {
-    let n = losses.len();
-    let mut i: usize = 0;
-    let mut loss: i32 = 0;
-    while i < n {
-        loss = later_loss(loss, losses[i]);
-        i += 1;
-    }
-    loss
+    losses.iter().fold(0, |loss, next| later_loss(loss, *next))
 }
 
 // The bits of the magnitudes of all losses: it fits exactly if all of them do, and is found without a branch for each.
 fn merged_losses(losses: &[i32]) -> i32
     ensures { loss_in result ≡ loss_in (tested_loss no_loss losses.now) }
 {
-    let n = losses.len();
-    let mut i: usize = 0;
-    let mut bits: u32 = 0;
-    while i < n {
-        bits = bits | loss::loss_magnitude(losses[i]);
-        i += 1;
-    }
+    let bits = losses
+        .iter()
+        .fold(0, |bits, loss| bits | loss::loss_magnitude(*loss));
     bits as i32
 }
 
@@ -170,21 +159,18 @@ pub fn write_blocks_unchecked(
     requires { (blocks_agree (block_lists fractions.now losses.now words.now) ≡ true) × (at + length fractions.now * 24 ≤ length buf.old) }
     ensures { buf.new ≡ store at (blocks_bytes (blocks_lent (block_lists fractions.now losses.now words.now))) buf.old }
 {
-    let n = fractions.len();
-    let mut i: usize = 0;
-    while i < n {
-        let k = i * 5;
+    for (i, fraction) in fractions.iter().enumerate() {
+        let k = i * ReportBlock::WORDS;
         write_block_unchecked(
             buf,
-            at + i * 24,
+            at + i * ReportBlock::EXPECTED_SIZE,
             words[k],
-            fractions[i],
+            *fraction,
             losses[i],
             words[k + 1],
             words[k + 2],
             words[k + 3],
             words[k + 4],
         );
-        i += 1;
     }
 }
