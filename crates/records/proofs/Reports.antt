@@ -1,6 +1,6 @@
 -- The cases of a report of lent records, over whoever reports: its size, what stands around its blocks, and the whole written.
 use Rattle.std.specs.Prelude.{Result, Ok, Err}
-use Rattle.rfc3550.proofs.Prelude.{ℕ, ◌+◌, ◌-◌, ◌*◌, ◌<◌, ◌≤◌, ◌≡◌, refl, sym, ap, ◌∙◌, List, [], arith, add-one, leb-true, length, take, drop, get_or, length-map, drop_of_length-le, drop-cons, take-length}
+use Rattle.rfc3550.proofs.Prelude.{ℕ, ◌+◌, ◌-◌, ◌*◌, ◌<◌, ◌≤◌, ◌≡◌, refl, sym, ap, ◌∙◌, List, [], arith, add-one, leb-true, length, take, drop, get_or, length-map, drop_of_length-le, drop-cons, take-length, ◌∷◌, ◌++◌}
 use lib.Signed.{mag}
 use mir.Syntax.{w32}
 use mir.Val.{to_z, of_z}
@@ -26,18 +26,17 @@ use Rattle.report_write.proofs.Reports.{reason_same, lists_report, sized_fits, r
 use Rattle.report_write.proofs.Blocks.{length_blocks}
 use Rattle.records.specs.declared.Reporter.{Reporter}
 use Rattle.records.specs.declared.Reporter.TheVariants as reporter
-use Rattle.records.specs.Records.{no_block, block_of, records_of, reporter_of, least_of, later_of, tested_of, FrameFits, frame_laid, framed, laid_count}
+use Rattle.records.specs.Records.{block_of, records_of, reporter_of, least_of, later_of, tested_of, FrameFits, frame_laid, framed, laid_count}
 
 -- ---- the losses
 
-module _ (bs : List ReportBlock) (x d : Loss) (i : ℕ) (w : tested_of x (drop i bs) ≡ d) where
-  pub loss_next : i < length bs → tested_of (later_of x (get_or bs i no_block)) (drop (i + 1) bs) ≡ d
-  unfolding tested_loss
-  loss_next h = rw (add-one i) (rw (drop-cons bs i no_block h) at w)
+loss_push : (x : Loss) (bs : List ReportBlock) (b : ReportBlock) → tested_of x (bs ++ (b ∷ [])) ≡ later_of (tested_of x bs) b
+unfolding tested_loss
+loss_push x [] b = refl
+loss_push x (c ∷ bs) b = loss_push (later_of x c) bs b
 
-  pub loss_done : length bs ≤ i → x ≡ d
-  unfolding tested_loss
-  loss_done h = rw (drop_of_length-le bs {i = i} h) at w
+pub loss_more : (bs : List ReportBlock) (x y : Loss) (b : ReportBlock) → x ≡ tested_of no_loss bs → y ≡ later_of x b → y ≡ tested_of no_loss (bs ++ (b ∷ []))
+loss_more bs x y b e f = f ∙ rw (e, loss_push no_loss bs b)
 
 -- one block's loss after those before it, and a block as it is laid
 module _ (b : ReportBlock) (h : mag b.cumulative_lost < 2147483648) where

@@ -31,13 +31,6 @@ pub enum Reporter {
     Sender(SenderInfo),
 }
 
-fn block_unchecked(blocks: &[ReportBlock], i: usize) -> ReportBlock
-    requires { i < length blocks.now }
-    ensures { result ≡ get_or blocks.now i no_block }
-{
-    blocks[i]
-}
-
 // Of a loss and the next block's, the first if it does not fit.
 fn later_loss(loss: i32, b: ReportBlock) -> i32
     ensures { result ≡ later_of loss b }
@@ -49,15 +42,7 @@ fn later_loss(loss: i32, b: ReportBlock) -> i32
 fn tested_loss(blocks: &[ReportBlock]) -> i32
     ensures { result ≡ tested_of no_loss blocks.now }
 {
-    let n = blocks.len();
-    let mut loss: i32 = 0;
-    let mut i: usize = 0;
-    while i < n {
-        let b = block_unchecked(blocks, i);
-        loss = later_loss(loss, b);
-        i += 1;
-    }
-    loss
+    blocks.iter().fold(0, |loss, b| later_loss(loss, *b))
 }
 
 // Lays block i, where the first starts at index at.
@@ -83,11 +68,8 @@ fn write_blocks_unchecked(buf: &mut [u8], at: usize, blocks: &[ReportBlock], n: 
     requires { (n ≤ length blocks.now) × (n * 24 ≤ length buf.old - at) }
     ensures { buf.new ≡ store at (blocks_bytes (records_of (take n blocks.now))) buf.old }
 {
-    let mut i: usize = 0;
-    while i < n {
-        let b = block_unchecked(blocks, i);
-        write_block(buf, at, b, i);
-        i += 1;
+    for (i, b) in blocks[..n].iter().enumerate() {
+        write_block(buf, at, *b, i);
     }
 }
 

@@ -1,9 +1,6 @@
-use Rattle.rfc3550.proofs.Prelude.{◌≡◌, ◌-◌, ◌≤◌}
-use Rattle.records.proofs.Laid.{laid_up, bytes_at}
+use Rattle.report_write.proofs.Blocks.{Blocks}
+use Rattle.records.specs.Records.{records_of}
 use Rattle.records.proofs.write_blocks_unchecked.Given as goal
 
 abbrev pub invariant-loop-i : goal.invariant-loop-i
-invariant-loop-i l = (l.i ≤ l.n) × (l.buf ≡ laid_up (bytes_at l.blocks) 24 l.at l.i l.initial.buf)
-
-abbrev pub decreases-loop-i : goal.decreases-loop-i
-decreases-loop-i l = l.n - l.i
+invariant-loop-i l = Blocks l.at (records_of l.b-items) l.initial.buf l.i l.buf

@@ -1,9 +1,0 @@
-use Rattle.rfc3550.proofs.Prelude.{◌-◌, length}
-use Rattle.compound_write.proofs.Names.{Testing}
-use Rattle.compound_write.proofs.cname.has_cname_unchecked.Given as goal
-
-abbrev pub invariant-loop-i : goal.invariant-loop-i
-invariant-loop-i l = Testing l.types l.values l.i
-
-abbrev pub decreases-loop-i : goal.decreases-loop-i
-decreases-loop-i l = length l.types - l.i
