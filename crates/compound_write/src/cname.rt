@@ -9,13 +9,8 @@ pub fn has_cname_unchecked(types: &[u8], values: &[u64]) -> bool
     requires { length types.now ≡ length values.now }
     ensures { result ≡ lent_cname types.now values.now }
 {
-    let n = types.len();
-    let mut i: usize = 0;
-    while i < n {
-        if item::is_cname(types[i], values[i] as usize) {
-            return true;
-        }
-        i += 1;
-    }
-    false
+    types
+        .iter()
+        .zip(values)
+        .any(|(item_type, value_len)| item::is_cname(*item_type, *value_len as usize))
 }
