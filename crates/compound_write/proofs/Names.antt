@@ -1,6 +1,5 @@
 -- Some chunk of the lists lent has a CNAME exactly if some item lent is one.
-use Rattle.rfc3550.proofs.Prelude.{ℕ, zero, suc, ◌+◌, ◌≤◌, ◌≡◌, refl, sym, ap, ◌∙◌, Bool, true, false, ◌&&◌, ◌||◌, List, [], ◌∷◌, arith, eqb-true, length, take, drop, get_or, length-drop, length-take-le, eqb}
-use Rattle.std.specs.List.{list_any, zip}
+use Rattle.rfc3550.proofs.Prelude.{ℕ, zero, suc, ◌+◌, ◌<◌, ◌≤◌, ◌≡◌, refl, sym, ap, ◌∙◌, Bool, true, false, ◌&&◌, ◌||◌, List, [], ◌∷◌, add-zero, add-one, arith, rules, eqb-true, length, take, drop, get_or, length-drop, drop_of_length-le, drop-cons, drop-drop, get_or-drop, length-take-le, eqb}
 use Rattle.rfc3550.specs.Answer.{pick}
 use Rattle.rfc3550.specs.Bytes.{sum}
 use Rattle.rfc3550.specs.Packet.{Item, item, priv, item_type, item_rest, is_cname, some, chunk_has_cname}
@@ -90,10 +89,39 @@ names_lent l k e =
     ∙ sym (given_named (lent_items l.types l.prefixes l.values l.bytes))
     ∙ items_named l.types l.prefixes l.values l.bytes a.prefixes a.values (omega arith)
 
--- ---- the items that the code tests, by type and length of the value
+-- ---- the loop over the items: the rest is still to be tested
 
-pub names_zipped : (ts vs : List ℕ) → length ts ≡ length vs → list_any (λ (p : ℕ × ℕ). is_cname p.0 p.1) (zip ts vs) ≡ lent_cname ts vs
-unfolding lent_cname
-names_zipped [] vs h = refl
-names_zipped (t ∷ ts) [] h = absurd (omega arith)
-names_zipped (t ∷ ts) (v ∷ vs) h = ap (λ (b : Bool). is_cname t v || b) (names_zipped ts vs (omega arith))
+pub record Testing (ts vs : List ℕ) (i : ℕ) : Type 0 where
+  pub within : i ≤ length ts
+  pub rest : lent_cname (drop i ts) (drop i vs) ≡ lent_cname ts vs
+
+module _ (ts vs : List ℕ) where
+  pub testing_start : Testing ts vs 0
+  testing_start = record { within = omega arith; rest = refl }
+
+  testing_step : (i : ℕ) → i < length ts → lent_cname (drop i ts) (drop i vs) ≡ is_cname (get_or ts i 0) (get_or vs i 0) || lent_cname (drop (suc i) ts) (drop (suc i) vs)
+  unfolding lent_cname
+  testing_step i h =
+      let d : drop 1 (drop i vs) ≡ drop (suc i) vs = rw (drop-drop, add-one) in
+      let g : get_or (drop i vs) 0 0 ≡ get_or vs i 0 = rw (get_or-drop, add-zero) in
+      rw (drop-cons ts i 0 h, d) (ap (λ (v : ℕ). is_cname (get_or ts i 0) v || lent_cname (drop (suc i) ts) (drop (suc i) vs)) g)
+
+  pub testing_again : (i : ℕ) (t : Bool) → Testing ts vs i → i < length ts → t ≡ is_cname (get_or ts i 0) (get_or vs i 0) → t ≡ false → Testing ts vs (i + 1)
+  testing_again i t w h e q =
+      let s = testing_step i h in
+      let z : is_cname (get_or ts i 0) (get_or vs i 0) ≡ false = sym e ∙ q in
+      record { within = omega arith; rest = rw add-one (sym (rw z at s) ∙ w.rest) }
+
+  pub testing_found : (i : ℕ) (t : Bool) → Testing ts vs i → i < length ts → t ≡ is_cname (get_or ts i 0) (get_or vs i 0) → t ≡ true → true ≡ lent_cname ts vs
+  testing_found i t w h e q =
+      let s = testing_step i h in
+      let z : is_cname (get_or ts i 0) (get_or vs i 0) ≡ true = sym e ∙ q in
+      sym (rw z at s) ∙ w.rest
+
+  pub testing_done : (i : ℕ) → Testing ts vs i → length ts ≤ i → false ≡ lent_cname ts vs
+  unfolding lent_cname
+  testing_done i w h =
+      let z : drop i ts ≡ [] = drop_of_length-le ts {i = i} h in
+      rw z at w.rest
+
+pub ruleset namings = (rules, testing_start, testing_again, testing_found, testing_done)

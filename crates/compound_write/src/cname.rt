@@ -9,8 +9,10 @@ pub fn has_cname_unchecked(types: &[u8], values: &[u64]) -> bool
     requires { length types.now ≡ length values.now }
     ensures { result ≡ lent_cname types.now values.now }
 {
-    types
-        .iter()
-        .zip(values)
-        .any(|(item_type, value_len)| item::is_cname(*item_type, *value_len as usize))
+    for (i, item_type) in types.iter().enumerate() {
+        if item::is_cname(*item_type, values[i] as usize) {
+            return true;
+        }
+    }
+    false
 }

@@ -81,28 +81,31 @@ tested_same x y (z ∷ zs) h = go (loss_in x) (loss_in y) h (tested_same x y zs 
     go true b p e = rw (← p)
     go false b p e = rw (← p) e
 
--- the merged magnitudes of losses
-pub record Merged (xs : List Loss) (bits : ℕ) : Type 0 where
+-- the merged magnitudes of the first i losses
+pub record Merged (xs : List Loss) (i bits : ℕ) : Type 0 where
   pub small : bits < 2147483648
-  pub same : loss_in (pos bits) ≡ loss_in (tested_loss no_loss xs)
+  pub rest : loss_in (tested_loss (pos bits) (drop i xs)) ≡ loss_in (tested_loss no_loss xs)
 
-pub merged_none : Merged [] 0
-unfolding tested_loss
-merged_none = record { small = omega arith; same = refl }
+module _ (xs : List Loss) where
+  pub merged_start : Merged xs 0 0
+  merged_start = record { small = omega arith; rest = refl }
 
-module _ (xs : List Loss) (m : ℕ) (w : Merged xs m) where
-  pub merged_more : (y : Loss) (n bits : ℕ) → mag y < 2147483648 → n ≡ mag (to_z w32 (of_z w32 y)) → bits ≡ bit_or m n → Merged (xs ++ (y ∷ [])) bits
-  unfolding tested_loss
-  merged_more y n bits h e f =
-      let s : loss_in (later_loss (pos m) y) ≡ loss_in (later_loss (tested_loss no_loss xs) y) = tested_same (pos m) (tested_loss no_loss xs) (y ∷ []) w.same in
-      let q : bits ≡ bit_or m (mag y) = f ∙ rw (e, bits_back y h) in
-      rw q (record { small = or_lt 31 m (mag y) w.small h; same = rw (tested_push no_loss xs y) (merged_fits m y ∙ s) })
+  module _ (i m : ℕ) (w : Merged xs i m) where
+    pub merged_again : (n : ℕ) → i < length xs → mag (get_or xs i no_loss) < 2147483648 → n ≡ mag (to_z w32 (of_z w32 (get_or xs i no_loss))) → n < 2147483648 → Merged xs (i + 1) (bit_or m n)
+    unfolding tested_loss
+    merged_again n h f e k =
+        let q : n ≡ mag (get_or xs i no_loss) = e ∙ ap mag (bits_back (get_or xs i no_loss) f) in
+        record {
+          small = or_lt 31 m n w.small k;
+          rest = rw (add-one, q) (tested_same (pos (bit_or m (mag (get_or xs i no_loss)))) (later_loss (pos m) (get_or xs i no_loss)) (drop (suc i) xs) (merged_fits m (get_or xs i no_loss)) ∙ (rw (drop-cons xs i no_loss h) at w.rest));
+        }
 
-  pub merged_signed : SFits w32 (pos m)
-  merged_signed = record { sfits = w.small }
+    pub merged_signed : SFits w32 (pos m)
+    merged_signed = record { sfits = w.small }
 
-  pub merged_done : loss_in (to_z w32 m) ≡ loss_in (tested_loss no_loss xs)
-  merged_done = ap loss_in (to_z_pos w32 m w.small) ∙ w.same
+    pub merged_done : length xs ≤ i → loss_in (to_z w32 m) ≡ loss_in (tested_loss no_loss xs)
+    unfolding tested_loss
+    merged_done h = let z : drop i xs ≡ [] = drop_of_length-le xs {i = i} h in ap loss_in (to_z_pos w32 m w.small) ∙ (rw z at w.rest)
 
 -- one loss decides for all
 over_first : (x : Loss) (xs : List Loss) → (need (loss_in x) 17 (loss_shown x) loss_most >> loss_tests xs) ≡ need (loss_in (tested_loss x xs)) 17 (loss_shown (tested_loss x xs)) loss_most
@@ -253,4 +256,4 @@ module _ (at : ℕ) (fs : List ℕ) (ls : List Loss) (ws l : List ℕ) where
     pub lent_done : length fs ≤ i → l₁ ≡ store at (blocks_bytes (lent_blocks fs ls ws)) l
     lent_done h = let n = length_lent_blocks fs ls ws in blocks_laid at (lent_blocks fs ls ws) l i l₁ w (omega arith)
 
-pub ruleset blocks = (writer, not-true, not-false, later_next, later_kept, lists_loss, lists_odd, lists_words, agree_losses, agree_words, block_laid, lent_start, lent_room, lent_again, lent_done)
+pub ruleset blocks = (writer, not-true, not-false, later_next, later_kept, merged_start, merged_again, merged_signed, merged_done, lists_loss, lists_odd, lists_words, agree_losses, agree_words, block_laid, lent_start, lent_room, lent_again, lent_done)

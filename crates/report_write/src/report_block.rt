@@ -34,9 +34,10 @@ fn tested_loss(losses: &[i32]) -> i32
 fn merged_losses(losses: &[i32]) -> i32
     ensures { loss_in result ≡ loss_in (tested_loss no_loss losses.now) }
 {
-    let bits = losses
-        .iter()
-        .fold(0, |bits, loss| bits | loss::loss_magnitude(*loss));
+    let mut bits: u32 = 0;
+    for loss in losses {
+        bits |= loss::loss_magnitude(*loss);
+    }
     bits as i32
 }
 
