@@ -21,10 +21,6 @@ pub sum_next : (xs : List ℕ) (i : ℕ) → i < length xs → sum (drop i xs) �
 unfolding sum
 sum_next xs i h = rw (drop-cons xs i 0 h, add-one)
 
-zero_left : (left s total : ℕ) → left + s ≡ total → eqb left 0 ≡ eqb s total
-zero_left zero s total e = sym (eq-eqb s total (omega arith))
-zero_left (suc left) s total e = ne_eqb (suc left) 0 (λ z. omega arith) ∙ sym (ne_eqb s total (λ z. omega arith))
-
 pub record Summing (xs : List ℕ) (total i left : ℕ) : Type 0 where
   pub is : left + sum xs ≡ total + sum (drop i xs)
 
@@ -33,45 +29,18 @@ module _ (xs : List ℕ) (total : ℕ) where
   summing_start = record { is = refl }
 
   module _ (i left : ℕ) (w : Summing xs total i left) where
-    pub summing_over : i < length xs → left < get_or xs i 0 → false ≡ eqb (sum xs) total
-    summing_over h f = let a = sum_next xs i h in let z = w.is in sym (ne_eqb (sum xs) total (λ e. omega arith))
+    pub summing_over : i < length xs → (get_or xs i 0 ≤ left → ⊥) → total < sum xs
+    summing_over h f = let a = sum_next xs i h in let z = w.is in omega arith
 
-    pub summing_again : i < length xs → get_or xs i 0 ≤ left → Summing xs total (i + 1) (left - get_or xs i 0)
-    summing_again h f = let a = sum_next xs i h in let z = w.is in record { is = omega arith }
+    pub summing_again : i < length xs → (n : ℕ) → (get_or xs i 0 ≤ left) × (n ≡ left - get_or xs i 0) → Summing xs total (i + 1) n
+    summing_again h n f = let a = sum_next xs i h in let z = w.is in record { is = omega arith }
 
-    pub summing_done : length xs ≤ i → eqb left 0 ≡ eqb (sum xs) total
+    pub summing_done : length xs ≤ i → left + sum xs ≡ total
     unfolding sum
     summing_done h =
         let d : drop i xs ≡ [] = drop_of_length-le xs {i = i} h in
         let z : left + sum xs ≡ total + 0 = rw d at w.is in
-        zero_left left (sum xs) total (omega arith)
-
-pub record SummingBoth (ps vs : List ℕ) (total i left : ℕ) : Type 0 where
-  pub is : left + (sum ps + sum vs) ≡ total + (sum (drop i ps) + sum (drop i vs))
-
-module _ (ps vs : List ℕ) (total : ℕ) where
-  pub both_start : SummingBoth ps vs total 0 total
-  both_start = record { is = refl }
-
-  module _ (i left : ℕ) (w : SummingBoth ps vs total i left) where
-    module _ (h : i < length ps) (e : length vs ≡ length ps) where
-      pub both_over : left < get_or ps i 0 → false ≡ eqb (sum ps + sum vs) total
-      both_over f = let a = sum_next ps i h in let z = w.is in sym (ne_eqb (sum ps + sum vs) total (λ q. omega arith))
-
-      module _ (f : get_or ps i 0 ≤ left) where
-        pub both_over_value : left - get_or ps i 0 < get_or vs i 0 → false ≡ eqb (sum ps + sum vs) total
-        both_over_value g = let a = sum_next ps i h in let b = sum_next vs i (omega arith) in let z = w.is in sym (ne_eqb (sum ps + sum vs) total (λ q. omega arith))
-
-        pub both_again : get_or vs i 0 ≤ left - get_or ps i 0 → SummingBoth ps vs total (i + 1) (left - get_or ps i 0 - get_or vs i 0)
-        both_again g = let a = sum_next ps i h in let b = sum_next vs i (omega arith) in let z = w.is in record { is = omega arith }
-
-    pub both_done : length ps ≤ i → length vs ≡ length ps → eqb left 0 ≡ eqb (sum ps + sum vs) total
-    unfolding sum
-    both_done h e =
-        let d : drop i ps ≡ [] = drop_of_length-le ps {i = i} h in
-        let f : drop i vs ≡ [] = drop_of_length-le vs {i = i} (omega arith) in
-        let z : left + (sum ps + sum vs) ≡ total + (0 + 0) = rw (d, f) at w.is in
-        zero_left left (sum ps + sum vs) total (omega arith)
+        omega arith
 
 -- ---- 24
 
@@ -550,4 +519,4 @@ module _ (start left : ℕ) (cs ts ps vs : List ℕ) (d : SameLengths ts ps vs) 
   pub end_none : sum cs ≡ length ts → sum ps + sum vs ≡ left → n ≡ or_zero (chunks_from start cs ts ps vs)
   end_none c b = h ∙ ends_are start left cs ts ps vs d.prefixes d.values ∙ rw (eq-eqb _ _ c, eq-eqb _ _ b)
 
-pub ruleset ends = (writer, not-true, not-false, agreed_listed, summing_start, summing_over, summing_again, summing_done, both_start, both_over, both_over_value, both_again, both_done, prefixes_other, values_other, sums_agree, asking_start, asking_told, asking_again, asking_done, ending_start, ending_refused, ending_over, ending_over_value, ending_again, ending_fits, ending_done, counting_start, less_next, counting_over, counting_prefixes, counting_values, counting_scaled, counting_place, counting_fits, counting_refused, counting_end, counting_again, counting_items, counting_bytes, counting_past, counting_done, none_at_most)
+pub ruleset ends = (writer, not-true, not-false, agreed_listed, summing_start, summing_over, summing_again, summing_done, prefixes_other, values_other, sums_agree, asking_start, asking_told, asking_again, asking_done, ending_start, ending_refused, ending_over, ending_over_value, ending_again, ending_fits, ending_done, counting_start, less_next, counting_over, counting_prefixes, counting_values, counting_scaled, counting_place, counting_fits, counting_refused, counting_end, counting_again, counting_items, counting_bytes, counting_past, counting_done, none_at_most)

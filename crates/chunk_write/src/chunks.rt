@@ -1,6 +1,6 @@
 // The chunks of lent lists, one after the other: one SSRC and one item count for each chunk; for each item a type, a prefix length and a
 // value length; one run of bytes, item by item, prefix then value.
-ghost use Rattle.std.specs.Prelude.{◌≡◌, ◌+◌, ◌-◌, ◌%◌, ◌<◌, ◌≤◌, eqb, length, drop, get_or};
+ghost use Rattle.std.specs.Prelude.{◌≡◌, ◌+◌, ◌-◌, ◌%◌, ◌<◌, ◌≤◌, eqb, length, drop, MatchOption};
 ghost use Rattle.rfc3550.specs.Bytes.{sum, store};
 ghost use Rattle.rfc3550.specs.Write.{items_agree};
 ghost use Rattle.utils.specs.Error.{write_refusal};
@@ -13,46 +13,29 @@ use sdes_chunk::item::SdesItem;
 use utils::error::RtcpWriteError;
 use utils::writer;
 
+// What the numbers leave of a total; None where they sum to more.
+fn left_of(total: u64, xs: &[u64]) -> Option<u64>
+    ensures { MatchOption result (total < sum xs.now) (λ left. left + sum xs.now ≡ total) }
+{
+    let mut left = total;
+    for x in xs {
+        left = left.checked_sub(*x)?;
+    }
+    Some(left)
+}
+
 // Whether the numbers sum to the total.
 pub fn sum_is(xs: &[u64], total: u64) -> bool
     ensures { result ≡ eqb (sum xs.now) total }
 {
-    let n = xs.len();
-    let mut i: usize = 0;
-    let mut left = total;
-    while i < n {
-        let x = xs[i];
-        if left < x {
-            return false;
-        }
-        left -= x;
-        i += 1;
-    }
-    left == 0
+    left_of(total, xs) == Some(0)
 }
 
-// The same for the numbers of two lists of one length.
+// The same for the numbers of two lists.
 fn sums_are(prefixes: &[u64], values: &[u64], total: u64) -> bool
-    requires { length values.now ≡ length prefixes.now }
     ensures { result ≡ eqb (sum prefixes.now + sum values.now) total }
 {
-    let n = prefixes.len();
-    let mut i: usize = 0;
-    let mut left = total;
-    while i < n {
-        let p = prefixes[i];
-        if left < p {
-            return false;
-        }
-        left -= p;
-        let v = values[i];
-        if left < v {
-            return false;
-        }
-        left -= v;
-        i += 1;
-    }
-    left == 0
+    left_of(total, prefixes).is_some_and(|left| sum_is(values, left))
 }
 
 // The lists of items have one length, and the lengths that they hold sum to the bytes.
@@ -74,25 +57,13 @@ pub fn why_items_unchecked(types: &[u8], prefixes: &[u64], values: &[u64]) -> Rt
     requires { SameLengths types.now prefixes.now values.now }
     ensures { write_refusal result ≡ items_refusal types.now prefixes.now values.now }
 {
-    let n = types.len();
-    let mut i: usize = 0;
-    while i < n {
-        let size = item::size_of_lengths(types[i], prefixes[i], values[i]);
+    for (i, item_type) in types.iter().enumerate() {
+        let size = item::size_of_lengths(*item_type, prefixes[i], values[i]);
         if size == 0 {
-            return item::why_lengths(types[i], prefixes[i], values[i]);
+            return item::why_lengths(*item_type, prefixes[i], values[i]);
         }
-        i += 1;
     }
     RtcpWriteError::PacketTooLarge
-}
-
-// A number of a list, as an index.
-fn element_unchecked(xs: &[u64], i: usize) -> usize
-    requires { i < length xs.now }
-    ensures { result ≡ get_or xs.now i 0 }
-{
-    let x = xs[i];
-    x as usize
 }
 
 // The index after some items, and how many bytes are left after theirs; both 0 where an item is refused or takes more bytes than are left.
@@ -107,14 +78,12 @@ fn items_end(at: usize, bytes_left: u64, types: &[u8], prefixes: &[u64], values:
     requires { ItemsMeasured at bytes_left types.now prefixes.now values.now }
     ensures { ItemsEnded at bytes_left types.now prefixes.now values.now result }
 {
-    let n = types.len();
-    let mut i: usize = 0;
     let mut end = at;
     let mut left = bytes_left;
-    while i < n {
+    for (i, item_type) in types.iter().enumerate() {
         let p = prefixes[i];
         let v = values[i];
-        let size = item::size_of_lengths(types[i], p, v);
+        let size = item::size_of_lengths(*item_type, p, v);
         if size == 0 {
             return ItemsEnd { end: 0, left: 0 };
         }
@@ -127,7 +96,6 @@ fn items_end(at: usize, bytes_left: u64, types: &[u8], prefixes: &[u64], values:
         }
         left -= v;
         end += size;
-        i += 1;
     }
     ItemsEnd { end, left }
 }
@@ -145,15 +113,13 @@ pub fn chunks_end_unchecked(
     requires { ChunksMeasured start counts.now types.now prefixes.now values.now bytes_len }
     ensures { result ≡ at_most limit (chunks_end start bytes_len counts.now types.now prefixes.now values.now) }
 {
-    let n = counts.len();
-    let mut k: usize = 0;
     let mut at = start;
     let mut left = bytes_len as u64;
     let mut types_left = types;
     let mut prefixes_left = prefixes;
     let mut values_left = values;
-    while k < n {
-        let c = element_unchecked(counts, k);
+    for count in counts {
+        let c = *count as usize;
         if types_left.len() < c {
             return 0;
         }
@@ -172,7 +138,6 @@ pub fn chunks_end_unchecked(
         types_left = &types_left[c..];
         prefixes_left = &prefixes_left[c..];
         values_left = &values_left[c..];
-        k += 1;
     }
     if types_left.len() != 0 {
         return 0;
@@ -232,15 +197,13 @@ fn write_items(
     requires { Within types.now prefixes.now values.now bytes.now first last from × (to ≤ length buf.old) × ItemsFit (between first last types.now) (between first last prefixes.now) (between first last values.now) (drop from bytes.now) (length buf.old - to) }
     ensures { ItemsLaid to from (between first last types.now) (between first last prefixes.now) (between first last values.now) (drop from bytes.now) buf.old result buf.new }
 {
-    let mut i = first;
     let mut end = to;
     let mut taken = from;
-    while i < last {
-        let p = element_unchecked(prefixes, i);
-        let v = element_unchecked(values, i);
+    for i in first..last {
+        let p = prefixes[i] as usize;
+        let v = values[i] as usize;
         end += write_item_at(buf, end, types[i], bytes, taken, p, v);
         taken = taken + p + v;
-        i += 1;
     }
     LaidEnd { end, taken }
 }
@@ -284,17 +247,15 @@ pub fn write_chunks_unchecked(
     requires { ChunksFit start ssrcs.now counts.now types.now prefixes.now values.now bytes.now (length buf.old) }
     ensures { buf.new ≡ store start (laid_chunks ssrcs.now counts.now types.now prefixes.now values.now bytes.now) buf.old }
 {
-    let n = ssrcs.len();
-    let mut k: usize = 0;
     let mut i: usize = 0;
     let mut at = start;
     let mut from: usize = 0;
-    while k < n {
+    for (k, ssrc) in ssrcs.iter().enumerate() {
         let c = counts[k];
         let j = i + c as usize;
         let laid = write_chunk(
             &mut buf[at..],
-            ssrcs[k],
+            *ssrc,
             &types[0..],
             &prefixes[0..],
             &values[0..],
@@ -306,6 +267,5 @@ pub fn write_chunks_unchecked(
         at += laid.end;
         from = laid.taken;
         i = j;
-        k += 1;
     }
 }

@@ -1,9 +1,5 @@
-use Rattle.rfc3550.proofs.Prelude.{◌-◌, length}
 use Rattle.chunk_write.proofs.Sizes.{Ending}
 use Rattle.chunk_write.proofs.chunks.items_end.Given as goal
 
 abbrev pub invariant-loop-i : goal.invariant-loop-i
 invariant-loop-i l = Ending l.at l.bytes_left l.types l.prefixes l.values l.i l.end l.left
-
-abbrev pub decreases-loop-i : goal.decreases-loop-i
-decreases-loop-i l = length l.types - l.i

@@ -1,9 +1,5 @@
-use Rattle.rfc3550.proofs.Prelude.{◌-◌, length}
 use Rattle.chunk_write.proofs.Laying.{Chunking}
 use Rattle.chunk_write.proofs.chunks.write_chunks_unchecked.Given as goal
 
 abbrev pub invariant-loop-k : goal.invariant-loop-k
 invariant-loop-k l = Chunking l.start l.ssrcs l.counts l.types l.prefixes l.values l.bytes l.initial.buf l.k l.i l.at l.from l.buf
-
-abbrev pub decreases-loop-k : goal.decreases-loop-k
-decreases-loop-k l = length l.ssrcs - l.k
