@@ -40,10 +40,7 @@ pub struct Call {
 fn capped_sum(a: u64, b: u64) -> u64
     ensures { result ≡ capped (a + b) }
 {
-    if 18446744073709551615 - a < b {
-        return 18446744073709551615;
-    }
-    a + b
+    a.saturating_add(b)
 }
 
 // Where a packet of this type may stand: behind another, or first if it is a report.
@@ -145,7 +142,7 @@ impl Writer {
                 len: self.len + size,
                 padded: 0 < padding,
                 cname: either(self.cname, cname),
-                closed: self.closed,
+                ..self
             },
         }
     }
@@ -295,10 +292,8 @@ impl Writer {
             return Call {
                 answer: Ok(()),
                 writer: Writer {
-                    len: self.len,
-                    padded: self.padded,
-                    cname: self.cname,
                     closed: true,
+                    ..self
                 },
             };
         }
