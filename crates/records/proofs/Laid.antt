@@ -4,7 +4,7 @@ use Rattle.std.proofs.lemmas.List.{drop-map}
 use Rattle.rfc3550.specs.Bytes.{put, store}
 use Rattle.rfc3550.specs.Packet.{block_widths, block_fields, blocks_bytes}
 use Rattle.report.specs.declared.report_block.ReportBlock.{ReportBlock}
-use Rattle.report_write.proofs.Blocks.{Blocks, blocks_start, blocks_room, block_next, blocks_laid}
+use Rattle.report_write.proofs.Blocks.{Blocks, block_next, blocks_laid}
 use Rattle.records.specs.Records.{no_block, block_of, records_of}
 
 -- ---- two stores
@@ -17,14 +17,8 @@ store_behind at k c bs r e = rw (← e, take-append-add c r k, add_assoc (length
 -- ---- the records, one after the other
 
 module _ (at : ℕ) (bs : List ReportBlock) (l : List ℕ) where
-  pub records_start : Blocks at (records_of bs) l 0 l
-  records_start = blocks_start at (records_of bs) l
-
   module _ (i : ℕ) (l₁ : List ℕ) (w : Blocks at (records_of bs) l i l₁) where
     module _ (f : length bs * 24 ≤ length l - at) (h : i < length bs) where
-      pub records_room : at + i * 24 + 24 ≤ length l₁
-      records_room = let n = length-map bs block_of in blocks_room at (records_of bs) l i l₁ w (omega arith) (omega arith)
-
       record_next : drop i (records_of bs) ≡ block_of (get_or bs i no_block) ∷ drop (i + 1) (records_of bs)
       record_next = rw (add-one i, drop-map block_of i bs, drop-map block_of (suc i) bs, drop-cons bs i no_block h)
 
@@ -33,5 +27,3 @@ module _ (at : ℕ) (bs : List ReportBlock) (l : List ℕ) where
 
     pub records_done : length bs ≤ i → l₁ ≡ store at (blocks_bytes (records_of bs)) l
     records_done h = let n = length-map bs block_of in blocks_laid at (records_of bs) l i l₁ w (omega arith)
-
-pub ruleset laid = (records_start, records_room, records_again, records_done)
