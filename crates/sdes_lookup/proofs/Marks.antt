@@ -1,37 +1,9 @@
--- Answers before a pass, and the turns that mark those of one chunk.
+-- The turns that mark the answers of one chunk.
 use Rattle.rfc3550.proofs.Prelude.{ℕ, zero, suc, ◌+◌, ◌-◌, ◌<◌, ◌≤◌, ◌≡◌, refl, sym, ap, ◌∙◌, ◌&&◌, List, [], ◌∷◌, ◌++◌, append_assoc, add-one, arith, rules, eq-eqb, ne_eqb, lt-ltb, eqb, ltb, length, get_or, set, take, drop, replicate, length-replicate, length-set, replicate-append-replicate, drop_of_length-le, drop-cons, set_at, take-append-drop}
 use lib.Seq.{take-suc, take-suc-set, drop-set-lt}
 use Rattle.rfc3550.specs.Answer.{pick}
 use Rattle.sdes_chunk.specs.declared.chunk.SdesChunk.{SdesChunk}
 use Rattle.sdes_lookup.specs.Lookup.{marked, unanswered_in}
-
--- ---- no answer at all
-
-pub record Blanking (n : ℕ) (l₀ : List ℕ) (i : ℕ) (l : List ℕ) : Type 0 where
-  pub within : i ≤ n
-  pub long : length l ≡ length l₀
-  pub is : l ≡ replicate i 255 ++ drop i l₀
-
-pub blank_start : (n : ℕ) (l : List ℕ) → Blanking n l 0 l
-blank_start n l = record { within = omega arith; long = refl; is = refl }
-
-module _ (n : ℕ) (l₀ : List ℕ) (i : ℕ) (l : List ℕ) (g : Blanking n l₀ i l) where
-  pub blank_room : n ≤ length l₀ → i < n → i < length l
-  blank_room h m = omega (arith, g.long)
-
-  pub blank_again : n ≤ length l₀ → i < n → Blanking n l₀ (i + 1) (set l i 255)
-  blank_again h m =
-      let e : set l i 255 ≡ replicate i 255 ++ (255 ∷ drop (suc i) l₀) =
-      ap (λ (x : List ℕ). set x i 255) (g.is ∙ ap (λ (x : List ℕ). replicate i 255 ++ x) (drop-cons l₀ i 0 (omega arith)))
-      ∙ set_at (replicate i 255) (get_or l₀ i 0) (drop (suc i) l₀) 255 i (length-replicate i 255) in
-      record {
-        within = omega arith;
-        long = simp length-set g.long;
-        is = e ∙ sym (append_assoc (replicate i 255) (255 ∷ []) (drop (suc i) l₀)) ∙ rw (replicate-append-replicate {A = ℕ} i 1 255, add-one);
-      }
-
-  pub blank_done : n ≤ i → l ≡ replicate n 255 ++ drop n l₀
-  blank_done h = let e : i ≡ n = omega (arith, g.within) in rw e at g.is
 
 -- ---- how many have no answer yet
 
@@ -116,4 +88,4 @@ module _ (k : ℕ) (c : SdesChunk) (ssrcs l : List ℕ) where
   pub visit_answers : (l₁ : List ℕ) → (c.cname ≡ 0 → ⊥) → l₁ ≡ marked k c.ssrc ssrcs l → l₁ ≡ pick (ltb 0 c.cname) (marked k c.ssrc ssrcs l) l
   visit_answers l₁ z e = rw (lt-ltb 0 c.cname (omega arith)) e
 
-pub ruleset marks = (rules, blank_start, blank_room, blank_again, blank_done, mark_start, mark_long, mark_room, mark_some, visit_passes, visit_answers)
+pub ruleset marks = (rules, mark_start, mark_long, mark_room, mark_some, visit_passes, visit_answers)

@@ -154,11 +154,12 @@ module _ (n : ℕ) (body ssrcs l₀ : List ℕ) (unanswered place k : ℕ) (l : 
   pass_answered lent b e =
       ends lent b (pass_done k g.left ssrcs g.found (none_unanswered k g.found (drop (length ssrcs) l₀) (omega (arith, g.within, g.low)) g.below (opened ∙ e)))
 
-  pub pass_ended : (lent : List ℕ) → l₀ ≡ replicate (length ssrcs) 255 ++ drop (length ssrcs) lent → n ≤ k → Answered n body ssrcs lent k l
+  pub pass_ended : (lent : List ℕ) → l₀ ≡ replicate (length ssrcs) 255 ++ drop (length ssrcs) lent → n ≤ k → Answered n body ssrcs lent n l
   unfolding read_chunks pass
   pass_ended lent b h =
+      let e : k ≡ n = omega (arith, g.within) in
       let z : n - k ≡ 0 = omega arith in
-      ends lent b (go (drop place body) g.left (rw z at g.rest))
+      subst (λ (v : ℕ). Answered n body ssrcs lent v l) e (ends lent b (go (drop place body) g.left (rw z at g.rest)))
     where
       go : (s : List ℕ) (cs : List Chunk) → read_chunks 0 (length body) s ≡ ok cs → pass k cs ssrcs g.found ≡ (g.found, k)
       go [] cs e = rw (sym (ok_injective e))

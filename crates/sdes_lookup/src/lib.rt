@@ -1,7 +1,7 @@
 // Which chunks of a source description name the SSRCs of a list (document 02, order 2).
 #![tactic(auto)]
 
-ghost use Rattle.std.specs.Prelude.{◌≡◌, List, ◌++◌, ℕ, ◌<◌, ◌≤◌, ltb, length, replicate, drop};
+ghost use Rattle.std.specs.Prelude.{◌≡◌, List, ℕ, ◌<◌, ◌≤◌, ltb, length, drop};
 ghost use Rattle.rfc3550.specs.Answer.{ok, pick};
 ghost use Rattle.rfc3550.specs.Packet.{Chunk};
 ghost use Rattle.rfc3550.specs.Read.{read_chunks};
@@ -16,17 +16,6 @@ use utils::error::RtcpParseError;
 // The answer for an SSRC that no chunk names.
 pub const NO_CHUNK: u8 = 255;
 
-fn blank(answers: &mut [u8], n: usize)
-    requires { n ≤ length answers.old }
-    ensures { answers.new ≡ replicate n 255 ++ drop n answers.old }
-{
-    let mut i = 0;
-    while i < n {
-        answers[i] = NO_CHUNK;
-        i += 1;
-    }
-}
-
 // Chunk k, with this SSRC and a CNAME, is the answer where there is none yet. Says how many have none after it.
 #[inline(never)]
 fn mark(answers: &mut [u8], ssrcs: &[u32], ssrc: u32, k: u8, unanswered: usize) -> usize
@@ -34,15 +23,11 @@ fn mark(answers: &mut [u8], ssrcs: &[u32], ssrc: u32, k: u8, unanswered: usize) 
     ensures { (answers.new ≡ marked k ssrc ssrcs.now answers.old) × (result ≡ unanswered_in (length ssrcs.now) answers.new) }
 {
     let mut left = unanswered;
-    let mut i = 0;
-    while i < ssrcs.len() {
-        if ssrcs[i] == ssrc {
-            if answers[i] == NO_CHUNK {
-                answers[i] = k;
-                left -= 1;
-            }
+    for (i, named) in ssrcs.iter().enumerate() {
+        if *named == ssrc && answers[i] == NO_CHUNK {
+            answers[i] = k;
+            left -= 1;
         }
-        i += 1;
     }
     left
 }
@@ -63,20 +48,18 @@ fn answer_all(body: &[u8], n_chunks: usize, ssrcs: &[u32], answers: &mut [u8]) -
     requires { (n_chunks < 32) × (length ssrcs.now ≤ length answers.old) × (4 ≤ length body.now) × ((cs : List Chunk) × (read_chunks n_chunks (length body.now) (drop 4 body.now) ≡ ok cs)) }
     ensures { Answered n_chunks body.now ssrcs.now answers.old result answers.new }
 {
-    blank(answers, ssrcs.len());
+    answers[..ssrcs.len()].fill(NO_CHUNK);
     let mut unanswered = ssrcs.len();
     let mut at = Sdes::MIN_PACKET_LEN;
-    let mut k = 0;
-    while k < n_chunks {
+    for k in 0..n_chunks {
         if unanswered == 0 {
             return k;
         }
         let chunk = SdesChunk::read(&body[at..]);
         unanswered = visit(answers, ssrcs, chunk, k as u8, unanswered);
-        at = at + chunk.length;
-        k += 1;
+        at += chunk.length;
     }
-    k
+    n_chunks
 }
 
 // For each SSRC of the list the index of the first chunk with that SSRC and a CNAME in it, or NO_CHUNK. A refusal writes no answer, and so the packet

@@ -1,11 +1,12 @@
-use Rattle.sdes_lookup.proofs.Passes.{passes}
+use Rattle.rfc3550.proofs.Prelude.{rules}
+use Rattle.sdes_lookup.proofs.Passes.{passes, pass_answered, pass_ended}
 use Rattle.sdes_lookup.proofs.answer_all.Goals as goal
 
 pub loop-k-init : goal.loop-k-init
 loop-k-init c = search passes
 
 pub returns-then-unanswered-eq0 : goal.returns-then-unanswered-eq0
-returns-then-unanswered-eq0 c = search passes
+returns-then-unanswered-eq0 c = pass_answered _ _ _ _ _ _ _ _ c.loop-k.invariant c.args.answers.now (search rules) c.if-unanswered-eq0.true
 
 pub overflow_add-at : goal.overflow_add-at
 overflow_add-at c = search passes
@@ -14,4 +15,4 @@ pub loop-k-preserved : goal.loop-k-preserved
 loop-k-preserved c = search passes
 
 pub returns : goal.returns
-returns c = search passes
+returns c = pass_ended _ _ _ _ _ _ _ _ c.loop-k.invariant c.args.answers.now (search rules) c.loop-k-test.false

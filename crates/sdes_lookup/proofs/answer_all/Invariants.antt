@@ -1,9 +1,5 @@
-use Rattle.rfc3550.proofs.Prelude.{◌-◌}
 use Rattle.sdes_lookup.proofs.Passes.{Passing}
 use Rattle.sdes_lookup.proofs.answer_all.Given as goal
 
 abbrev pub invariant-loop-k : goal.invariant-loop-k
 invariant-loop-k l = Passing l.n_chunks l.body l.ssrcs l.initial.answers l.unanswered l.at l.k l.answers
-
-abbrev pub decreases-loop-k : goal.decreases-loop-k
-decreases-loop-k l = l.n_chunks - l.k
