@@ -81,11 +81,11 @@ visit_marks m k c (s ∷ ssrcs) (at i ∷ fs) r e h b l = cc (one (eqb c.ssrc s)
 
 -- ---- the pass
 
-pub record Passing (n : ℕ) (body ssrcs l₀ : List ℕ) (unanswered place k : ℕ) (l : List ℕ) : Type 0 where
+pub record Passing (n : ℕ) (body ssrcs l₀ : List ℕ) (unanswered : ℕ) (s : List ℕ) (k : ℕ) (l : List ℕ) : Type 0 where
   pub chunks : List Chunk
   pub read : read_chunks n (length body) (drop 4 body) ≡ ok chunks
   pub left : List Chunk
-  pub rest : read_chunks (n - k) (length body) (drop place body) ≡ ok left
+  pub rest : read_chunks (n - k) (length body) s ≡ ok left
   pub found : List Found
   pub below : Below k found
   pub count : length found ≡ length ssrcs
@@ -93,7 +93,6 @@ pub record Passing (n : ℕ) (body ssrcs l₀ : List ℕ) (unanswered place k : 
   pub long : length l ≡ length l₀
   pub within : k ≤ n
   pub low : n < 32
-  pub inside : place ≤ length body
   pub fits : length ssrcs ≤ length l
   pub counted : unanswered ≡ unanswered_in (length ssrcs) l
   -- the exact number of visits goes with the answers
@@ -103,16 +102,16 @@ module _ (ssrcs l l₁ : List ℕ) (e : l₁ ≡ replicate (length ssrcs) 255 ++
   blank_rest : drop (length ssrcs) l₁ ≡ drop (length ssrcs) l
   blank_rest = ap (drop (length ssrcs)) e ∙ drop_at (replicate (length ssrcs) 255) (drop (length ssrcs) l) (length ssrcs) (length-replicate (length ssrcs) 255)
 
-  pub pass_start : (n : ℕ) (body : List ℕ) → n < 32 → length ssrcs ≤ length l → 4 ≤ length body → ((cs : List Chunk) × (read_chunks n (length body) (drop 4 body) ≡ ok cs)) → length l₁ ≡ length l
-      → Passing n body ssrcs l₁ (length ssrcs) 4 0 l₁
-  pass_start n body m h b c s =
+  pub pass_start : (n : ℕ) (body : List ℕ) → n < 32 → length ssrcs ≤ length l → ((cs : List Chunk) × (read_chunks n (length body) (drop 4 body) ≡ ok cs)) → length l₁ ≡ length l
+      → Passing n body ssrcs l₁ (length ssrcs) (take (length body - 4) (drop 4 body)) 0 l₁
+  pass_start n body m h c s =
       let z : n - 0 ≡ n = omega arith in
       let w : l₁ ≡ map coded (nones ssrcs) ++ drop (length ssrcs) l₁ = cc (e, coded_nones ssrcs, blank_rest) in
       record {
         chunks = c.0;
         read = c.1;
         left = c.0;
-        rest = rw z c.1;
+        rest = rw (z, rest_is body 4) c.1;
         found = nones ssrcs;
         below = nones_below ssrcs;
         count = length-map ssrcs _;
@@ -120,18 +119,14 @@ module _ (ssrcs l l₁ : List ℕ) (e : l₁ ≡ replicate (length ssrcs) 255 ++
         long = refl;
         within = omega arith;
         low = m;
-        inside = b;
         fits = omega arith;
         counted = sym (ap (unanswered_in (length ssrcs)) w ∙ unanswered_nones ssrcs (drop (length ssrcs) l₁));
         same = refl;
       }
 
-module _ (n : ℕ) (body ssrcs l₀ : List ℕ) (unanswered place k : ℕ) (l : List ℕ) (g : Passing n body ssrcs l₀ unanswered place k l) where
+module _ (n : ℕ) (body ssrcs l₀ : List ℕ) (unanswered : ℕ) (s : List ℕ) (k : ℕ) (l : List ℕ) (g : Passing n body ssrcs l₀ unanswered s k l) where
   pub pass_long : length l ≡ length l₀
   pass_long = g.long
-
-  pub pass_inside : place ≤ length body
-  pass_inside = g.inside
 
   opened : unanswered_in (length g.found) (map coded g.found ++ drop (length ssrcs) l₀) ≡ unanswered
   opened = rw (g.count, ← g.is) (sym g.counted)
@@ -159,7 +154,7 @@ module _ (n : ℕ) (body ssrcs l₀ : List ℕ) (unanswered place k : ℕ) (l : 
   pass_ended lent b h =
       let e : k ≡ n = omega (arith, g.within) in
       let z : n - k ≡ 0 = omega arith in
-      subst (λ (v : ℕ). Answered n body ssrcs lent v l) e (ends lent b (go (drop place body) g.left (rw z at g.rest)))
+      subst (λ (v : ℕ). Answered n body ssrcs lent v l) e (ends lent b (go s g.left (rw z at g.rest)))
     where
       go : (s : List ℕ) (cs : List Chunk) → read_chunks 0 (length body) s ≡ ok cs → pass k cs ssrcs g.found ≡ (g.found, k)
       go [] cs e = rw (sym (ok_injective e))
@@ -173,55 +168,53 @@ module _ (n : ℕ) (body ssrcs l₀ : List ℕ) (unanswered place k : ℕ) (l : 
     record Here : Type 0 where
       pub chunk : Chunk
       pub others : List Chunk
-      pub view : chunk_view chunk ≡ value_or no_chunk chunk_first (read_chunk (drop place body))
+      pub view : chunk_view chunk ≡ value_or no_chunk chunk_first (read_chunk s)
       pub are : g.left ≡ chunk ∷ others
-      pub rest : read_chunks (n - (k + 1)) (length body) (drop (place + length (chunk_bytes chunk)) body) ≡ ok others
-      pub inside : place + length (chunk_bytes chunk) ≤ length body
+      pub rest : read_chunks (n - (k + 1)) (length body) (drop (length (chunk_bytes chunk)) s) ≡ ok others
+      pub inside : length (chunk_bytes chunk) ≤ length s
 
     here : Here
     unfolding read_chunks
     here =
         let z : n - k ≡ suc (n - (k + 1)) = omega arith in
-        bind_elim (read_chunk (drop place body)) _ (rw z at g.rest) (λ x q e.
+        bind_elim (read_chunk s) _ (rw z at g.rest) (λ x q e.
         bind_elim (read_chunks (n - (k + 1)) (length body) x.1) _ e (λ cs r f.
-        let c = chunk_in (drop place body) q in
-        let d : x.1 ≡ drop (place + length (chunk_bytes x.0)) body = c.rest ∙ drop-drop (length (chunk_bytes x.0)) place body in
+        let c = chunk_in s q in
         record {
           chunk = x.0;
           others = cs;
           view = sym (ap (value_or no_chunk chunk_first) q);
           are = sym (ok_injective f);
-          rest = rw (← d) r;
-          inside = omega (arith, c.size, length-drop place body, g.inside);
+          rest = rw (← c.rest) r;
+          inside = omega (arith, c.size);
         }))
 
-    module _ (c : SdesChunk) (v : c ≡ value_or no_chunk chunk_first (read_chunk (take (length body - place) (drop place body)))) where
+    module _ (c : SdesChunk) (v : c ≡ value_or no_chunk chunk_first (read_chunk s)) where
       is_here : c ≡ chunk_view here.chunk
-      is_here = v ∙ ap (λ (s : List ℕ). value_or no_chunk chunk_first (read_chunk s)) (rest_is body place) ∙ sym here.view
+      is_here = v ∙ sym here.view
 
-      size_here : place + c.length ≡ place + length (chunk_bytes here.chunk)
-      size_here = ap (λ (c : SdesChunk). place + c.length) is_here
+      size_here : c.length ≡ length (chunk_bytes here.chunk)
+      size_here = ap (λ (c : SdesChunk). c.length) is_here
 
-      pub pass_fits : length body < 2 ^ 64 → place + c.length < 2 ^ 64
-      pass_fits b = omega (arith, size_here, here.inside)
+      pub pass_inside : c.length ≤ length s
+      pass_inside = rw size_here here.inside
 
       pub pass_again : (unanswered ≡ 0 → ⊥) → (o : ℕ) (l₁ : List ℕ) → l₁ ≡ pick (ltb 0 c.cname) (marked k c.ssrc ssrcs l) l → o ≡ unanswered_in (length ssrcs) l₁ → length l₁ ≡ length l
-          → Passing n body ssrcs l₀ o (place + c.length) (k + 1) l₁
-      pass_again y o l₁ e q s =
+          → Passing n body ssrcs l₀ o (take (length s - c.length) (drop c.length s)) (k + 1) l₁
+      pass_again y o l₁ e q eq =
           let m : some missing g.found ≡ true = some_unanswered k g.found (drop (length ssrcs) l₀) (omega (arith, g.low)) g.below (λ z. y (sym opened ∙ z)) in
           record {
             chunks = g.chunks;
             read = g.read;
             left = here.others;
-            rest = rw size_here here.rest;
+            rest = rw (rest_is s c.length, size_here) here.rest;
             found = visit k here.chunk ssrcs g.found;
             below = subst (λ (m : ℕ). Below m (visit k here.chunk ssrcs g.found)) (sym (add-one k)) (visit_below k here.chunk ssrcs g.found g.below);
             count = visit_length k here.chunk ssrcs g.found g.count;
             is = laid (chunk_has_cname here.chunk) refl;
-            long = s ∙ g.long;
+            long = eq ∙ g.long;
             within = omega arith;
             low = g.low;
-            inside = rw size_here here.inside;
             fits = omega (arith, g.fits);
             counted = q;
             same =
@@ -241,4 +234,4 @@ module _ (n : ℕ) (body ssrcs l₀ : List ℕ) (unanswered place k : ℕ) (l : 
               e ∙ ap (λ (b : Bool). pick b (marked k c.ssrc ssrcs l) l) (named ∙ x)
               ∙ g.is ∙ ap (λ (fs : List Found). map coded fs ++ drop (length ssrcs) l₀) (sym (visit_none k here.chunk ssrcs g.found x))
 
-pub ruleset passes = (rules, pass_start, pass_long, pass_inside, pass_answered, pass_ended, pass_low, pass_fits, pass_again)
+pub ruleset passes = (rules, pass_start, pass_long, pass_inside, pass_answered, pass_ended, pass_low, pass_again)

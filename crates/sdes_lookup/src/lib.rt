@@ -50,14 +50,14 @@ fn answer_all(body: &[u8], n_chunks: usize, ssrcs: &[u32], answers: &mut [u8]) -
 {
     answers[..ssrcs.len()].fill(NO_CHUNK);
     let mut unanswered = ssrcs.len();
-    let mut at = Sdes::MIN_PACKET_LEN;
+    let mut rest = &body[Sdes::MIN_PACKET_LEN..];
     for k in 0..n_chunks {
         if unanswered == 0 {
             return k;
         }
-        let chunk = SdesChunk::read(&body[at..]);
+        let chunk = SdesChunk::read(rest);
         unanswered = visit(answers, ssrcs, chunk, k as u8, unanswered);
-        at += chunk.length;
+        rest = &rest[chunk.length..];
     }
     n_chunks
 }

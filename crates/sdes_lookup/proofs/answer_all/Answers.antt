@@ -1,15 +1,18 @@
 use Rattle.rfc3550.proofs.Prelude.{rules}
-use Rattle.sdes_lookup.proofs.Passes.{passes, pass_answered, pass_ended}
+use Rattle.sdes_lookup.proofs.Passes.{passes, pass_start, pass_answered, pass_ended}
 use Rattle.sdes_lookup.proofs.answer_all.Goals as goal
 
 pub loop-k-init : goal.loop-k-init
-loop-k-init c = search passes
+loop-k-init c = pass_start _ c.args.answers.now _ (search rules) _ _ c.requires.0 (search rules) c.requires.3 (search rules)
 
 pub returns-then-unanswered-eq0 : goal.returns-then-unanswered-eq0
 returns-then-unanswered-eq0 c = pass_answered _ _ _ _ _ _ _ _ c.loop-k.invariant c.args.answers.now (search rules) c.if-unanswered-eq0.true
 
-pub overflow_add-at : goal.overflow_add-at
-overflow_add-at c = search passes
+pub slice_bounds-rest-count-in-loop-k : goal.slice_bounds-rest-count-in-loop-k
+slice_bounds-rest-count-in-loop-k c = search passes
+
+pub slice_bounds-rest-start-in-loop-k : goal.slice_bounds-rest-start-in-loop-k
+slice_bounds-rest-start-in-loop-k c = search passes
 
 pub loop-k-preserved : goal.loop-k-preserved
 loop-k-preserved c = search passes
