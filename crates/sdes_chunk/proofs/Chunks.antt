@@ -309,8 +309,8 @@ module _ (s : List ℕ) (from end at : ℕ) (g : Closing s from end at) where
     pub zeros_more : at < length s → get_or s at 0 ≡ 0 → Closing s from end (at + 1)
     zeros_more h z = zeros_again s from end at g l h z
 
-  pub zeros_all : end ≤ at → closes s from ≡ filled end at
-  zeros_all l = rw (le-ltb at end l) (sym (zeros_done s from end at g l))
+  pub zeros_all : end ≤ at → closes s from ≡ filled end end
+  zeros_all l = rw (le-ltb end end (omega arith)) (sym (zeros_done s from end at g l))
 
 -- ---- whether they stand up to the boundary
 
@@ -327,7 +327,7 @@ module _ (s : List ℕ) (from end : ℕ) where
 
   module _ (l : end ≤ length s) (at : ℕ) (g : Closing s from end at) where
     all : at ≡ end → pick true end 0 ≡ filled_end s from
-    all e = rw (le-ltb at end (omega arith)) at (answer_filled at (zeros_all s from end at g (omega arith)))
+    all e = rw (le-ltb end end (omega arith)) at (answer_filled end (zeros_all s from end at g (omega arith)))
 
     module _ (n : at ≡ end → ⊥) where
       before : (at < end) × (at < length s)

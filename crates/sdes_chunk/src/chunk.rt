@@ -84,17 +84,12 @@ fn zeros_end(chunk: &[u8], from: usize, end: usize) -> usize
     requires { (from < length chunk.now) × (get_or chunk.now from 0 ≡ 0) × (end ≡ from + fill from) }
     ensures { ZerosEnd chunk.now from end result }
 {
-    let mut at = from + 1;
-    while at < end {
-        if chunk.len() <= at {
+    for at in from + 1..end {
+        if chunk.len() <= at || chunk[at] != 0 {
             return at;
         }
-        if chunk[at] != 0 {
-            return at;
-        }
-        at += 1;
     }
-    at
+    end
 }
 
 // Whether zeros stand up to the boundary. Without a loop, since there are four at most.
@@ -177,18 +172,20 @@ pub fn chunks_end(rest: &[u8], n: usize) -> Chunks
     ensures { result ≡ chunks_from n 0 0 rest.now }
 {
     let mut at = 0;
-    let mut left = n;
     let mut cname = 0;
-    while 0 < left {
+    for after in (0..n).rev() {
         let chunk = chunk_end(&rest[at..], cname);
         if chunk.length == 0 {
-            return Chunks { at, left, cname };
+            return Chunks {
+                at,
+                left: after + 1,
+                cname,
+            };
         }
         cname = chunk.cname;
-        at = at + chunk.length;
-        left = left - 1;
+        at += chunk.length;
     }
-    Chunks { at, left, cname }
+    Chunks { at, left: 0, cname }
 }
 
 impl SdesChunk {

@@ -1,5 +1,5 @@
 // An SDES item.
-ghost use Rattle.std.specs.Prelude.{◌≡◌, ◌∷◌, [], ◌+◌, min, ◌≤◌, length, take, drop};
+ghost use Rattle.std.specs.Prelude.{◌≡◌, ◌∷◌, [], ◌+◌, ◌≤◌, length, take, drop};
 ghost use Rattle.rfc3550.specs.Answer.{ok, map_ok};
 ghost use Rattle.rfc3550.specs.Packet.{is_cname};
 ghost use Rattle.rfc3550.specs.Read.{read_item, read_prefix};
@@ -144,12 +144,6 @@ pub fn is_cname(type_: u8, length: usize) -> bool
     type_ == SdesItem::CNAME
 }
 
-pub fn least(a: usize, b: usize) -> usize
-    ensures { result ≡ min a b }
-{
-    if a < b { a } else { b }
-}
-
 // Sets the answer to the numbers of a refusal.
 fn set_answer(answer: &mut [u64; 3], code: Code)
     ensures { answer.new ≡ code.number ∷ code.first ∷ code.second ∷ [] }
@@ -206,7 +200,7 @@ impl SdesItem {
             return parser::part(rest, 0, 0);
         }
         let len = length - 1 - prefix_len;
-        let start = 3 + least(prefix_len, rest.len());
+        let start = 3 + prefix_len.min(rest.len());
         parser::part(rest, start, len)
     }
 

@@ -7,8 +7,8 @@ returns-then-chunk-eq0 c = search chunks
 pub overflow_add-at : goal.overflow_add-at
 overflow_add-at c = search chunks
 
-pub loop-left-preserved : goal.loop-left-preserved
-loop-left-preserved c = search chunks
+pub loop-after-preserved : goal.loop-after-preserved
+loop-after-preserved c = search chunks
 
 pub returns : goal.returns
 returns c = search chunks
