@@ -153,6 +153,7 @@ impl Compound {
         let mut at = 0;
         let mut n_packets = 0;
         let mut has_cname = false;
+        // A while: how many packets there are is what it finds out.
         while at < s.len() {
             let (cname, len) = check_packet(&s[at..], at == 0)?;
             has_cname |= cname;
@@ -186,7 +187,7 @@ fn list_packet_unchecked(s: &[u8], at: usize, list: &mut [u64], to: usize) -> us
 {
     let rest = &s[at..];
     let len = utils::parser::parse_length(rest);
-    list[to] = utils::parser::wide(rest[1]) as u64;
+    list[to] = u64::from(rest[1]);
     list[to + 1] = at as u64;
     list[to + 2] = len as u64;
     len
@@ -197,12 +198,9 @@ fn list_all_unchecked(s: &[u8], compound: Compound, list: &mut [u64])
     requires { (map_ok compound_view (read_compound s.now) ≡ ok compound) × (compound.n_packets * 3 ≤ length list.old) }
     ensures { (ok (compound.n_packets * 3), list.new) ≡ lay_list (map_ok packet_rows (read_compound s.now)) list.old }
 {
-    let n = compound.n_packets;
-    let mut at: usize = 0;
-    let mut i: usize = 0;
-    while i < n {
-        at = at + list_packet_unchecked(s, at, list, i * Compound::PACKET_ROW);
-        i += 1;
+    let mut at = 0;
+    for i in 0..compound.n_packets {
+        at += list_packet_unchecked(s, at, list, i * Compound::PACKET_ROW);
     }
 }
 

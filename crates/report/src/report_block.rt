@@ -103,8 +103,7 @@ fn list_all_unchecked(
     requires { (at + n * 24 ≤ length s.now) × (n ≤ length fractions.old) × (n ≤ length losses.old) × (n * 5 ≤ length words.old) }
     ensures { BlocksListed (read_blocks n (drop at s.now)) fractions.old losses.old words.old fractions.new losses.new words.new }
 {
-    let mut i: usize = 0;
-    while i < n {
+    for i in 0..n {
         list_block_unchecked(
             s,
             at + i * ReportBlock::EXPECTED_SIZE,
@@ -114,7 +113,6 @@ fn list_all_unchecked(
             i,
             i * ReportBlock::WORDS,
         );
-        i += 1;
     }
 }
 

@@ -44,12 +44,6 @@ take_length_take zero s = refl
 take_length_take (suc n) [] = refl
 take_length_take (suc n) (b ∷ s) = ap (λ (l : List ℕ). b ∷ l) (take_length_take n s)
 
-pub limit_all : (s : List ℕ) → length s < 262144 → length s ≡ length (take 262144 s)
-limit_all s h = sym (ap length (take_all 262144 s (omega arith)))
-
-pub limit_most : (s : List ℕ) → 262144 ≤ length s → 262144 ≡ length (take 262144 s)
-limit_most s h = sym (length-take-le 262144 s h)
-
 module _ (s : List ℕ) (n : ℕ) (r : n ≡ length (take 262144 s)) where
   limit_within : n ≤ length s
   limit_within = rw r (simp length-take (omega arith))
@@ -96,4 +90,4 @@ module _ (s : List ℕ) (n : ℕ) (r : n ≡ length (take 262144 s)) where
                 → ok (c, record { at = w.at + c.length; end = w.end }) ≡ map_ok chunk_stepped (sdes_step s (sdes_walk w))
             go x q a = rw (← r, lt-ltb w.at n l, lt-ltb w.at w.end m, q, ← a)
 
-pub ruleset walks = (rules, parse_handed, chunks_not_opened, chunks_opened, limit_all, limit_most, chunk_past_limit, chunk_past_end, chunk_not_stepped, chunk_fits, chunk_stepped_lem)
+pub ruleset walks = (rules, parse_handed, chunks_not_opened, chunks_opened, chunk_past_limit, chunk_past_end, chunk_not_stepped, chunk_fits, chunk_stepped_lem)

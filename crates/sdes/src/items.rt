@@ -126,6 +126,7 @@ fn count_rows(body: &[u8]) -> usize
 {
     let mut place = chunk_place(body, Sdes::MIN_PACKET_LEN);
     let mut n = 0;
+    // A while: how many rows there are is what it finds out.
     while place.at < body.len() {
         place = after(body, place);
         n += 1;
@@ -159,6 +160,7 @@ fn lay_items(body: &[u8], first: Place, rows: &mut [u32], from: usize) -> Next
     let ssrc = first.ssrc;
     let mut at = first.at;
     let mut i = from;
+    // A loop: how many items there are is what it finds out.
     loop {
         let end = item::item_end(body, at);
         if end == 0 {

@@ -118,11 +118,7 @@ pub struct ChunkWalk {
 fn step_limit(s: &[u8]) -> usize
     ensures { (result ≡ length (take 262144 s.now)) × (result ≤ length s.now) }
 {
-    if s.len() < MAX_PACKET_LEN {
-        s.len()
-    } else {
-        MAX_PACKET_LEN
-    }
+    s.len().min(MAX_PACKET_LEN)
 }
 
 impl ChunkWalk {

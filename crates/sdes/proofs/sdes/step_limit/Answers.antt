@@ -1,8 +1,5 @@
-use Rattle.sdes.proofs.Walks.{walks}
+use Rattle.rfc3550.proofs.Prelude.{arith, length-take}
 use Rattle.sdes.proofs.sdes.step_limit.Goals as goal
 
-pub returns-then-s-lt-MAX_PACKET_LEN : goal.returns-then-s-lt-MAX_PACKET_LEN
-returns-then-s-lt-MAX_PACKET_LEN c = search walks
-
-pub returns-else-s-lt-MAX_PACKET_LEN : goal.returns-else-s-lt-MAX_PACKET_LEN
-returns-else-s-lt-MAX_PACKET_LEN c = search walks
+pub returns : goal.returns
+returns c = (simp length-take (omega (arith, c.min.ensures)), omega (arith, c.min.ensures))
