@@ -1,101 +1,87 @@
-// Rows of document 01, each a line `NAME OPERATION NUMBER.. xBYTES`. The first line names the operations, in the order of their numbers here.
+// Rows of document 01, each a line `NAME OPERATION NUMBER.. xBYTES`. The first line names the operations, in the order of `operation::IN_ORDER`.
 // An operation is a C function, a part of a packet, or a form that lends records or holds its bytes; the program writes NAME, the answer's numbers and
 // the bytes.
 #![tactic(auto)]
 
+mod answer;
 mod forms;
-mod held;
-mod lend;
-mod lists;
+mod operation;
 mod print;
 mod read;
 mod receive;
-mod text;
+mod row;
 mod write;
 
-ghost use Rattle.std.specs.Prelude.{◌≡◌, length};
-
-use lists::{Losses, Numbers, Words};
-use print::print;
+use operation::Operation;
+use row::{Row, is_blank};
+use std::alloc::Global;
 use std::io;
 use std::io::{Read, Write};
+use write::Target;
 
-// Writes the row's name, and says which operation it asks.
-fn asked(to: &mut Vec<u8>, names: &[u8], line: &[u8]) -> io::Result<usize> {
-    print(to, text::word(line))?;
-    print(to, b":")?;
-    Ok(text::index_of(text::word(text::rest(line)), names))
+/// The most bytes that a buffer has.
+const ROOM: usize = 524288;
+
+/// The place of a word among the names; how many there are where it is none of them.
+fn place_of(word: &[u8], names: &[u8]) -> usize {
+    names
+        .split_inclusive(is_blank)
+        .take_while(|name| name.strip_suffix(b" ").unwrap_or(name) != word)
+        .count()
 }
 
-fn row(
-    to: &mut Vec<u8>,
-    op: usize,
-    line: &[u8],
-    state: &mut [u64; 4],
-    out: &mut [u8],
-    n: &mut Numbers,
-    w: &mut Words,
-    l: &mut Losses,
-    space: &mut [u8],
-) -> io::Result<()> {
-    let len = text::parse(text::rest(text::rest(line)), n, w, l, space);
-    let room = lists::limited(lists::at(n, 0), out);
-    if op < 37 {
-        read::row(to, op, &space[..len], lists::at(n, 0), lists::at(n, 1))
-    } else if 56 < op {
-        receive::row(to, op, w)
-    } else {
-        write::row(to, op, state, &mut out[..room], n, w, l, &space[..len])
+// Writes the row's name, takes what the row gives, and says which operation it asks for.
+fn asked(to: &mut Vec<u8>, names: &[u8], line: &[u8], row: &mut Row) -> io::Result<usize> {
+    let mut words = line.splitn(3, is_blank);
+    to.write_all(words.next().unwrap_or_default())?;
+    to.write_all(b":")?;
+    let place = place_of(words.next().unwrap_or_default(), names);
+    row.read(words.next().unwrap_or_default())?;
+    Ok(place)
+}
+
+fn run(to: &mut Vec<u8>, operation: Operation, row: &Row, target: &mut Target) -> io::Result<()> {
+    match operation {
+        Operation::Read(reading) => read::row(to, reading, row),
+        Operation::Part(part) => read::part(to, part, row.bytes()),
+        Operation::Hold(holding) => forms::walk(to, holding, row),
+        Operation::Write(writing) => write::row(to, writing, row, target),
+        Operation::Receive(receiving) => receive::row(to, receiving, row),
     }
 }
 
-fn rows(
-    to: &mut Vec<u8>,
-    lines: &[u8],
-    state: &mut [u64; 4],
-    out: &mut [u8],
-    n: &mut Numbers,
-    w: &mut Words,
-    l: &mut Losses,
-    space: &mut [u8],
-) -> io::Result<()> {
-    let first = text::find(lines, 0, b'\n');
-    let names = &lines[0..first];
-    let mut at = first + 1;
-    while at < lines.len() {
-        let end = text::find(lines, at, b'\n');
-        let line = &lines[at..end];
-        let op = asked(to, names, line)?;
-        row(to, op, line, state, out, n, w, l, space)?;
-        print(to, b"\n")?;
-        at = end + 1;
+fn answer_to(to: &mut Vec<u8>, place: usize, row: &Row, target: &mut Target) -> io::Result<()> {
+    match Operation::try_from(place) {
+        Ok(operation) => run(to, operation, row, target),
+        Err(e) => write!(to, " {e}"),
     }
-    Ok(())
 }
 
-// Lent where it is made, such an array takes seconds to prove.
-fn large() -> [u8; 524288]
-    ensures { 524288 ≡ length result }
-{
-    [0; 524288]
-}
-
-fn start(to: &mut Vec<u8>, lines: &[u8]) -> io::Result<()> {
-    let mut out = large();
-    let mut space = large();
-    let mut n = [0u64; 4096];
-    let mut w = [0u32; 4096];
-    let mut l = [0i32; 4096];
-    let mut state = [0u64; 4];
-    rows(
-        to, lines, &mut state, &mut out, &mut n, &mut w, &mut l, &mut space,
-    )
+fn answers(alloc: Global, text: &[u8]) -> io::Result<Vec<u8>> {
+    let mut to = Vec::new(alloc);
+    let mut row = Row::new(alloc)?;
+    let mut writer = [0u64; 4];
+    let mut space = vec![in alloc; 0u8; ROOM]?;
+    let mut lines = text
+        .split_inclusive(|byte| *byte == b'\n')
+        .map(|line| line.strip_suffix(b"\n").unwrap_or(line));
+    let names = lines.next().unwrap_or_default();
+    for line in lines {
+        let place = asked(&mut to, names, line, &mut row)?;
+        let room = space.len().min(row.number(0) as usize);
+        let mut target = Target {
+            writer: &mut writer,
+            buf: &mut space[..room],
+        };
+        answer_to(&mut to, place, &row, &mut target)?;
+        to.write_all(b"\n")?;
+    }
+    Ok(to)
 }
 
 fn main(rt: HostRuntime) -> io::Result<()> {
-    let mut lines = Vec::new(rt.alloc());
-    rt.reader().read_to_end(&mut lines)?;
-    let mut answers = Vec::new(rt.alloc());
-    start(&mut answers, &lines)?;
+    let mut text = Vec::new(rt.alloc());
+    rt.reader().read_to_end(&mut text)?;
+    let answers = answers(rt.alloc(), &text)?;
     io::writer(&rt).write_all(&answers)
 }

@@ -1,8 +1,0 @@
-use Rattle.std.specs.Prelude.{◌-◌, ◌≤◌}
-use Rattle.rows.proofs.forms.chunk.Given as goal
-
-abbrev pub invariant-loop-i : goal.invariant-loop-i
-invariant-loop-i l = l.i ≤ l.most
-
-abbrev pub decreases-loop-i : goal.decreases-loop-i
-decreases-loop-i l = l.most - l.i
