@@ -12,46 +12,36 @@ use rtcp::receive::{RtcpReception, RtcpReceptionBlock, RtcpReceptionUpdate};
 use rtcp::write_compound::RtcpCall;
 use rtcp::write_result::RtcpWritten;
 use std::io;
-use std::io::Write;
 
-/// What an operation answers, as numbers.
+// What an operation answers, as numbers in their order.
 pub trait Answer {
     fn print(&self, to: &mut Vec<u8>) -> io::Result<()>;
 }
 
 impl Answer for RtcpRr {
     fn print(&self, to: &mut Vec<u8>) -> io::Result<()> {
+        numbers(to, &[self.number, self.first, self.second])?;
         numbers(
             to,
             &[
-                self.number,
-                self.first,
-                self.second,
                 self.ssrc,
                 self.n_reports,
                 self.extension,
                 self.extension_len,
-                self.body,
-                self.padding_len,
             ],
-        )
+        )?;
+        numbers(to, &[self.body, self.padding_len])
     }
 }
 
 impl Answer for RtcpSr {
     fn print(&self, to: &mut Vec<u8>) -> io::Result<()> {
+        numbers(to, &[self.number, self.first, self.second])?;
+        numbers(to, &[self.ssrc, self.ntp_timestamp, self.rtp_timestamp])?;
+        numbers(to, &[self.packet_count, self.octet_count, self.n_reports])?;
         numbers(
             to,
             &[
-                self.number,
-                self.first,
-                self.second,
-                self.ssrc,
-                self.ntp_timestamp,
-                self.rtp_timestamp,
-                self.packet_count,
-                self.octet_count,
-                self.n_reports,
                 self.extension,
                 self.extension_len,
                 self.body,
@@ -63,43 +53,25 @@ impl Answer for RtcpSr {
 
 impl Answer for RtcpApp {
     fn print(&self, to: &mut Vec<u8>) -> io::Result<()> {
-        numbers(
-            to,
-            &[
-                self.number,
-                self.first,
-                self.second,
-                self.subtype,
-                self.ssrc,
-                self.name,
-                self.name_len,
-                self.data,
-                self.data_len,
-                self.body,
-                self.padding_len,
-            ],
-        )
+        numbers(to, &[self.number, self.first, self.second])?;
+        numbers(to, &[self.subtype, self.ssrc, self.name, self.name_len])?;
+        numbers(to, &[self.data, self.data_len, self.body, self.padding_len])
     }
 }
 
 impl Answer for RtcpBye {
     fn print(&self, to: &mut Vec<u8>) -> io::Result<()> {
+        numbers(to, &[self.number, self.first, self.second])?;
         numbers(
             to,
             &[
-                self.number,
-                self.first,
-                self.second,
                 self.n_sources,
                 self.has_reason,
                 self.reason,
                 self.reason_len,
-                self.tail,
-                self.tail_len,
-                self.body,
-                self.padding_len,
             ],
-        )
+        )?;
+        numbers(to, &[self.tail, self.tail_len, self.body, self.padding_len])
     }
 }
 
@@ -111,89 +83,44 @@ impl Answer for RtcpSource {
 
 impl Answer for RtcpSdes {
     fn print(&self, to: &mut Vec<u8>) -> io::Result<()> {
-        numbers(
-            to,
-            &[
-                self.number,
-                self.first,
-                self.second,
-                self.n_chunks,
-                self.has_cname,
-                self.body,
-                self.padding_len,
-            ],
-        )
+        numbers(to, &[self.number, self.first, self.second, self.n_chunks])?;
+        numbers(to, &[self.has_cname, self.body, self.padding_len])
     }
 }
 
 impl Answer for RtcpItem {
     fn print(&self, to: &mut Vec<u8>) -> io::Result<()> {
-        numbers(
-            to,
-            &[
-                self.number,
-                self.first,
-                self.second,
-                self.type_,
-                self.length,
-                self.prefix,
-                self.prefix_len,
-                self.value,
-                self.value_len,
-            ],
-        )
+        numbers(to, &[self.number, self.first, self.second])?;
+        numbers(to, &[self.type_, self.length, self.prefix, self.prefix_len])?;
+        numbers(to, &[self.value, self.value_len])
     }
 }
 
 impl Answer for RtcpPart {
     fn print(&self, to: &mut Vec<u8>) -> io::Result<()> {
-        numbers(
-            to,
-            &[self.number, self.first, self.second, self.offset, self.len],
-        )
+        numbers(to, &[self.number, self.first, self.second])?;
+        numbers(to, &[self.offset, self.len])
     }
 }
 
 impl Answer for RtcpChunk {
     fn print(&self, to: &mut Vec<u8>) -> io::Result<()> {
-        numbers(
-            to,
-            &[
-                self.number,
-                self.first,
-                self.second,
-                self.ssrc,
-                self.length,
-                self.cname,
-            ],
-        )
+        numbers(to, &[self.number, self.first, self.second])?;
+        numbers(to, &[self.ssrc, self.length, self.cname])
     }
 }
 
 impl Answer for RtcpChunkWalk {
     fn print(&self, to: &mut Vec<u8>) -> io::Result<()> {
-        numbers(
-            to,
-            &[self.number, self.first, self.second, self.at, self.end],
-        )
+        numbers(to, &[self.number, self.first, self.second])?;
+        numbers(to, &[self.at, self.end])
     }
 }
 
 impl Answer for RtcpChunkStep {
     fn print(&self, to: &mut Vec<u8>) -> io::Result<()> {
-        numbers(
-            to,
-            &[
-                self.number,
-                self.first,
-                self.second,
-                self.ssrc,
-                self.length,
-                self.cname,
-                self.at,
-                self.end,
-            ],
-        )
+        numbers(to, &[self.number, self.first, self.second, self.ssrc])?;
+        numbers(to, &[self.length, self.cname, self.at, self.end])
     }
 }
 
@@ -205,21 +132,9 @@ impl Answer for RtcpItemWalk {
 
 impl Answer for RtcpItemStep {
     fn print(&self, to: &mut Vec<u8>) -> io::Result<()> {
-        numbers(
-            to,
-            &[
-                self.number,
-                self.first,
-                self.second,
-                self.type_,
-                self.length,
-                self.prefix,
-                self.prefix_len,
-                self.value,
-                self.value_len,
-                self.at,
-            ],
-        )
+        numbers(to, &[self.number, self.first, self.second])?;
+        numbers(to, &[self.type_, self.length, self.prefix, self.prefix_len])?;
+        numbers(to, &[self.value, self.value_len, self.at])
     }
 }
 
@@ -237,32 +152,25 @@ impl Answer for RtcpWalk {
 
 impl Answer for RtcpStep {
     fn print(&self, to: &mut Vec<u8>) -> io::Result<()> {
-        numbers(
-            to,
-            &[
-                self.number,
-                self.first,
-                self.second,
-                self.kind,
-                self.packet_type,
-                self.count,
-                self.offset,
-                self.len,
-                self.body,
-                self.padding_len,
-                self.ssrc,
-                self.ntp_timestamp,
-                self.rtp_timestamp,
-                self.packet_count,
-                self.octet_count,
-                self.extension,
-                self.has_cname,
-                self.has_reason,
-                self.reason,
-                self.reason_len,
-                self.at,
-            ],
-        )
+        numbers(to, &[self.number, self.first, self.second])?;
+        numbers(to, &[self.kind, self.packet_type, self.count, self.offset])?;
+        numbers(to, &[self.len, self.body, self.padding_len, self.ssrc])?;
+        numbers(to, &[self.ntp_timestamp, self.rtp_timestamp])?;
+        numbers(to, &[self.packet_count, self.octet_count])?;
+        numbers(to, &[self.extension, self.has_cname, self.has_reason])?;
+        numbers(to, &[self.reason, self.reason_len, self.at])
+    }
+}
+
+impl Answer for RtcpWritten {
+    fn print(&self, to: &mut Vec<u8>) -> io::Result<()> {
+        numbers(to, &[self.number, self.first, self.second, self.size])
+    }
+}
+
+impl Answer for RtcpCall {
+    fn print(&self, to: &mut Vec<u8>) -> io::Result<()> {
+        numbers(to, &[self.number, self.first, self.second])
     }
 }
 
@@ -273,37 +181,29 @@ impl Answer for RtcpBlock {
     }
 }
 
-pub fn print_figures(to: &mut Vec<u8>, r: &RtcpBlock) -> io::Result<()> {
-    numbers(to, &[r.ssrc, r.fraction_lost])?;
-    write!(to, " {}", r.cumulative_lost)?;
+pub fn print_figures(to: &mut Vec<u8>, block: &RtcpBlock) -> io::Result<()> {
+    numbers(to, &[block.ssrc, block.fraction_lost])?;
+    numbers(to, &[block.cumulative_lost])?;
     numbers(
         to,
-        &[
-            r.extended_sequence_number,
-            r.interarrival_jitter,
-            r.last_sender_report_timestamp,
-            r.delay_since_last_sender_report_timestamp,
-        ],
-    )
+        &[block.extended_sequence_number, block.interarrival_jitter],
+    )?;
+    numbers(to, &[block.last_sender_report_timestamp])?;
+    numbers(to, &[block.delay_since_last_sender_report_timestamp])
 }
 
 impl Answer for RtcpReception {
     fn print(&self, to: &mut Vec<u8>) -> io::Result<()> {
+        numbers(to, &[self.max_seq])?;
         numbers(
             to,
-            &[
-                u64::from(self.max_seq),
-                u64::from(self.cycles),
-                u64::from(self.base_seq),
-                u64::from(self.bad_seq),
-                u64::from(self.probation),
-                u64::from(self.received),
-                u64::from(self.expected_prior),
-                u64::from(self.received_prior),
-                u64::from(self.transit),
-                u64::from(self.jitter),
-            ],
-        )
+            &[self.cycles, self.base_seq, self.bad_seq, self.probation],
+        )?;
+        numbers(
+            to,
+            &[self.received, self.expected_prior, self.received_prior],
+        )?;
+        numbers(to, &[self.transit, self.jitter])
     }
 }
 
@@ -319,17 +219,5 @@ impl Answer for RtcpReceptionBlock {
         self.reception.print(to)?;
         numbers(to, &[self.in_probation])?;
         self.block.print(to)
-    }
-}
-
-impl Answer for RtcpWritten {
-    fn print(&self, to: &mut Vec<u8>) -> io::Result<()> {
-        numbers(to, &[self.number, self.first, self.second, self.size])
-    }
-}
-
-impl Answer for RtcpCall {
-    fn print(&self, to: &mut Vec<u8>) -> io::Result<()> {
-        numbers(to, &[self.number, self.first, self.second])
     }
 }

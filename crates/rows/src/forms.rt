@@ -1,8 +1,6 @@
 // Rows of reports whose blocks are lent as records, and of the walk over chunks that holds its bytes.
-ghost use Rattle.std.specs.Prelude.{◌<◌};
-
 use super::answer::Answer;
-use super::operation::{Holding, Way};
+use super::operation::{Walking, Way};
 use super::print::numbers;
 use super::row::Row;
 use super::write::{Blocks, Target};
@@ -15,23 +13,21 @@ use sdes_walk::SdesWalk;
 use std::alloc::{AllocError, Global};
 use std::io;
 
-/// So many blocks are lent at most.
+// So many blocks are lent at most.
 const MOST: usize = 33;
 
-// A number that a list leaves out is 0.
-fn record(blocks: &Blocks, i: usize, fraction_lost: u8) -> ReportBlock
-    requires { i < 33 }
-{
-    let at = i * 5;
-    let word = |i: usize| blocks.words.get(i).copied().unwrap_or(0);
+// A block, its loss and its five words; what a list leaves out is 0.
+fn record(blocks: &Blocks, i: usize, fraction_lost: u8) -> ReportBlock {
+    let words = blocks.words.chunks(5).nth(i).unwrap_or_default();
+    let word = |place: usize| words.get(place).copied().unwrap_or(0);
     ReportBlock {
-        ssrc: word(at),
+        ssrc: word(0),
         fraction_lost,
         cumulative_lost: blocks.losses.get(i).copied().unwrap_or(0),
-        extended_sequence_number: word(at + 1),
-        interarrival_jitter: word(at + 2),
-        last_sender_report_timestamp: word(at + 3),
-        delay_since_last_sender_report_timestamp: word(at + 4),
+        extended_sequence_number: word(1),
+        interarrival_jitter: word(2),
+        last_sender_report_timestamp: word(3),
+        delay_since_last_sender_report_timestamp: word(4),
     }
 }
 
@@ -48,21 +44,17 @@ fn records(blocks: &Blocks) -> Result<Vec<ReportBlock>, AllocError> {
 fn called(to: &mut Vec<u8>, r: Call) -> io::Result<()> {
     let answer = r.answer;
     match answer {
-        Outcome::Done => numbers(to, &[0, 0, 0])?,
+        Outcome::Done => numbers(to, &[0u64, 0, 0])?,
         Outcome::Refused(e) => {
             let code = e.code();
             numbers(to, &[code.number, code.first, code.second])?;
         }
     }
     let w = r.writer;
+    numbers(to, &[w.len])?;
     numbers(
         to,
-        &[
-            w.len as u64,
-            u64::from(w.padded),
-            u64::from(w.cname),
-            u64::from(w.closed),
-        ],
+        &[u64::from(w.padded), u64::from(w.cname), u64::from(w.closed)],
     )
 }
 
@@ -89,8 +81,8 @@ pub fn report(
     match way {
         Way::Alone => {
             let size = records::calculate_size(reporter, &blocks, padding);
-            let answer = records::write_into(target.buf, reporter, &blocks, padding);
             RtcpWritten::from_written(size).print(to)?;
+            let answer = records::write_into(target.buf, reporter, &blocks, padding);
             RtcpWritten::from_written(answer).print(to)
         }
         Way::Added => {
@@ -103,7 +95,7 @@ pub fn report(
 
 fn opened(to: &mut Vec<u8>, answer: OpenedChunks) -> io::Result<()> {
     match answer {
-        OpenedChunks::Walk(walk) => { numbers(to, &[0, 0, 0, walk.at as u64, walk.end as u64]) }
+        OpenedChunks::Walk(walk) => { numbers(to, &[0, 0, 0, walk.at, walk.end]) }
         OpenedChunks::Refused(e) => {
             let code = e.code();
             numbers(to, &[code.number, code.first, code.second, 0, 0])
@@ -115,9 +107,8 @@ fn opened(to: &mut Vec<u8>, answer: OpenedChunks) -> io::Result<()> {
 fn stepped(to: &mut Vec<u8>, answer: SteppedChunk, at: u64, end: u64) -> io::Result<()> {
     match answer {
         SteppedChunk::Chunk(chunk, next) => {
-            numbers(to, &[0, 0, 0, u64::from(chunk.ssrc)])?;
-            numbers(to, &[chunk.length as u64, chunk.cname as u64])?;
-            numbers(to, &[next.at as u64, next.end as u64])
+            numbers(to, &[0, 0, 0, chunk.ssrc])?;
+            numbers(to, &[chunk.length, chunk.cname, next.at, next.end])
         }
         SteppedChunk::Refused(e) => {
             let code = e.code();
@@ -142,13 +133,13 @@ fn chunk(s: &[u8], n: u64) -> SteppedChunk {
 }
 
 // Open; a step `AT END`; chunk `I 0`, whose walk on a refusal is I and 0.
-pub fn walk(to: &mut Vec<u8>, holding: Holding, row: &Row) -> io::Result<()> {
+pub fn walk(to: &mut Vec<u8>, walking: Walking, row: &Row) -> io::Result<()> {
     let s = row.bytes();
-    let at = row.number(0);
-    let end = row.number(1);
-    match holding {
-        Holding::Open => opened(to, SdesWalk::open(s).answer),
-        Holding::Step => {
+    let at: u64 = row.number(0);
+    let end: u64 = row.number(1);
+    match walking {
+        Walking::Open => opened(to, SdesWalk::open(s).answer),
+        Walking::Step => {
             let position = ChunkWalk {
                 at: at as usize,
                 end: end as usize,
@@ -156,6 +147,6 @@ pub fn walk(to: &mut Vec<u8>, holding: Holding, row: &Row) -> io::Result<()> {
             let walk = SdesWalk { data: s, position };
             stepped(to, walk.step().answer, at, end)
         }
-        Holding::Chunk => stepped(to, chunk(s, at), at, end),
+        Walking::Chunk => stepped(to, chunk(s, at), at, end),
     }
 }

@@ -19,10 +19,10 @@ use std::io;
 use std::io::{Read, Write};
 use write::Target;
 
-/// The most bytes that a buffer has.
+// The most bytes that a buffer has.
 const ROOM: usize = 524288;
 
-/// The place of a word among the names; how many there are where it is none of them.
+// The place of a word among the names; how many there are where it is none of them.
 fn place_of(word: &[u8], names: &[u8]) -> usize {
     names
         .split_inclusive(is_blank)
@@ -44,7 +44,7 @@ fn run(to: &mut Vec<u8>, operation: Operation, row: &Row, target: &mut Target) -
     match operation {
         Operation::Read(reading) => read::row(to, reading, row),
         Operation::Part(part) => read::part(to, part, row.bytes()),
-        Operation::Hold(holding) => forms::walk(to, holding, row),
+        Operation::Walk(walking) => forms::walk(to, walking, row),
         Operation::Write(writing) => write::row(to, writing, row, target),
         Operation::Receive(receiving) => receive::row(to, receiving, row),
     }
@@ -68,7 +68,7 @@ fn answers(alloc: Global, text: &[u8]) -> io::Result<Vec<u8>> {
     let names = lines.next().unwrap_or_default();
     for line in lines {
         let place = asked(&mut to, names, line, &mut row)?;
-        let room = space.len().min(row.number(0) as usize);
+        let room = space.len().min(row.number::<u64>(0) as usize);
         let mut target = Target {
             writer: &mut writer,
             buf: &mut space[..room],

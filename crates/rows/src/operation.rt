@@ -6,12 +6,12 @@ use std::fmt;
 pub enum Operation {
     Read(Reading),
     Part(Part),
-    Hold(Holding),
+    Walk(Walking),
     Write(Writing),
     Receive(Receiving),
 }
 
-/// The C functions that read.
+// The C functions that read.
 #[derive(Clone, Copy, Debug, PartialEq, Eq)]
 pub enum Reading {
     BlockParse,
@@ -35,7 +35,7 @@ pub enum Reading {
     WalkStep,
 }
 
-/// A part of the packet or the item that the bytes are.
+// A part of the packet or the item that the bytes are.
 #[derive(Clone, Copy, Debug, PartialEq, Eq)]
 pub enum Part {
     RrExtension,
@@ -55,15 +55,15 @@ pub enum Part {
     ItemPrefix,
 }
 
-/// The walk over chunks that holds its bytes: opened, stepped from a place, or stepped from its start on.
+// The walk over chunks that holds its bytes: opened, stepped from a place, or stepped from its start on.
 #[derive(Clone, Copy, Debug, PartialEq, Eq)]
-pub enum Holding {
+pub enum Walking {
     Open,
     Step,
     Chunk,
 }
 
-/// The functions that write, and those of the compound writer.
+// The functions that write, and those of the compound writer.
 #[derive(Clone, Copy, Debug, PartialEq, Eq)]
 pub enum Writing {
     Chunk,
@@ -75,7 +75,7 @@ pub enum Writing {
     Lookup,
 }
 
-/// A packet to be written; of a report, whether its blocks are given as lists or as records.
+// A packet to be written; of a report, whether its blocks are given as lists or as records.
 #[derive(Clone, Copy, Debug, PartialEq, Eq)]
 pub enum Packet {
     Rr,
@@ -87,14 +87,14 @@ pub enum Packet {
     SrRecords,
 }
 
-/// Whether a packet is written alone, or added to the compound.
+// Whether a packet is written alone, or added to the compound.
 #[derive(Clone, Copy, Debug, PartialEq, Eq)]
 pub enum Way {
     Alone,
     Added,
 }
 
-/// The figures of a reception.
+// The figures of a reception.
 #[derive(Clone, Copy, Debug, PartialEq, Eq)]
 pub enum Receiving {
     New,
@@ -103,7 +103,7 @@ pub enum Receiving {
     History,
 }
 
-/// The operations in the order in which the first line names them.
+// The operations in the order in which the first line names them.
 const IN_ORDER: [Operation; 61] = [
     Operation::Read(Reading::BlockParse),
     Operation::Read(Reading::RrReportBlock),
@@ -139,9 +139,9 @@ const IN_ORDER: [Operation; 61] = [
     Operation::Part(Part::UnknownPadding),
     Operation::Part(Part::ItemValue),
     Operation::Part(Part::ItemPrefix),
-    Operation::Hold(Holding::Open),
-    Operation::Hold(Holding::Step),
-    Operation::Hold(Holding::Chunk),
+    Operation::Walk(Walking::Open),
+    Operation::Walk(Walking::Step),
+    Operation::Walk(Walking::Chunk),
     Operation::Write(Writing::Chunk),
     Operation::Write(Writing::Item),
     Operation::Write(Writing::Packet(Packet::Rr, Way::Alone)),
@@ -168,7 +168,7 @@ const IN_ORDER: [Operation; 61] = [
     Operation::Receive(Receiving::History),
 ];
 
-/// A place that no operation has.
+// A place that no operation has.
 #[derive(Clone, Copy, Debug, PartialEq, Eq)]
 pub struct NoSuchOperation;
 
@@ -189,7 +189,7 @@ impl TryFrom<usize> for Operation {
 }
 
 impl Writing {
-    /// Whether it goes on with what the buffer has; every other one finds stale bytes there.
+    // Whether it goes on with what the buffer has; every other one finds stale bytes there.
     pub fn goes_on(self) -> bool {
         matches!(
             self,

@@ -2,10 +2,10 @@
 use std::io::Write;
 use std::{fmt, io};
 
-/// Of more equal bytes in a row, the rest is counted.
+// So many equal bytes in a row are shown, and the rest is counted.
 const SHOWN: usize = 8;
 
-/// Every byte; of more than eight that are the same, how many more there are.
+// Every byte; of more than eight that are the same, how many more there are.
 #[derive(Clone, Copy)]
 struct Hex<'a>(&'a [u8]);
 
@@ -19,7 +19,7 @@ impl fmt::Display for Hex<'_> {
     }
 }
 
-/// Hex that are the same.
+// Bytes that are the same.
 #[derive(Clone, Copy)]
 struct Run<'a>(&'a [u8]);
 
@@ -40,7 +40,7 @@ pub fn bytes(to: &mut Vec<u8>, s: &[u8]) -> io::Result<()> {
     write!(to, "{}", Hex(s))
 }
 
-pub fn numbers(to: &mut Vec<u8>, list: &[u64]) -> io::Result<()> {
+pub fn numbers<T: fmt::Display>(to: &mut Vec<u8>, list: &[T]) -> io::Result<()> {
     for number in list {
         write!(to, " {number}")?;
     }

@@ -48,7 +48,7 @@ pub fn part(to: &mut Vec<u8>, part: Part, s: &[u8]) -> io::Result<()> {
 
 pub fn row(to: &mut Vec<u8>, reading: Reading, row: &Row) -> io::Result<()> {
     let s = row.bytes();
-    let at = row.number(0);
+    let at: u64 = row.number(0);
     match reading {
         Reading::BlockParse => read_report::rtcp_block_parse(s).print(to),
         Reading::RrReportBlock => read_report::rtcp_rr_report_block(s, at).print(to),

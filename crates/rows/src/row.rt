@@ -3,17 +3,17 @@ ghost use Rattle.std.specs.Prelude.{◌<◌};
 
 use std::alloc::{AllocError, Global};
 
-/// As many numbers, and as many bytes, are kept.
-const NUMBERS: usize = 4096;
+// How many numbers and bytes of a row count.
+pub const NUMBERS: usize = 4096;
 
 const BYTES: usize = 524288;
 
-/// A call is given, and a stale buffer has, no more bytes.
+// Up to this place bytes are given to a call, and are stale in a buffer.
 pub const SPACE: usize = 262400;
 
-/// A decimal number with its sign.
+// A decimal number with its sign. Each width takes what fits.
 #[derive(Clone, Copy, Debug, Default, PartialEq, Eq)]
-struct Number {
+pub struct Number {
     magnitude: u64,
     negative: bool,
 }
@@ -29,30 +29,40 @@ impl Number {
             negative: digits.len() < word.len(),
         })
     }
+}
 
-    /// Its lowest 32 bits.
-    fn word(self) -> u32 {
-        (self.magnitude % 4294967296) as u32
+impl From<Number> for u64 {
+    fn from(number: Number) -> u64 {
+        number.magnitude
     }
+}
 
-    /// 31 bits of it, with the sign.
-    fn loss(self) -> i32 {
-        if self.negative {
-            !((self.magnitude.wrapping_sub(1) % 2147483648) as i32)
+// Its lowest 32 bits.
+impl From<Number> for u32 {
+    fn from(number: Number) -> u32 {
+        (number.magnitude % 4294967296) as u32
+    }
+}
+
+// Its lowest 31 bits, with the sign.
+impl From<Number> for i32 {
+    fn from(number: Number) -> i32 {
+        if number.negative {
+            !((number.magnitude.wrapping_sub(1) % 2147483648) as i32)
         } else {
-            (self.magnitude % 2147483648) as i32
+            (number.magnitude % 2147483648) as i32
         }
     }
 }
 
-// The lowest four bits of each byte are a digit.
+// Each byte's lowest four bits are a digit. By hand: `parse` refuses other bytes than digits, and more than 64 bits.
 fn decimal(digits: &[u8]) -> u64 {
     digits.iter().fold(0u64, |n, digit| {
         (n % 1844674407370955162 * 10).wrapping_add(u64::from(*digit % 16))
     })
 }
 
-// The digits above 9 are letters.
+// By hand: `char::to_digit` has no value for a byte that is no digit.
 fn hexadecimal(digit: u8) -> u8
     ensures { result < 16 }
 {
@@ -67,14 +77,14 @@ pub fn is_blank(byte: &u8) -> bool {
     *byte == b' '
 }
 
-/// A part of a list, from one place to another, cut where the list ends.
+// A part of a list, from one place to another, cut where the list ends.
 fn between<T>(list: &[T], from: u64, to: u64) -> &[T] {
     let end = list.len().min(to as usize);
     let start = end.min(from as usize);
     &list[start..end]
 }
 
-/// The numbers and the bytes of a row. A number that the row leaves out is that of an earlier row.
+// The numbers and the bytes of a row. A number that the row leaves out is that of an earlier row.
 #[derive(Drop)]
 pub struct Row {
     numbers: Vec<Number>,
@@ -89,7 +99,7 @@ impl Row {
         })
     }
 
-    /// Takes what the words of a line give.
+    // Takes what the words of a line give.
     pub fn read(&mut self, line: &[u8]) -> Result<(), AllocError> {
         let numbers = line.split(is_blank).filter_map(Number::parse);
         for (place, number) in self.numbers.iter_mut().zip(numbers) {
@@ -131,41 +141,24 @@ impl Row {
         self.bytes.resize(len.min(BYTES), last)
     }
 
-    /// The number at a place, 0 past the last one.
-    pub fn number(&self, place: usize) -> u64 {
-        self.numbers.get(place).map_or(0, |number| number.magnitude)
+    // The number at a place, 0 past the last one.
+    pub fn number<T: From<Number>>(&self, place: usize) -> T {
+        T::from(self.numbers.get(place).copied().unwrap_or_default())
     }
 
-    pub fn word(&self, place: usize) -> u32 {
-        self.numbers.get(place).map_or(0, |number| number.word())
+    // The numbers from one place to another.
+    pub fn list<T: From<Number> + Drop>(&self, from: u64, to: u64) -> Result<Vec<T>, AllocError> {
+        between(&self.numbers, from, to)
+            .iter()
+            .map(|number| T::from(*number))
+            .collect(*self.numbers.allocator())
     }
 
     pub fn bytes(&self) -> &[u8] {
         &self.bytes
     }
 
-    pub fn numbers(&self, from: u64, to: u64) -> Result<Vec<u64>, AllocError> {
-        between(&self.numbers, from, to)
-            .iter()
-            .map(|number| number.magnitude)
-            .collect(*self.numbers.allocator())
-    }
-
-    pub fn words(&self, from: u64, to: u64) -> Result<Vec<u32>, AllocError> {
-        between(&self.numbers, from, to)
-            .iter()
-            .map(|number| number.word())
-            .collect(*self.numbers.allocator())
-    }
-
-    pub fn losses(&self, from: u64, to: u64) -> Result<Vec<i32>, AllocError> {
-        between(&self.numbers, from, to)
-            .iter()
-            .map(|number| number.loss())
-            .collect(*self.numbers.allocator())
-    }
-
-    /// Two parts of the bytes: up to a place, and from there on.
+    // Two parts of the bytes: up to a place, and from there on.
     pub fn halves(&self, place: u64) -> (&[u8], &[u8]) {
         (
             between(&self.bytes, 0, place),

@@ -12,14 +12,14 @@ use rtcp::{read_lookup, write_app, write_bye, write_compound, write_report, writ
 use std::alloc::AllocError;
 use std::io;
 
-/// What a call writes to, and what stays for the next one: the compound writer, and a buffer.
+// What a call writes to, and what stays for the next one: the compound writer, and a buffer.
 #[derive(Drop)]
 pub struct Target<'a> {
     pub writer: &'a mut [u64; 4],
     pub buf: &'a mut [u8],
 }
 
-/// The blocks of a report as the C functions take them, and the padding.
+// The blocks of a report as the C functions take them, and the padding.
 #[derive(Drop)]
 pub struct Blocks<'a> {
     pub fractions: &'a [u8],
@@ -28,35 +28,35 @@ pub struct Blocks<'a> {
     pub padding: u64,
 }
 
-impl Row {
-    // The losses begin at a place, the words follow.
-    fn blocks(&self, losses: u64, words: u64, end: u64) -> Result<Blocks<'_>, AllocError> {
+impl<'a> Blocks<'a> {
+    // The losses begin at a place, and the words follow.
+    fn of(row: &'a Row, losses: u64, words: u64, end: u64) -> Result<Blocks<'a>, AllocError> {
         Ok(Blocks {
-            fractions: self.bytes(),
-            losses: self.losses(losses, words)?,
-            words: self.words(words, end)?,
-            padding: self.number(1),
+            fractions: row.bytes(),
+            losses: row.list(losses, words)?,
+            words: row.list(words, end)?,
+            padding: row.number(1),
         })
     }
 
     // `ROOM PADDING SSRC LOSSES WORDS`, then these; the bytes are the fractions.
-    fn rr_blocks(&self) -> Result<Blocks<'_>, AllocError> {
-        self.blocks(5, self.number(3), self.number(4))
+    fn of_rr(row: &'a Row) -> Result<Blocks<'a>, AllocError> {
+        Blocks::of(row, 5, row.number(3), row.number(4))
     }
 
     // `ROOM PADDING SSRC NTP RTP PACKETS OCTETS LOSSES WORDS`, then these.
-    fn sr_blocks(&self) -> Result<Blocks<'_>, AllocError> {
-        self.blocks(9, self.number(7), self.number(8))
+    fn of_sr(row: &'a Row) -> Result<Blocks<'a>, AllocError> {
+        Blocks::of(row, 9, row.number(7), row.number(8))
     }
+}
 
-    fn sender_info(&self) -> SenderInfo {
-        SenderInfo {
-            ssrc: self.word(2),
-            ntp_timestamp: self.number(3),
-            rtp_timestamp: self.word(4),
-            packet_count: self.word(5),
-            octet_count: self.word(6),
-        }
+fn sender_info(row: &Row) -> SenderInfo {
+    SenderInfo {
+        ssrc: row.number(2),
+        ntp_timestamp: row.number(3),
+        rtp_timestamp: row.number(4),
+        packet_count: row.number(5),
+        octet_count: row.number(6),
     }
 }
 
@@ -67,13 +67,13 @@ fn called(to: &mut Vec<u8>, call: RtcpCall, writer: &[u64; 4]) -> io::Result<()>
 }
 
 fn rr(to: &mut Vec<u8>, way: Way, row: &Row, target: &mut Target) -> io::Result<()> {
-    let ssrc = row.word(2);
+    let ssrc: u32 = row.number(2);
     let Blocks {
         fractions,
         losses,
         words,
         padding,
-    } = row.rr_blocks()?;
+    } = Blocks::of_rr(row)?;
     match way {
         Way::Alone => {
             write_report::rtcp_rr_size(fractions, &losses, &words, padding).print(to)?;
@@ -104,13 +104,13 @@ fn sr(to: &mut Vec<u8>, way: Way, row: &Row, target: &mut Target) -> io::Result<
 }
 
 fn sr_alone(to: &mut Vec<u8>, row: &Row, buf: &mut [u8]) -> io::Result<()> {
-    let info = row.sender_info();
+    let info = sender_info(row);
     let Blocks {
         fractions,
         losses,
         words,
         padding,
-    } = row.sr_blocks()?;
+    } = Blocks::of_sr(row)?;
     write_report::rtcp_sr_size(fractions, &losses, &words, padding).print(to)?;
     write_report::rtcp_sr_write(
         buf,
@@ -128,13 +128,13 @@ fn sr_alone(to: &mut Vec<u8>, row: &Row, buf: &mut [u8]) -> io::Result<()> {
 }
 
 fn sr_added(to: &mut Vec<u8>, row: &Row, target: &mut Target) -> io::Result<()> {
-    let info = row.sender_info();
+    let info = sender_info(row);
     let Blocks {
         fractions,
         losses,
         words,
         padding,
-    } = row.sr_blocks()?;
+    } = Blocks::of_sr(row)?;
     let call = write_compound::rtcp_writer_add_sr(
         target.writer,
         target.buf,
@@ -153,11 +153,11 @@ fn sr_added(to: &mut Vec<u8>, row: &Row, target: &mut Target) -> io::Result<()> 
 
 // `ROOM PADDING SSRCS COUNTS PREFIXES VALUES TYPES`, then these; the types are bytes.
 fn sdes(to: &mut Vec<u8>, way: Way, row: &Row, target: &mut Target) -> io::Result<()> {
-    let padding = row.number(1);
-    let ssrcs = row.words(7, row.number(2))?;
-    let counts = row.numbers(row.number(2), row.number(3))?;
-    let prefixes = row.numbers(row.number(3), row.number(4))?;
-    let values = row.numbers(row.number(4), row.number(5))?;
+    let padding: u64 = row.number(1);
+    let ssrcs: Vec<u32> = row.list(7, row.number(2))?;
+    let counts: Vec<u64> = row.list(row.number(2), row.number(3))?;
+    let prefixes: Vec<u64> = row.list(row.number(3), row.number(4))?;
+    let values: Vec<u64> = row.list(row.number(4), row.number(5))?;
     let (types, rest) = row.halves(row.number(6));
     match way {
         Way::Alone => {
@@ -188,8 +188,8 @@ fn sdes(to: &mut Vec<u8>, way: Way, row: &Row, target: &mut Target) -> io::Resul
 
 // `ROOM PADDING END`, then the sources; the reason is the bytes.
 fn bye(to: &mut Vec<u8>, way: Way, row: &Row, target: &mut Target) -> io::Result<()> {
-    let padding = row.number(1);
-    let sources = row.words(3, row.number(2))?;
+    let padding: u64 = row.number(1);
+    let sources: Vec<u32> = row.list(3, row.number(2))?;
     let reason = row.bytes();
     match way {
         Way::Alone => {
@@ -211,9 +211,9 @@ fn bye(to: &mut Vec<u8>, way: Way, row: &Row, target: &mut Target) -> io::Result
 
 // `ROOM PADDING SUBTYPE SSRC NAME`; the bytes are the name and the data.
 fn app(to: &mut Vec<u8>, way: Way, row: &Row, target: &mut Target) -> io::Result<()> {
-    let padding = row.number(1);
-    let subtype = row.number(2);
-    let ssrc = row.word(3);
+    let padding: u64 = row.number(1);
+    let subtype: u64 = row.number(2);
+    let ssrc: u32 = row.number(3);
     let (name, data) = row.halves(row.number(4));
     match way {
         Way::Alone => {
@@ -249,21 +249,21 @@ fn packet(
         Packet::Bye => bye(to, way, row, target),
         Packet::App => app(to, way, row, target),
         Packet::RrRecords => {
-            let reporter = Reporter::Receiver(row.word(2));
-            forms::report(to, way, reporter, &row.rr_blocks()?, target)
+            let reporter = Reporter::Receiver(row.number(2));
+            forms::report(to, way, reporter, &Blocks::of_rr(row)?, target)
         }
         Packet::SrRecords => {
-            let reporter = Reporter::Sender(row.sender_info());
-            forms::report(to, way, reporter, &row.sr_blocks()?, target)
+            let reporter = Reporter::Sender(sender_info(row));
+            forms::report(to, way, reporter, &Blocks::of_sr(row)?, target)
         }
     }
 }
 
 // `ROOM SSRC PREFIXES VALUES TYPES`, then these.
 fn chunk(to: &mut Vec<u8>, row: &Row, buf: &mut [u8]) -> io::Result<()> {
-    let ssrc = row.word(1);
-    let prefixes = row.numbers(5, row.number(2))?;
-    let values = row.numbers(row.number(2), row.number(3))?;
+    let ssrc: u32 = row.number(1);
+    let prefixes: Vec<u64> = row.list(5, row.number(2))?;
+    let values: Vec<u64> = row.list(row.number(2), row.number(3))?;
     let (types, rest) = row.halves(row.number(4));
     write_sdes::rtcp_chunk_size(types, &prefixes, &values, rest).print(to)?;
     write_sdes::rtcp_chunk_write(buf, ssrc, types, &prefixes, &values, rest).print(to)
@@ -271,7 +271,7 @@ fn chunk(to: &mut Vec<u8>, row: &Row, buf: &mut [u8]) -> io::Result<()> {
 
 // `ROOM TYPE PREFIX`; the bytes are the prefix and the value.
 fn item(to: &mut Vec<u8>, row: &Row, buf: &mut [u8]) -> io::Result<()> {
-    let type_ = (row.number(1) % 256) as u8;
+    let type_ = (row.number::<u64>(1) % 256) as u8;
     let (prefix, value) = row.halves(row.number(2));
     write_sdes::rtcp_item_size(type_, prefix, value).print(to)?;
     write_sdes::rtcp_item_write(buf, type_, prefix, value).print(to)
@@ -280,7 +280,7 @@ fn item(to: &mut Vec<u8>, row: &Row, buf: &mut [u8]) -> io::Result<()> {
 // `ROOM SSRCS`, then these. Of the visits it says whether they are at most the packet's count: no more of them is fixed.
 fn lookup(to: &mut Vec<u8>, row: &Row, buf: &mut [u8]) -> io::Result<()> {
     let s = row.bytes();
-    let ssrcs = row.words(2, row.number(1))?;
+    let ssrcs: Vec<u32> = row.list(2, row.number(1))?;
     let r = read_lookup::rtcp_sdes_lookup(s, &ssrcs, buf);
     let count = s.first().map_or(0, |head| head % 32);
     let bounded = u64::from(r.visits <= u64::from(count));
