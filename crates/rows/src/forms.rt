@@ -3,7 +3,7 @@ use super::answer::Answer;
 use super::operation::{Walking, Way};
 use super::print::numbers;
 use super::row::Row;
-use super::write::{Blocks, Target};
+use super::write::{Blocks, Request};
 use compound_write::writer::{Call, Outcome, Writer};
 use records::Reporter;
 use report::report_block::ReportBlock;
@@ -70,32 +70,34 @@ fn writer_in(state: &[u64; 4]) -> Writer {
 
 // As the C functions that write and add a report; the writer stays as it is.
 pub fn report(
-    to: &mut Vec<u8>,
+    request: &mut Request,
     way: Way,
     reporter: Reporter,
     blocks: &Blocks,
-    target: &mut Target,
 ) -> io::Result<()> {
     let padding = blocks.padding;
     let blocks = records(blocks)?;
     match way {
         Way::Alone => {
             let size = records::calculate_size(reporter, &blocks, padding);
-            RtcpWritten::from_written(size).print(to)?;
-            let answer = records::write_into(target.buf, reporter, &blocks, padding);
-            RtcpWritten::from_written(answer).print(to)
+            RtcpWritten::from_written(size).print(request.to)?;
+            let answer = records::write_into(request.buf, reporter, &blocks, padding);
+            RtcpWritten::from_written(answer).print(request.to)
         }
         Way::Added => {
-            let writer = writer_in(target.writer);
-            let call = records::add_report(writer, target.buf, reporter, &blocks, padding);
-            called(to, call)
+            let writer = writer_in(request.writer);
+            let call = records::add_report(writer, request.buf, reporter, &blocks, padding);
+            called(request.to, call)
         }
     }
 }
 
 fn opened(to: &mut Vec<u8>, answer: OpenedChunks) -> io::Result<()> {
     match answer {
-        OpenedChunks::Walk(walk) => { numbers(to, &[0, 0, 0, walk.at, walk.end]) }
+        OpenedChunks::Walk(walk) => {
+            numbers(to, &[0u64, 0, 0])?;
+            numbers(to, &[walk.at, walk.end])
+        }
         OpenedChunks::Refused(e) => {
             let code = e.code();
             numbers(to, &[code.number, code.first, code.second, 0, 0])

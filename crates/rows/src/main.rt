@@ -17,7 +17,7 @@ use row::{Row, is_blank};
 use std::alloc::Global;
 use std::io;
 use std::io::{Read, Write};
-use write::Target;
+use write::Request;
 
 // The most bytes that a buffer has.
 const ROOM: usize = 524288;
@@ -40,20 +40,21 @@ fn asked(to: &mut Vec<u8>, names: &[u8], line: &[u8], row: &mut Row) -> io::Resu
     Ok(place)
 }
 
-fn run(to: &mut Vec<u8>, operation: Operation, row: &Row, target: &mut Target) -> io::Result<()> {
+fn run(operation: Operation, request: Request) -> io::Result<()> {
+    let row = request.row;
     match operation {
-        Operation::Read(reading) => read::row(to, reading, row),
-        Operation::Part(part) => read::part(to, part, row.bytes()),
-        Operation::Walk(walking) => forms::walk(to, walking, row),
-        Operation::Write(writing) => write::row(to, writing, row, target),
-        Operation::Receive(receiving) => receive::row(to, receiving, row),
+        Operation::Read(reading) => read::row(request.to, reading, row),
+        Operation::Part(part) => read::part(request.to, part, row.bytes()),
+        Operation::Walk(walking) => forms::walk(request.to, walking, row),
+        Operation::Write(writing) => request.write(writing),
+        Operation::Receive(receiving) => receive::row(request.to, receiving, row),
     }
 }
 
-fn answer_to(to: &mut Vec<u8>, place: usize, row: &Row, target: &mut Target) -> io::Result<()> {
+fn answer_at(place: usize, request: Request) -> io::Result<()> {
     match Operation::try_from(place) {
-        Ok(operation) => run(to, operation, row, target),
-        Err(e) => write!(to, " {e}"),
+        Ok(operation) => run(operation, request),
+        Err(e) => write!(request.to, " {e}"),
     }
 }
 
@@ -69,11 +70,13 @@ fn answers(alloc: Global, text: &[u8]) -> io::Result<Vec<u8>> {
     for line in lines {
         let place = asked(&mut to, names, line, &mut row)?;
         let room = space.len().min(row.number::<u64>(0) as usize);
-        let mut target = Target {
+        let request = Request {
+            row: &row,
+            to: &mut to,
             writer: &mut writer,
             buf: &mut space[..room],
         };
-        answer_to(&mut to, place, &row, &mut target)?;
+        answer_at(place, request)?;
         to.write_all(b"\n")?;
     }
     Ok(to)
