@@ -1,4 +1,6 @@
 // What a row can ask for.
+ghost use Rattle.std.specs.Prelude.{◌↔◌, ◌<◌, IsOk};
+
 use std::error::Error;
 use std::fmt;
 
@@ -182,6 +184,8 @@ impl Error for NoSuchOperation {}
 
 impl TryFrom<usize> for Operation {
     type Error = NoSuchOperation;
+
+    ghost try_from_gives = { λ place r. IsOk r ↔ (place < 61) };
 
     fn try_from(place: usize) -> Result<Operation, NoSuchOperation> {
         IN_ORDER.get(place).copied().ok_or(NoSuchOperation)

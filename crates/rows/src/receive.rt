@@ -1,5 +1,5 @@
 // Rows of reception figures: a state is ten numbers, in the order of its fields.
-ghost use Rattle.std.specs.Prelude.{◌<◌};
+ghost use Rattle.std.specs.Prelude.{◌≡◌, ◌%◌, ◌^◌, ◌<◌};
 
 use super::answer::{Answer, print_figures};
 use super::operation::Receiving;
@@ -9,7 +9,9 @@ use rtcp::receive;
 use rtcp::receive::RtcpReception;
 use std::io;
 
-fn low16(a: u32) -> u16 {
+fn low16(a: u32) -> u16
+    ensures { result ≡ a % 2 ^ 16 }
+{
     (a % 65536) as u16
 }
 

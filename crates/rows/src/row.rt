@@ -1,5 +1,5 @@
 // What a row gives: words that one blank sets apart, each a number or bytes.
-ghost use Rattle.std.specs.Prelude.{◌<◌};
+ghost use Rattle.std.specs.Prelude.{◌≡◌, ◌%◌, ◌^◌, ◌<◌};
 
 use std::alloc::{AllocError, Global};
 
@@ -32,6 +32,8 @@ impl Number {
 }
 
 impl From<Number> for u64 {
+    ghost from_gives = { λ number r. r ≡ number.magnitude };
+
     fn from(number: Number) -> u64 {
         number.magnitude
     }
@@ -39,6 +41,8 @@ impl From<Number> for u64 {
 
 // Its lowest 32 bits.
 impl From<Number> for u32 {
+    ghost from_gives = { λ number r. r ≡ number.magnitude % 2 ^ 32 };
+
     fn from(number: Number) -> u32 {
         (number.magnitude % 4294967296) as u32
     }
