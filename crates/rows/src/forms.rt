@@ -1,14 +1,16 @@
 // Rows of reports whose blocks are lent as records, and of the walk over chunks that holds its bytes.
+use sdes_chunk::chunk::SdesChunk;
+use utils::error::RtcpParseError;
 use super::answer::Answer;
 use super::operation::{Walking, Way};
 use super::print::numbers;
 use super::row::Row;
 use super::write::{Blocks, Request};
-use compound_write::writer::{Call, Outcome, Writer};
+use compound_write::writer::{Call, Writer};
 use records::Reporter;
 use report::report_block::ReportBlock;
 use rtcp::write_result::RtcpWritten;
-use sdes::sdes::{ChunkWalk, OpenedChunks, SteppedChunk};
+use sdes::sdes::ChunkWalk;
 use sdes_walk::SdesWalk;
 use std::alloc::{AllocError, Global};
 use std::io;
@@ -44,8 +46,8 @@ fn records(blocks: &Blocks) -> Result<Vec<ReportBlock>, AllocError> {
 fn called(to: &mut Vec<u8>, r: Call) -> io::Result<()> {
     let answer = r.answer;
     match answer {
-        Outcome::Done => numbers(to, &[0u64, 0, 0])?,
-        Outcome::Refused(e) => {
+        Ok(()) => numbers(to, &[0u64, 0, 0])?,
+        Err(e) => {
             let code = e.code();
             numbers(to, &[code.number, code.first, code.second])?;
         }
@@ -92,13 +94,13 @@ pub fn report(
     }
 }
 
-fn opened(to: &mut Vec<u8>, answer: OpenedChunks) -> io::Result<()> {
+fn opened(to: &mut Vec<u8>, answer: Result<ChunkWalk, RtcpParseError>) -> io::Result<()> {
     match answer {
-        OpenedChunks::Walk(walk) => {
+        Ok(walk) => {
             numbers(to, &[0u64, 0, 0])?;
             numbers(to, &[walk.at, walk.end])
         }
-        OpenedChunks::Refused(e) => {
+        Err(e) => {
             let code = e.code();
             numbers(to, &[code.number, code.first, code.second, 0, 0])
         }
@@ -106,13 +108,13 @@ fn opened(to: &mut Vec<u8>, answer: OpenedChunks) -> io::Result<()> {
 }
 
 // On a refusal the walk is as it was.
-fn stepped(to: &mut Vec<u8>, answer: SteppedChunk, at: u64, end: u64) -> io::Result<()> {
+fn stepped(to: &mut Vec<u8>, answer: Result<(SdesChunk, ChunkWalk), RtcpParseError>, at: u64, end: u64) -> io::Result<()> {
     match answer {
-        SteppedChunk::Chunk(chunk, next) => {
+        Ok((chunk, next)) => {
             numbers(to, &[0, 0, 0, chunk.ssrc])?;
             numbers(to, &[chunk.length, chunk.cname, next.at, next.end])
         }
-        SteppedChunk::Refused(e) => {
+        Err(e) => {
             let code = e.code();
             numbers(to, &[code.number, code.first, code.second, 0])?;
             numbers(to, &[0, 0, at, end])
@@ -121,12 +123,9 @@ fn stepped(to: &mut Vec<u8>, answer: SteppedChunk, at: u64, end: u64) -> io::Res
 }
 
 // The answer to step n, counted from 0, of a walk that is opened on the bytes; after so many steps as there are bytes it has come to its end.
-fn chunk(s: &[u8], n: u64) -> SteppedChunk {
+fn chunk(s: &[u8], n: u64) -> Result<(SdesChunk, ChunkWalk), RtcpParseError> {
     let first = SdesWalk::open(s);
-    let answer = first.answer;
-    if let OpenedChunks::Refused(e) = answer {
-        return SteppedChunk::Refused(e);
-    }
+    let _ = first.answer?;
     let mut walk = first.walk;
     for _ in 0..s.len().min(n as usize) {
         walk = walk.step().walk;
