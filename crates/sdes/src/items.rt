@@ -153,35 +153,29 @@ struct Next {
 }
 
 // Lays the rows of a chunk's items, up to the zero that ends them.
-fn lay_items(body: &[u8], first: Place, rows: &mut [u32], from: usize) -> Next
-    requires { (length body.now ≤ 262144) × (first.at < length body.now) × RoomFor body.now first rows.old from }
-    ensures { (get_or body.now result.place.at 0 ≡ 0) × ItemsLaid body.now first from rows.old result.place result.i rows.new }
+fn lay_items(body: &[u8], first: Next, rows: &mut [u32]) -> Next
+    requires { (length body.now ≤ 262144) × (first.place.at < length body.now) × RoomFor body.now first.place rows.old first.i }
+    ensures { (get_or body.now result.place.at 0 ≡ 0) × ItemsLaid body.now first.place first.i rows.old result.place result.i rows.new }
 {
-    let ssrc = first.ssrc;
-    let mut at = first.at;
-    let mut i = from;
+    let mut next = first;
     // A loop: how many items there are is what it finds out.
     loop {
-        let end = item::item_end(body, at);
+        let end = item::item_end(body, next.place.at);
         if end == 0 {
-            return Next {
-                place: Place { ssrc, at },
-                i,
-            };
+            return next;
         }
-        let row = item_row(body, Place { ssrc, at });
-        write_row(rows, i, row);
-        at = end;
-        i += ITEM_ROW;
+        write_row(rows, next.i, item_row(body, next.place));
+        next.place.at = end;
+        next.i += ITEM_ROW;
     }
 }
 
 // Lays the rows of a chunk.
-fn lay_chunk(body: &[u8], first: Place, rows: &mut [u32], from: usize) -> Next
-    requires { (length body.now ≤ 262144) × (first.at < length body.now) × RoomFor body.now first rows.old from }
-    ensures { (first.at < result.place.at) × LaidUpTo body.now first from rows.old result.place result.i rows.new }
+fn lay_chunk(body: &[u8], first: Next, rows: &mut [u32]) -> Next
+    requires { (length body.now ≤ 262144) × (first.place.at < length body.now) × RoomFor body.now first.place rows.old first.i }
+    ensures { (first.place.at < result.place.at) × LaidUpTo body.now first.place first.i rows.old result.place result.i rows.new }
 {
-    let end = lay_items(body, first, rows, from);
+    let end = lay_items(body, first, rows);
     let place = lay_end(body, end.place, rows, end.i);
     Next {
         place,
@@ -194,14 +188,14 @@ fn lay_rows(body: &[u8], rows: &mut [u32]) -> usize
     requires { (length body.now ≤ 262144) × RoomFor body.now (chunk_place body.now 4) rows.old 0 }
     ensures { AllLaid body.now rows.old result rows.new }
 {
-    let mut place = chunk_place(body, Sdes::MIN_PACKET_LEN);
-    let mut i = 0;
-    while place.at < body.len() {
-        let next = lay_chunk(body, place, rows, i);
-        place = next.place;
-        i = next.i;
+    let mut next = Next {
+        place: chunk_place(body, Sdes::MIN_PACKET_LEN),
+        i: 0,
+    };
+    while next.place.at < body.len() {
+        next = lay_chunk(body, next, rows);
     }
-    i
+    next.i
 }
 
 // Five numbers for each item: the SSRC of its chunk, its type, the place of its value counted from the packet's start, the length of its
