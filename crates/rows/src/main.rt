@@ -58,6 +58,12 @@ fn answer_at(place: usize, request: Request) -> io::Result<()> {
     }
 }
 
+// So much room as a row names, of what there is.
+fn buffer(space: &mut [u8], room: u64) -> &mut [u8] {
+    let end = (room as usize).min(space.len());
+    &mut space[..end]
+}
+
 fn answers(alloc: Global, text: &[u8]) -> io::Result<Vec<u8>> {
     let mut to = Vec::new(alloc);
     let mut row = Row::new(alloc)?;
@@ -69,12 +75,11 @@ fn answers(alloc: Global, text: &[u8]) -> io::Result<Vec<u8>> {
     let names = lines.next().unwrap_or_default();
     for line in lines {
         let place = asked(&mut to, names, line, &mut row)?;
-        let room = space.len().min(row.number::<u64>(0) as usize);
         let request = Request {
             row: &row,
             to: &mut to,
             writer: &mut writer,
-            buf: &mut space[..room],
+            buf: buffer(&mut space, row.number(0)),
         };
         answer_at(place, request)?;
         to.write_all(b"\n")?;

@@ -1,5 +1,5 @@
 // What a row gives: words that one blank sets apart, each a number or bytes.
-ghost use Rattle.std.specs.Prelude.{◌≡◌, ◌%◌, ◌^◌, ◌<◌};
+ghost use Rattle.std.specs.Prelude.{◌≡◌, ◌%◌, ◌^◌, ◌<◌, take, drop};
 
 use std::alloc::{AllocError, Global};
 
@@ -82,10 +82,11 @@ pub fn is_blank(byte: &u8) -> bool {
 }
 
 // A part of a list, from one place to another, cut where the list ends.
-fn between<T>(list: &[T], from: u64, to: u64) -> &[T] {
-    let end = list.len().min(to as usize);
-    let start = end.min(from as usize);
-    &list[start..end]
+fn between<T>(list: &[T], from: u64, to: u64) -> &[T]
+    ensures { result.now ≡ drop from (take to list.now) }
+{
+    let front = &list[..(to as usize).min(list.len())];
+    &front[(from as usize).min(front.len())..]
 }
 
 // The numbers and the bytes of a row. A number that the row leaves out is that of an earlier row.
