@@ -51,6 +51,7 @@ fn run(operation: Operation, request: Request) -> io::Result<()> {
     }
 }
 
+// Answers what the place asks for, if it is an operation's.
 fn answer_at(place: usize, request: Request) -> io::Result<()> {
     match Operation::try_from(place) {
         Ok(operation) => run(operation, request),
@@ -64,6 +65,7 @@ fn buffer(space: &mut [u8], room: u64) -> &mut [u8] {
     &mut space[..end]
 }
 
+// The answers to the rows behind the first line.
 fn answers(alloc: Global, text: &[u8]) -> io::Result<Vec<u8>> {
     let mut to = Vec::new(alloc);
     let mut row = Row::new(alloc)?;

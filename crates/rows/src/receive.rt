@@ -58,24 +58,23 @@ fn history(to: &mut Vec<u8>, row: &Row) -> io::Result<()> {
     s.print(to)
 }
 
+fn update(to: &mut Vec<u8>, row: &Row) -> io::Result<()> {
+    let seq = low16(row.number(10));
+    let r = receive::rtcp_reception_update(given(row), seq, row.number(11), row.number(12));
+    r.print(to)
+}
+
+fn report_block(to: &mut Vec<u8>, row: &Row) -> io::Result<()> {
+    let ssrc: u32 = row.number(10);
+    let r = receive::rtcp_reception_report_block(given(row), ssrc, row.number(11), row.number(12));
+    r.print(to)
+}
+
 pub fn row(to: &mut Vec<u8>, receiving: Receiving, row: &Row) -> io::Result<()> {
     match receiving {
         Receiving::New => receive::rtcp_reception_new(low16(row.number(0))).print(to),
-        Receiving::Update => {
-            let seq = low16(row.number(10));
-            receive::rtcp_reception_update(given(row), seq, row.number(11), row.number(12)).print(
-                to,
-            )
-        }
-        Receiving::ReportBlock => {
-            let ssrc: u32 = row.number(10);
-            receive::rtcp_reception_report_block(
-                given(row),
-                ssrc,
-                row.number(11),
-                row.number(12),
-            ).print(to)
-        }
+        Receiving::Update => update(to, row),
+        Receiving::ReportBlock => report_block(to, row),
         Receiving::History => history(to, row),
     }
 }
