@@ -1,18 +1,17 @@
 -- The cases of an APP's size and bytes, each from what the code has tested or called.
-use Rattle.rfc3550.proofs.Prelude.{ℕ, zero, suc, ◌+◌, ◌-◌, ◌%◌, ◌<◌, ◌≤◌, ◌≡◌, refl, sym, ap, ◌∙◌, Bool, true, false, ◌&&◌, List, [], ◌∷◌, ◌++◌, arith, le-leb, lt-leb, leb-true, eq-eqb, ne_eqb, not-true, not-false, length, take, drop, get_or, replicate, length-append, length-replicate, leb}
+use Rattle.rfc3550.proofs.Prelude.{ℕ, zero, suc, ◌+◌, ◌-◌, ◌%◌, ◌<◌, ◌≤◌, ◌≡◌, refl, sym, ap, ◌∙◌, Bool, true, false, ◌&&◌, List, [], ◌∷◌, ◌++◌, arith, le-leb, lt-leb, leb-true, eq-eqb, ne_eqb, not-true, not-false, length, take, drop, get_or, replicate, length-append, length-replicate, leb, add-one, drop_of_length-le, drop-cons}
 use Rattle.std.specs.Bool.{MatchBool}
 use Rattle.std.specs.Str.{IsAscii, IsNotAscii}
 use Rattle.rfc3550.specs.Answer.{Refusal, refusal, ok, refused, need, ◌>>◌}
 use Rattle.rfc3550.specs.Bytes.{be, store}
 use Rattle.rfc3550.specs.Packet.{app, content_bytes, layout}
-use Rattle.rfc3550.specs.Write.{Given, give_app, write, name_given, ascii, packet_given, padding_bytes, padding_ok, own_tests, calculate_size}
+use Rattle.rfc3550.specs.Write.{Given, give_app, name_given, ascii, packet_given, padding_bytes, padding_ok, own_tests, calculate_size}
 use Rattle.rfc3550.proofs.Answers.{need_inv, need_ok, and_inv}
 use Rattle.rfc3550.proofs.Bytes.{length_be, length_store}
 use Rattle.utils.specs.Error.{or_zero}
 use Rattle.utils.specs.Writer.{size_refusal, header}
-use Rattle.utils.proofs.Parts.{lent_again}
 use Rattle.utils.proofs.WriterCases.{writer}
-use Rattle.utils.proofs.Sizes.{sizes, none_of, why_of, why_last, size_why, write_why, size_came}
+use Rattle.utils.proofs.Sizes.{none_of, why_of, why_last}
 use Rattle.utils.proofs.WriterPackets.{padding_most, sized, size_ok, size_over, size_refused, parts_laid, header_long, packet_laid}
 use Rattle.app.specs.Write.{AppFits, name_ok}
 
@@ -98,11 +97,9 @@ module _ (subtype ssrc : ℕ) (name d : List ℕ) (k : ℕ) where
     pub app_size : 12 + length d + k ≤ 262144 → 12 + length d + k ≡ or_zero (calculate_size given)
     app_size o = ap or_zero (size_ok given (12 + length d + k) (own_passed h s es qs f t e q) (omega (arith, content_length (name_le s es qs))) o)
 
-  -- ---- by the number of the size
-
-  pub fits : (n space : ℕ) → calculate_size given ≡ ok n → n ≤ space → AppFits subtype name d k n space
+  pub app_fits : (n space : ℕ) → calculate_size given ≡ ok n → n ≤ space → AppFits subtype name d k n space
   unfolding own_tests
-  fits n space e h =
+  app_fits n space e h =
       let z = sized given n e in
       let a = need_inv _ _ _ _ _ z.own in
       let b = need_inv _ _ _ _ _ a.1 in
@@ -116,23 +113,6 @@ module _ (subtype ssrc : ℕ) (name d : List ℕ) (k : ℕ) where
         most = z.most;
         room = h;
       }
-
-  again : give_app subtype ssrc (take (length name - 0) (drop 0 name)) (take (length d - 0) (drop 0 d)) k ≡ given
-  again = rw (lent_again name, lent_again d)
-
-  module _ (n : ℕ) (h : n ≡ or_zero (calculate_size given)) where
-    pub app_fits : (space : ℕ) → (n ≡ 0 → ⊥) → n ≤ space → AppFits subtype name d k n space
-    app_fits space z f = fits n space (size_came given n h z) f
-
-    module _ (x : Refusal) (z : n ≡ 0) (q : x ≡ size_refusal (calculate_size (give_app subtype ssrc (take (length name - 0) (drop 0 name)) (take (length d - 0) (drop 0 d)) k))) where
-      why_given : x ≡ size_refusal (calculate_size given)
-      why_given = q ∙ ap (λ (g : Given). size_refusal (calculate_size g)) again
-
-      pub app_refused : refused x ≡ calculate_size given
-      app_refused = size_why given n h x z why_given
-
-      pub app_not_written : (l : List ℕ) → (refused x, l) ≡ write given l
-      app_not_written l = write_why given n h x l z why_given
 
   -- ---- the bytes
 
@@ -155,4 +135,4 @@ module _ (subtype ssrc : ℕ) (name d : List ℕ) (k : ℕ) where
       let p₃ = parts_laid 4 8 (be 4 ssrc) (name_given name ++ d) l₁ l₂ l₅ e₂ p₂ (omega arith) (omega arith) in
       packet_laid (app subtype ssrc (name_given name) d) k size (size - k) l l₁ l₅ l₆ (omega arith) m (omega arith) e₁ p₃ e₆
 
-pub ruleset writes = (writer, sizes, not-true, not-false, why_of, subtype_over, name_bad, data_odd, bad_padding_lem, name_long, name_short, none_subtype, none_name, none_data, none_padding, why_over, app_over, app_size, app_fits, app_refused, app_not_written, app_laid)
+pub ruleset writes = (writer, not-true, not-false, why_of, subtype_over, name_bad, data_odd, bad_padding_lem, name_long, name_short, none_subtype, none_name, none_data, none_padding, why_over, app_over, app_size, app_laid)

@@ -1,6 +1,10 @@
--- An APP's name, and what its checks leave known.
+-- What an APP is given, its name, and what its checks leave known.
 use Rattle.std.specs.Prelude.{ℕ, ◌+◌, ◌≤◌, ◌≡◌, Bool, ◌&&◌, List, length, leb}
-use Rattle.rfc3550.specs.Write.{ascii}
+use Rattle.rfc3550.specs.Write.{Given, give_app, ascii}
+use Rattle.app.specs.declared.write.AppBuilder.{AppBuilder}
+
+abbrev pub app_given : AppBuilder → Given
+app_given b = give_app b.subtype b.ssrc b.name.now b.«data».now b.padding
 
 -- the test of 13
 abbrev pub name_ok : List ℕ → Bool

@@ -2,14 +2,23 @@
 ghost use Rattle.std.specs.Prelude.{◌≡◌, length};
 ghost use Rattle.rfc3550.specs.Bytes.{store};
 ghost use Rattle.rfc3550.specs.Packet.{layout};
-ghost use Rattle.rfc3550.specs.Write.{give_app, packet_given, calculate_size, write};
-ghost use Rattle.utils.specs.Error.{or_zero, write_refusal};
-ghost use Rattle.utils.specs.Writer.{written_of, size_refusal};
-ghost use Rattle.app.specs.Write.{AppFits, name_ok};
+ghost use Rattle.rfc3550.specs.Write.{packet_given};
+ghost use Rattle.app.specs.Write.{AppFits, app_given, name_ok};
 
 use crate::App;
 use utils::error::RtcpWriteError;
+use utils::packet_writer::RtcpPacketWriter;
 use utils::writer;
+
+// What an APP is written of. A name shorter than four bytes is filled with zeros.
+#[derive(Clone, Copy)]
+pub struct AppBuilder<'a> {
+    pub subtype: u64,
+    pub ssrc: u32,
+    pub name: &'a [u8],
+    pub data: &'a [u8],
+    pub padding: u64,
+}
 
 // A name has at most 4 bytes, each ASCII.
 fn check_name(name: &[u8]) -> bool
@@ -21,112 +30,84 @@ fn check_name(name: &[u8]) -> bool
     name.is_ascii()
 }
 
-// The size of an APP; 0 where it is refused.
-pub fn size_of(subtype: u64, ssrc: u32, name: &[u8], data: &[u8], padding: u64) -> usize
-    ensures { result ≡ or_zero (calculate_size (give_app subtype ssrc name.now «data».now padding)) }
-{
-    if (writer::MAX_COUNT as u64) < subtype {
-        return 0;
-    }
-    if !check_name(name) {
-        return 0;
-    }
-    let len = data.len();
-    if len % 4 != 0 {
-        return 0;
-    }
-    if !writer::check_padding(padding) {
-        return 0;
-    }
-    let size = App::MIN_PACKET_LEN + len + padding as usize;
-    if writer::MAX_PACKET_LEN < size {
-        return 0;
-    }
-    size
-}
+impl<'a> RtcpPacketWriter for AppBuilder<'a> {
+    ghost given = { app_given };
 
-// Why there is no size; PacketTooLarge where there is one.
-#[cold]
-pub fn why_size(subtype: u64, ssrc: u32, name: &[u8], data: &[u8], padding: u64) -> RtcpWriteError
-    ensures { write_refusal result ≡ size_refusal (calculate_size (give_app subtype ssrc name.now «data».now padding)) }
-{
-    if (writer::MAX_COUNT as u64) < subtype {
-        return RtcpWriteError::AppSubtypeOutOfRange {
-            subtype,
-            max: writer::MAX_COUNT as u8,
-        };
+    fn packet_type(self) -> u8 {
+        App::PACKET_TYPE
     }
-    if !check_name(name) {
-        return RtcpWriteError::InvalidName;
-    }
-    let len = data.len();
-    if len % 4 != 0 {
-        return RtcpWriteError::DataLen32bitMultiple(len);
-    }
-    if !writer::check_padding(padding) {
-        return RtcpWriteError::InvalidPadding { padding };
-    }
-    RtcpWriteError::PacketTooLarge
-}
 
-// The size of an APP, or why it is refused.
-pub fn calculate_size(
-    subtype: u64,
-    ssrc: u32,
-    name: &[u8],
-    data: &[u8],
-    padding: u64,
-) -> Result<usize, RtcpWriteError>
-    ensures { written_of result ≡ calculate_size (give_app subtype ssrc name.now «data».now padding) }
-{
-    let size = size_of(subtype, ssrc, name, data, padding);
-    if size == 0 {
-        return Err(why_size(subtype, ssrc, &name[0..], &data[0..], padding));
+    fn padding(self) -> u64 {
+        self.padding
     }
-    Ok(size)
-}
 
-// Lays an APP that has this size at the start of buf.
-pub fn write_into_unchecked(
-    buf: &mut [u8],
-    subtype: u64,
-    ssrc: u32,
-    name: &[u8],
-    data: &[u8],
-    padding: u64,
-    size: usize,
-)
-    requires { AppFits subtype name.now «data».now padding size (length buf.old) }
-    ensures { buf.new ≡ store 0 (layout (packet_given (give_app subtype ssrc name.now «data».now padding))) buf.old }
-{
-    let n = name.len();
-    let end = size - padding as usize;
-    writer::write_header_unchecked(buf, padding, subtype as u8, App::PACKET_TYPE, size);
-    writer::write_u32_unchecked(buf, 4, ssrc);
-    writer::write_bytes_unchecked(buf, App::NAME, name);
-    writer::write_zeros_unchecked(buf, App::NAME + n, App::NAME_LEN - n);
-    writer::write_bytes_unchecked(buf, App::MIN_PACKET_LEN, data);
-    writer::write_padding_unchecked(buf, end, padding);
-}
+    fn has_cname(self) -> bool {
+        false
+    }
 
-// Writes an APP at the start of buf.
-pub fn write_into(
-    buf: &mut [u8],
-    subtype: u64,
-    ssrc: u32,
-    name: &[u8],
-    data: &[u8],
-    padding: u64,
-) -> Result<usize, RtcpWriteError>
-    ensures { (written_of result, buf.new) ≡ write (give_app subtype ssrc name.now «data».now padding) buf.old }
-{
-    let size = size_of(subtype, ssrc, name, data, padding);
-    if size == 0 {
-        return Err(why_size(subtype, ssrc, &name[0..], &data[0..], padding));
+    #[inline(always)]
+    fn size_of(self) -> usize {
+        if (writer::MAX_COUNT as u64) < self.subtype {
+            return 0;
+        }
+        if !check_name(self.name) {
+            return 0;
+        }
+        let len = self.data.len();
+        if len % 4 != 0 {
+            return 0;
+        }
+        if !writer::check_padding(self.padding) {
+            return 0;
+        }
+        let size = App::MIN_PACKET_LEN + len + self.padding as usize;
+        if writer::MAX_PACKET_LEN < size {
+            return 0;
+        }
+        size
     }
-    if buf.len() < size {
-        return Err(RtcpWriteError::OutputTooSmall(size as u64));
+
+    #[inline(always)]
+    fn why_size(self) -> RtcpWriteError {
+        if (writer::MAX_COUNT as u64) < self.subtype {
+            return RtcpWriteError::AppSubtypeOutOfRange {
+                subtype: self.subtype,
+                max: writer::MAX_COUNT as u8,
+            };
+        }
+        if !check_name(self.name) {
+            return RtcpWriteError::InvalidName;
+        }
+        let len = self.data.len();
+        if len % 4 != 0 {
+            return RtcpWriteError::DataLen32bitMultiple(len);
+        }
+        if !writer::check_padding(self.padding) {
+            return RtcpWriteError::InvalidPadding {
+                padding: self.padding,
+            };
+        }
+        RtcpWriteError::PacketTooLarge
     }
-    write_into_unchecked(buf, subtype, ssrc, name, data, padding, size);
-    Ok(size)
+
+    #[inline(always)]
+    fn write_into_unchecked(self, buf: &mut [u8], size: usize)
+        requires { AppFits self.subtype self.name.now self.«data».now self.padding size (length buf.old) }
+        ensures { buf.new ≡ store 0 (layout (packet_given (app_given self.entry))) buf.old }
+    {
+        let n = self.name.len();
+        let end = size - self.padding as usize;
+        writer::write_header_unchecked(
+            buf,
+            self.padding,
+            self.subtype as u8,
+            App::PACKET_TYPE,
+            size,
+        );
+        writer::write_u32_unchecked(buf, 4, self.ssrc);
+        writer::write_bytes_unchecked(buf, App::NAME, self.name);
+        writer::write_zeros_unchecked(buf, App::NAME + n, App::NAME_LEN - n);
+        writer::write_bytes_unchecked(buf, App::MIN_PACKET_LEN, self.data);
+        writer::write_padding_unchecked(buf, end, self.padding);
+    }
 }

@@ -9,9 +9,8 @@ use Rattle.rfc3550.proofs.Bytes.{length_be, length_store}
 use Rattle.utils.specs.Error.{or_zero}
 use Rattle.utils.specs.Writer.{size_refusal, header}
 use Rattle.utils.proofs.WriterStores.{store_nil, store_store, store_puts}
-use Rattle.utils.proofs.Parts.{lent_again}
 use Rattle.utils.proofs.WriterCases.{writer}
-use Rattle.utils.proofs.Sizes.{sizes, none_of, why_of, why_last, size_why, write_why, size_came}
+use Rattle.utils.proofs.Sizes.{none_of, why_of, why_last}
 use Rattle.utils.proofs.WriterPackets.{padding_most, sized, size_ok, size_refused, parts_laid, header_long, packet_laid}
 use Rattle.bye.specs.Write.{sources_bytes, ByeFits}
 
@@ -129,11 +128,9 @@ module _ (ss r : List ℕ) (k : ℕ) where
             let p : k ≤ 252 = padding_most t k e q in
             ap or_zero (size_ok given (4 + length ss * 4 + m + k) own_passed (omega (arith, content_length)) (omega (arith, reason_le r f)))
 
-  -- ---- by the number of the size
-
-  pub fits : (n room : ℕ) → calculate_size given ≡ ok n → n ≤ room → ByeFits ss r k n room
+  pub bye_fits : (n room : ℕ) → calculate_size given ≡ ok n → n ≤ room → ByeFits ss r k n room
   unfolding own_tests
-  fits n room e h =
+  bye_fits n room e h =
       let z = sized given n e in
       let a = need_inv _ _ _ _ _ z.own in
       let b = need_inv _ _ _ _ _ a.1 in
@@ -145,23 +142,6 @@ module _ (ss r : List ℕ) (k : ℕ) where
         most = z.most;
         room = h;
       }
-
-  again : give_bye (take (length ss - 0) (drop 0 ss)) (take (length r - 0) (drop 0 r)) k ≡ given
-  again = rw (lent_again ss, lent_again r)
-
-  module _ (n : ℕ) (h : n ≡ or_zero (calculate_size given)) where
-    pub bye_fits : (room : ℕ) → (n ≡ 0 → ⊥) → n ≤ room → ByeFits ss r k n room
-    bye_fits room z f = fits n room (size_came given n h z) f
-
-    module _ (x : Refusal) (z : n ≡ 0) (q : x ≡ size_refusal (calculate_size (give_bye (take (length ss - 0) (drop 0 ss)) (take (length r - 0) (drop 0 r)) k))) where
-      why_given : x ≡ size_refusal (calculate_size given)
-      why_given = q ∙ ap (λ (g : Given). size_refusal (calculate_size g)) again
-
-      pub bye_refused : refused x ≡ calculate_size given
-      bye_refused = size_why given n h x z why_given
-
-      pub bye_not_written : (l : List ℕ) → (refused x, l) ≡ write given l
-      bye_not_written l = write_why given n h x l z why_given
 
   -- ---- the bytes
 
@@ -177,4 +157,4 @@ module _ (ss r : List ℕ) (k : ℕ) where
       let p = parts_laid 4 (4 + length ss * 4) (sources_bytes ss) (leaving_bytes (leaving_of r)) l₁ l₂ l₃ e₂ e₃ (omega arith) (omega arith) in
       packet_laid (bye ss (leaving_of r)) k size (size - k) l l₁ l₃ l₄ (omega arith) m (omega arith) e₁ p e₄
 
-pub ruleset writes = (writer, sizes, not-true, not-false, why_of, too_many, bad_padding_lem, too_long, sources_start, sources_again, sources_done, reason_none, reason_long, reason_not_laid, reason_laid, none_sources, none_padding, none_reason, why_none, bye_size, bye_fits, bye_refused, bye_not_written, bye_laid)
+pub ruleset writes = (writer, not-true, not-false, why_of, too_many, bad_padding_lem, too_long, sources_start, sources_again, sources_done, reason_none, reason_long, reason_not_laid, reason_laid, none_sources, none_padding, none_reason, why_none, bye_size, bye_laid)

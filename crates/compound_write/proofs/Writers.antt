@@ -10,20 +10,11 @@ use Rattle.rfc3550.proofs.Answers.{true≢false, and_inv, need_inv}
 use Rattle.utils.specs.Error.{or_zero}
 use Rattle.utils.specs.Writer.{size_refusal}
 use Rattle.utils.proofs.WriterStores.{store_part}
-use Rattle.bye.proofs.Writes.{bye_fits}
-use Rattle.app.proofs.Writes.{app_fits}
-use Rattle.report_write.specs.Report.{block_lists}
-use Rattle.report_write.proofs.Reports.{why_same, report_number, report_fits}
-use Rattle.sdes_write.specs.Packets.{lists}
-use Rattle.sdes_write.proofs.Packets.{size_fits}
-use Rattle.utils.proofs.Parts.{lent_again}
 use Rattle.utils.proofs.WriterPackets.{sized}
 use Rattle.utils.proofs.Sizes.{size_came}
 use Rattle.rfc3550.proofs.Packets.{length_layout}
 use Rattle.compound_write.specs.Writer.{writer_of, admits, why_not, advanced}
 use Rattle.compound_write.specs.declared.writer.Writer as code
-use Rattle.compound_write.specs.Names.{lent_cname}
-use Rattle.compound_write.proofs.Names.{agreed, names_lent}
 
 -- ---- the interpretations lose nothing
 
@@ -181,39 +172,33 @@ module _ (g : Given) (w : Writer) (l : List ℕ) (t size : ℕ) (b : Bool) (know
   some_bytes : 0 < size_given g
   some_bytes = rw (length_layout (packet_given g)) (omega arith)
 
-  -- g₁ is the same given, of lists that were lent again
-  pub add_refused : (g₁ : Given) (own e : Refusal) (o : Answer (Unit {0})) (w₁ : Writer) → b ≡ false → own ≡ size_refusal (calculate_size g₁) → g₁ ≡ g
+  pub add_refused : (own e : Refusal) (o : Answer (Unit {0})) (w₁ : Writer) → b ≡ false → own ≡ size_refusal (calculate_size g)
       → e ≡ why_not w t size own (length l) → ◌≡◌ {A = Answer (Unit {0}) × Writer} (o, w₁) (refused e, w) → (o, w₁, l) ≡ call (add g) w l
   unfolding call add_tests calculate_size
-  add_refused g₁ own e o w₁ stops why same q h =
+  add_refused own e o w₁ stops why q h =
       let z : add_tests w g (length l) ≡ refused e =
-      rw (q, known) (tested w.len size (size_given g) (length l) own some_bytes w.closed w.padded (ltb 0 w.len || is_report t) (tests g) is (why ∙ ap (λ (x : Given). size_refusal (calculate_size x)) same) (sym told ∙ stops)) in
+      rw (q, known) (tested w.len size (size_given g) (length l) own some_bytes w.closed w.padded (ltb 0 w.len || is_report t) (tests g) is why (sym told ∙ stops)) in
       rw z (ap (λ (x : Answer (Unit {0}) × Writer). (x.0, x.1, l)) h)
 
-  pub add_done : (at : ℕ) (named : Bool) (o : Answer (Unit {0})) (w₁ : Writer) (last : List ℕ) → b ≡ true → at ≡ w.len → ◌≡◌ {A = Answer (Unit {0}) × Writer} (o, w₁) (ok tt, advanced w size (padding_given g) named) → gives_cname g ≡ named
+  module _ (goes : b ≡ true) where
+    pub admitted_size : calculate_size g ≡ ok size
+    admitted_size = size_came g size is (admitted_some w t size (length l) b told goes)
+
+    pub admitted_own : own_tests g ≡ ok tt
+    admitted_own = (sized g size admitted_size).own
+
+  pub add_done : (at k : ℕ) (named : Bool) (o : Answer (Unit {0})) (w₁ : Writer) (last : List ℕ) → b ≡ true → at ≡ w.len → ◌≡◌ {A = Answer (Unit {0}) × Writer} (o, w₁) (ok tt, advanced w size k named) → k ≡ padding_given g → named ≡ gives_cname g
       → last ≡ store 0 (layout (packet_given g)) (take (length l - at) (drop at l))
       → (o, w₁, take at l ++ (last ++ drop (length l - at) (drop at l))) ≡ call (add g) w l
   unfolding call add_tests calculate_size ◌>>◌
-  add_done at named o w₁ last goes z e c f =
+  add_done at k named o w₁ last goes z e p c f =
       let h = passed w.len size (size_given g) (length l) (refusal 0 0 0) some_bytes w.closed w.padded (ltb 0 w.len || is_report t) (tests g) is (sym told ∙ goes) in
       let x : add_tests w g (length l) ≡ ok tt = rw known h.0 in
       let i : size_given g ≡ size = sym (rw h.1 at is) in
       let m = admitted_room w t size (length l) b told goes in
       let s : take at l ++ (last ++ drop (length l - at) (drop at l)) ≡ store w.len (layout (packet_given g)) l =
       rw (f, z) (store_part w.len (layout (packet_given g)) l (omega arith)) in
-      rw (x, s, i, c) (ap (λ (x : Answer (Unit {0}) × Writer). (x.0, x.1, store w.len (layout (packet_given g)) l)) e)
-
--- an SDES that has a size: its lists agree, and it names what its items do
-module _ (ss cs ts ps vs bs : List ℕ) (k n : ℕ) (is : n ≡ or_zero (calculate_size (give_sdes (lists ss cs ts ps vs bs) k))) (some : n ≡ 0 → ⊥) where
-  lists_agree_lem : lists_agree (lists ss cs ts ps vs bs) ≡ true
-  unfolding own_tests
-  lists_agree_lem = (need_inv _ _ _ _ _ (sized (give_sdes (lists ss cs ts ps vs bs) k) n (size_came (give_sdes (lists ss cs ts ps vs bs) k) n is some)).own).0
-
-  pub sdes_values : length ts ≡ length vs
-  sdes_values = (agreed (lists ss cs ts ps vs bs) lists_agree_lem).values
-
-  pub sdes_names : (named : Bool) → named ≡ lent_cname ts vs → gives_cname (give_sdes (lists ss cs ts ps vs bs) k) ≡ named
-  sdes_names named e = names_lent (lists ss cs ts ps vs bs) k lists_agree_lem ∙ sym e
+      rw (x, s, i, ← c) (ap (λ (x : Answer (Unit {0}) × Writer). (x.0, x.1, store w.len (layout (packet_given g)) l)) (rw p at e))
 
 -- ---- closing
 
@@ -230,26 +215,4 @@ module _ (w : Writer) where
   unfolding call close_tests need ◌>>◌
   close_unnamed o w₁ e f h = simp (e, f) (ap (λ (x : Answer (Unit {0}) × Writer). (x.0, x.1, [])) h)
 
--- ---- lists that were lent again are the same
-
-pub bye_again : (ss r : List ℕ) (k : ℕ) → give_bye (take (length ss - 0) (drop 0 ss)) (take (length r - 0) (drop 0 r)) k ≡ give_bye ss r k
-bye_again ss r k = rw (lent_again ss, lent_again r)
-
-pub app_again : (subtype ssrc : ℕ) (name d : List ℕ) (k : ℕ) → give_app subtype ssrc (take (length name - 0) (drop 0 name)) (take (length d - 0) (drop 0 d)) k ≡ give_app subtype ssrc name d k
-app_again subtype ssrc name d k = rw (lent_again name, lent_again d)
-
-pub sdes_again : (ss cs ts ps vs bs : List ℕ) (k : ℕ)
-    → give_sdes (lists (take (length ss - 0) (drop 0 ss)) (take (length cs - 0) (drop 0 cs)) (take (length ts - 0) (drop 0 ts)) (take (length ps - 0) (drop 0 ps)) (take (length vs - 0) (drop 0 vs)) (take (length bs - 0) (drop 0 bs))) k
-    ≡ give_sdes (lists ss cs ts ps vs bs) k
-sdes_again ss cs ts ps vs bs k = rw (lent_again ss, lent_again cs, lent_again ts, lent_again ps, lent_again vs, lent_again bs)
-
--- ---- a report's size and why, of the one who reports
-
-pub report_reason : (q r : Reporter) (l : BlockLists) (k : ℕ) (x : Refusal) → x ≡ size_refusal (calculate_size (give_report q l k)) → x ≡ size_refusal (calculate_size (give_report r l k))
-report_reason q r l k x h = h ∙ why_same l k q r
-
-pub report_again : (r : Reporter) (fs : List ℕ) (ls : List Loss) (ws : List ℕ) (k : ℕ)
-    → give_report r (block_lists (take (length fs - 0) (drop 0 fs)) (take (length ls - 0) (drop 0 ls)) (take (length ws - 0) (drop 0 ws))) k ≡ give_report r (block_lists fs ls ws) k
-report_again r fs ls ws k = rw (lent_again fs, lent_again ls, lent_again ws)
-
-pub ruleset adds = (rules, not-true, not-false, starts_behind, starts_sender, starts_receiver, admit_closed, admit_padded, admit_first, admit_none, admit_short, admit_fits, why_closed, why_padded, why_first, why_own, why_short, why_over, admitted_some, admitted_starts, admitted_sum, admitted_part, add_refused, add_done, close_closed, close_done, close_unnamed, bye_again, app_again, sdes_again, report_again, report_number, report_reason, bye_fits, app_fits, report_fits, size_fits, sdes_values, sdes_names)
+pub ruleset adds = (rules, not-true, not-false, starts_behind, starts_sender, starts_receiver, admit_closed, admit_padded, admit_first, admit_none, admit_short, admit_fits, why_closed, why_padded, why_first, why_own, why_short, why_over, admitted_some, admitted_starts, admitted_sum, admitted_part, add_refused, add_done, close_closed, close_done, close_unnamed)

@@ -1,5 +1,4 @@
 // Compounds, written.
 #![tactic(auto)]
 
-pub mod cname;
 pub mod writer;

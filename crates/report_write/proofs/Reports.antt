@@ -12,7 +12,6 @@ use Rattle.rfc3550.proofs.Answers.{need_inv}
 use Rattle.rfc3550.proofs.Writes.{length_lent_blocks}
 use Rattle.utils.specs.Error.{or_zero}
 use Rattle.utils.specs.Writer.{header, size_refusal}
-use Rattle.utils.proofs.Parts.{lent_again}
 use Rattle.utils.proofs.Sizes.{why_of, size_why, write_why, size_came, size_is, write_room, write_laid}
 use Rattle.utils.proofs.WriterStores.{stores}
 use Rattle.utils.proofs.WriterPackets.{writes, padding_most, sized, size_ok, size_refused, parts_laid, header_long, packet_laid}
@@ -210,35 +209,6 @@ sized_fits r l k n space f h =
       room = h;
     }
 
--- what the size of one reporter, or 0 and why, say of the report of another of that least length
-module _ (q r : Reporter) (n : ℕ) (l : BlockLists) (k : ℕ) (h : n ≡ or_zero (calculate_size (give_report q l k))) (e : least_of q ≡ least_of r) where
-  pub report_number : n ≡ or_zero (calculate_size (give_report r l k))
-  report_number = h ∙ ap or_zero (size_same l k q r e)
-
-  pub report_refused : n ≡ 0 → (p : Reporter) (v : Refusal) → v ≡ size_refusal (calculate_size (give_report p l k)) → refused v ≡ calculate_size (give_report r l k)
-  report_refused z p v w = size_why (give_report r l k) n report_number v z (w ∙ why_same l k p r)
-
-  pub report_why : n ≡ 0 → (p : Reporter) (v : Refusal) → v ≡ size_refusal (calculate_size (give_report p l k)) → (s : List ℕ) → (refused v, s) ≡ write (give_report r l k) s
-  report_why z p v w s = write_why (give_report r l k) n report_number v s z (w ∙ why_same l k p r)
-
-  module _ (z : n ≡ 0 → ⊥) where
-    pub report_sized : ok n ≡ calculate_size (give_report r l k)
-    report_sized = size_is (give_report r l k) n report_number z
-
-    pub report_room : (s : List ℕ) → length s < n → (refused (refusal 10 n 0), s) ≡ write (give_report r l k) s
-    report_room s f = write_room (give_report r l k) n report_number z s f
-
-    pub report_done : (s s₁ : List ℕ) → n ≤ length s → s₁ ≡ store 0 (layout (packet_given (give_report r l k))) s → (ok n, s₁) ≡ write (give_report r l k) s
-    report_done s s₁ f q = write_laid (give_report r l k) n report_number z s s₁ f q
-
-pub report_fits : (r : Reporter) (least n : ℕ) (l : BlockLists) (k space : ℕ) → n ≡ or_zero (calculate_size (give_report r l k)) → (n ≡ 0 → ⊥) → n ≤ space → least_of r ≡ least → ReportFits least l k n space
-report_fits r least n l k space h z f e = rw e at (sized_fits r l k n space (size_came (give_report r l k) n h z) f)
-
--- lists lent again are the same
-pub why_again : (r : Reporter) (fs : List ℕ) (ls : List Loss) (ws : List ℕ) (k : ℕ) (v : Refusal) → v ≡ size_refusal (calculate_size (give_report r (block_lists (take (length fs - 0) (drop 0 fs)) (take (length ls - 0) (drop 0 ls)) (take (length ws - 0) (drop 0 ws))) k))
-    → v ≡ size_refusal (calculate_size (give_report r (block_lists fs ls ws) k))
-why_again r fs ls ws k v w = rw (lent_again fs, lent_again ls, lent_again ws) at w
-
 -- ---- the bytes
 
 pub padding_fits_lem : (least : ℕ) (l : BlockLists) (k n space m : ℕ) → ReportFits least l k n space → m ≡ space → (k ≤ 252) × (n - k + k ≤ m)
@@ -279,7 +249,7 @@ report_laid r least b k size l l₂ l₃ l₄ w q e₂ e₃ e₄ =
     let p = parts_laid 4 least (put (reporter_widths r) (reporter_fields r)) (blocks_bytes (blocks_lent b)) h l₂ l₃ e₂ e₃ (omega arith) (omega arith) in
     packet_laid (report r (blocks_lent b) []) k size (size - k) l h l₃ l₄ (omega arith) m (omega arith) (rw (n, ← same_type r (blocks_lent b))) (rw append-nil p) e₄
 
-pub ruleset reports = (writes, not-true, not-false, lists_many, losses_other, words_other, lists_tested, agree_why, lists_why, report_size, report_refused, report_why, why_again, report_sized, report_room, report_fits, report_done, padding_fits_lem, receiver_head, info_laid, sender_head, report_laid)
+pub ruleset reports = (writes, not-true, not-false, lists_many, losses_other, words_other, lists_tested, agree_why, lists_why, report_size, padding_fits_lem, receiver_head, info_laid, sender_head, report_laid)
 
 -- ---- the views lose nothing
 

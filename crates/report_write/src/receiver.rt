@@ -2,43 +2,22 @@
 ghost use Rattle.std.specs.Prelude.{◌≡◌, ◌≤◌, length};
 ghost use Rattle.rfc3550.specs.Bytes.{store};
 ghost use Rattle.rfc3550.specs.Packet.{receiver, layout};
-ghost use Rattle.rfc3550.specs.Write.{give_report, packet_given, calculate_size, write};
-ghost use Rattle.utils.specs.Error.{or_zero};
-ghost use Rattle.utils.specs.Writer.{written_of};
-ghost use Rattle.report_write.specs.Report.{block_lists, ReportFits, head_laid};
+ghost use Rattle.rfc3550.specs.Write.{packet_given};
+ghost use Rattle.report_write.specs.Report.{receiver_given, lists_in, ReportFits, head_laid};
 
 use crate::report_block;
+use crate::report_block::BlockLists;
 use report::receiver::ReceiverReport;
 use utils::error::RtcpWriteError;
+use utils::packet_writer::RtcpPacketWriter;
 use utils::writer;
 
-// The size of a receiver report, whatever its SSRC; 0 where it is refused.
-pub fn size_of(fractions: &[u8], losses: &[i32], words: &[u32], padding: u64) -> usize
-    ensures { result ≡ or_zero (calculate_size (give_report (receiver 0) (block_lists fractions.now losses.now words.now) padding)) }
-{
-    report_block::size_of(
-        fractions,
-        losses,
-        words,
-        padding,
-        ReceiverReport::MIN_PACKET_LEN as u8,
-    )
-}
-
-// The size of a receiver report, whatever its SSRC, or why it is refused.
-pub fn calculate_size(
-    fractions: &[u8],
-    losses: &[i32],
-    words: &[u32],
-    padding: u64,
-) -> Result<usize, RtcpWriteError>
-    ensures { written_of result ≡ calculate_size (give_report (receiver 0) (block_lists fractions.now losses.now words.now) padding) }
-{
-    let size = size_of(fractions, losses, words, padding);
-    if size == 0 {
-        return Err(report_block::why_size(&fractions[0..], &losses[0..], &words[0..], padding));
-    }
-    Ok(size)
+// What a receiver report is written of.
+#[derive(Clone, Copy)]
+pub struct ReceiverReportBuilder<'a> {
+    pub ssrc: u32,
+    pub blocks: BlockLists<'a>,
+    pub padding: u64,
 }
 
 // What stands before so many blocks.
@@ -50,49 +29,57 @@ pub fn write_head_unchecked(buf: &mut [u8], ssrc: u32, count: usize, padding: u6
     writer::write_u32_unchecked(buf, 4, ssrc);
 }
 
-// Lays a receiver report that has this size at the start of buf.
-pub fn write_into_unchecked(
-    buf: &mut [u8],
-    ssrc: u32,
-    fractions: &[u8],
-    losses: &[i32],
-    words: &[u32],
-    padding: u64,
-    size: usize,
-)
-    requires { ReportFits 8 (block_lists fractions.now losses.now words.now) padding size (length buf.old) }
-    ensures { buf.new ≡ store 0 (layout (packet_given (give_report (receiver ssrc) (block_lists fractions.now losses.now words.now) padding))) buf.old }
-{
-    let end = size - padding as usize;
-    write_head_unchecked(buf, ssrc, fractions.len(), padding, size);
-    report_block::write_blocks_unchecked(
-        buf,
-        ReceiverReport::MIN_PACKET_LEN,
-        fractions,
-        losses,
-        words,
-    );
-    writer::write_padding_unchecked(buf, end, padding);
-}
+impl<'a> RtcpPacketWriter for ReceiverReportBuilder<'a> {
+    ghost given = { receiver_given };
 
-// Writes a receiver report at the start of buf.
-pub fn write_into(
-    buf: &mut [u8],
-    ssrc: u32,
-    fractions: &[u8],
-    losses: &[i32],
-    words: &[u32],
-    padding: u64,
-) -> Result<usize, RtcpWriteError>
-    ensures { (written_of result, buf.new) ≡ write (give_report (receiver ssrc) (block_lists fractions.now losses.now words.now) padding) buf.old }
-{
-    let size = size_of(fractions, losses, words, padding);
-    if size == 0 {
-        return Err(report_block::why_size(&fractions[0..], &losses[0..], &words[0..], padding));
+    fn packet_type(self) -> u8 {
+        ReceiverReport::PACKET_TYPE
     }
-    if buf.len() < size {
-        return Err(RtcpWriteError::OutputTooSmall(size as u64));
+
+    fn padding(self) -> u64 {
+        self.padding
     }
-    write_into_unchecked(buf, ssrc, fractions, losses, words, padding, size);
-    Ok(size)
+
+    fn has_cname(self) -> bool {
+        false
+    }
+
+    #[inline(always)]
+    fn size_of(self) -> usize {
+        report_block::size_of(
+            self.blocks.fractions,
+            self.blocks.losses,
+            self.blocks.words,
+            self.padding,
+            ReceiverReport::MIN_PACKET_LEN as u8,
+        )
+    }
+
+    #[inline(always)]
+    fn why_size(self) -> RtcpWriteError {
+        report_block::why_size(
+            self.blocks.fractions,
+            self.blocks.losses,
+            self.blocks.words,
+            self.padding,
+        )
+    }
+
+    #[inline(always)]
+    fn write_into_unchecked(self, buf: &mut [u8], size: usize)
+        requires { ReportFits 8 (lists_in self.blocks) self.padding size (length buf.old) }
+        ensures { buf.new ≡ store 0 (layout (packet_given (receiver_given self.entry))) buf.old }
+    {
+        let end = size - self.padding as usize;
+        let count = self.blocks.fractions.len();
+        write_head_unchecked(buf, self.ssrc, count, self.padding, size);
+        report_block::write_blocks_unchecked(
+            buf,
+            ReceiverReport::MIN_PACKET_LEN,
+            self.blocks.fractions,
+            self.blocks.losses,
+            self.blocks.words,
+        );
+        writer::write_padding_unchecked(buf, end, self.padding);
+    }
 }

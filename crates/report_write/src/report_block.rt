@@ -13,6 +13,14 @@ use report::report_block::ReportBlock;
 use utils::error::RtcpWriteError;
 use utils::writer;
 
+// A report's blocks as they are lent: a fraction lost and a cumulative lost for each, and five words.
+#[derive(Clone, Copy)]
+pub struct BlockLists<'a> {
+    pub fractions: &'a [u8],
+    pub losses: &'a [i32],
+    pub words: &'a [u32],
+}
+
 // Of a loss and the next one, the first if it does not fit.
 pub fn later_loss(loss: i32, next: i32) -> i32
     ensures { result ≡ later_loss loss next }

@@ -1,15 +1,15 @@
 // Sender reports, written (sender.rs, `SenderReportBuilder`).
 ghost use Rattle.std.specs.Prelude.{◌≡◌, ◌≤◌, length};
 ghost use Rattle.rfc3550.specs.Bytes.{put, store};
-ghost use Rattle.rfc3550.specs.Packet.{sender, sender_widths, reporter_fields, layout};
-ghost use Rattle.rfc3550.specs.Write.{give_report, packet_given, calculate_size, write};
-ghost use Rattle.utils.specs.Error.{or_zero};
-ghost use Rattle.utils.specs.Writer.{written_of};
-ghost use Rattle.report_write.specs.Report.{sender_of, block_lists, ReportFits, head_laid};
+ghost use Rattle.rfc3550.specs.Packet.{sender_widths, reporter_fields, layout};
+ghost use Rattle.rfc3550.specs.Write.{packet_given};
+ghost use Rattle.report_write.specs.Report.{sender_of, sender_given, lists_in, ReportFits, head_laid};
 
 use crate::report_block;
+use crate::report_block::BlockLists;
 use report::sender::SenderReport;
 use utils::error::RtcpWriteError;
+use utils::packet_writer::RtcpPacketWriter;
 use utils::writer;
 
 // Who sends, and what was sent.
@@ -22,33 +22,12 @@ pub struct SenderInfo {
     pub octet_count: u32,
 }
 
-// The size of a sender report, whatever it says of the sender; 0 where it is refused.
-pub fn size_of(fractions: &[u8], losses: &[i32], words: &[u32], padding: u64) -> usize
-    ensures { result ≡ or_zero (calculate_size (give_report (sender 0 0 0 0 0) (block_lists fractions.now losses.now words.now) padding)) }
-{
-    report_block::size_of(
-        fractions,
-        losses,
-        words,
-        padding,
-        SenderReport::MIN_PACKET_LEN as u8,
-    )
-}
-
-// The size of a sender report, whatever it says of the sender, or why it is refused.
-pub fn calculate_size(
-    fractions: &[u8],
-    losses: &[i32],
-    words: &[u32],
-    padding: u64,
-) -> Result<usize, RtcpWriteError>
-    ensures { written_of result ≡ calculate_size (give_report (sender 0 0 0 0 0) (block_lists fractions.now losses.now words.now) padding) }
-{
-    let size = size_of(fractions, losses, words, padding);
-    if size == 0 {
-        return Err(report_block::why_size(&fractions[0..], &losses[0..], &words[0..], padding));
-    }
-    Ok(size)
+// What a sender report is written of.
+#[derive(Clone, Copy)]
+pub struct SenderReportBuilder<'a> {
+    pub info: SenderInfo,
+    pub blocks: BlockLists<'a>,
+    pub padding: u64,
 }
 
 fn write_info(buf: &mut [u8], info: SenderInfo)
@@ -77,49 +56,57 @@ pub fn write_head_unchecked(
     write_info(buf, info);
 }
 
-// Lays a sender report that has this size at the start of buf.
-pub fn write_into_unchecked(
-    buf: &mut [u8],
-    info: SenderInfo,
-    fractions: &[u8],
-    losses: &[i32],
-    words: &[u32],
-    padding: u64,
-    size: usize,
-)
-    requires { ReportFits 28 (block_lists fractions.now losses.now words.now) padding size (length buf.old) }
-    ensures { buf.new ≡ store 0 (layout (packet_given (give_report (sender_of info) (block_lists fractions.now losses.now words.now) padding))) buf.old }
-{
-    let end = size - padding as usize;
-    write_head_unchecked(buf, info, fractions.len(), padding, size);
-    report_block::write_blocks_unchecked(
-        buf,
-        SenderReport::MIN_PACKET_LEN,
-        fractions,
-        losses,
-        words,
-    );
-    writer::write_padding_unchecked(buf, end, padding);
-}
+impl<'a> RtcpPacketWriter for SenderReportBuilder<'a> {
+    ghost given = { sender_given };
 
-// Writes a sender report at the start of buf.
-pub fn write_into(
-    buf: &mut [u8],
-    info: SenderInfo,
-    fractions: &[u8],
-    losses: &[i32],
-    words: &[u32],
-    padding: u64,
-) -> Result<usize, RtcpWriteError>
-    ensures { (written_of result, buf.new) ≡ write (give_report (sender_of info) (block_lists fractions.now losses.now words.now) padding) buf.old }
-{
-    let size = size_of(fractions, losses, words, padding);
-    if size == 0 {
-        return Err(report_block::why_size(&fractions[0..], &losses[0..], &words[0..], padding));
+    fn packet_type(self) -> u8 {
+        SenderReport::PACKET_TYPE
     }
-    if buf.len() < size {
-        return Err(RtcpWriteError::OutputTooSmall(size as u64));
+
+    fn padding(self) -> u64 {
+        self.padding
     }
-    write_into_unchecked(buf, info, fractions, losses, words, padding, size);
-    Ok(size)
+
+    fn has_cname(self) -> bool {
+        false
+    }
+
+    #[inline(always)]
+    fn size_of(self) -> usize {
+        report_block::size_of(
+            self.blocks.fractions,
+            self.blocks.losses,
+            self.blocks.words,
+            self.padding,
+            SenderReport::MIN_PACKET_LEN as u8,
+        )
+    }
+
+    #[inline(always)]
+    fn why_size(self) -> RtcpWriteError {
+        report_block::why_size(
+            self.blocks.fractions,
+            self.blocks.losses,
+            self.blocks.words,
+            self.padding,
+        )
+    }
+
+    #[inline(always)]
+    fn write_into_unchecked(self, buf: &mut [u8], size: usize)
+        requires { ReportFits 28 (lists_in self.blocks) self.padding size (length buf.old) }
+        ensures { buf.new ≡ store 0 (layout (packet_given (sender_given self.entry))) buf.old }
+    {
+        let end = size - self.padding as usize;
+        let count = self.blocks.fractions.len();
+        write_head_unchecked(buf, self.info, count, self.padding, size);
+        report_block::write_blocks_unchecked(
+            buf,
+            SenderReport::MIN_PACKET_LEN,
+            self.blocks.fractions,
+            self.blocks.losses,
+            self.blocks.words,
+        );
+        writer::write_padding_unchecked(buf, end, self.padding);
+    }
 }

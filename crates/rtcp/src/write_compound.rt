@@ -10,8 +10,13 @@ ghost use Rattle.compound_write.specs.Writer.{writer_of, call_of};
 ghost use Rattle.rtcp.specs.WriteCompound.{writer_in, writer_out, call_with_state, call_with_buffer};
 
 use super::result::bit;
+use app::write::AppBuilder;
+use bye::write::ByeBuilder;
 use compound_write::writer::{Call, Writer};
-use report_write::sender::SenderInfo;
+use report_write::receiver::ReceiverReportBuilder;
+use report_write::report_block::BlockLists;
+use report_write::sender::{SenderInfo, SenderReportBuilder};
+use sdes_write::SdesBuilder;
 
 // What a call answers: 0, or the refusal and its details, which leaves the writer and the buffer as they were.
 #[repr(C)]
@@ -85,10 +90,17 @@ pub fn rtcp_writer_add_rr(
     ensures { (result, writer.new, buf.new) ≡ call_with_buffer writer.old (call (add (give_report (receiver ssrc) (block_lists fractions.now losses.now words.now) padding)) (writer_in writer.old) buf.old) }
 {
     let w = writer_in(writer);
-    hand_on(
-        writer,
-        w.add_rr(buf, ssrc, fractions, losses, words, padding),
-    )
+    let blocks = BlockLists {
+        fractions,
+        losses,
+        words,
+    };
+    let rr = ReceiverReportBuilder {
+        ssrc,
+        blocks,
+        padding,
+    };
+    hand_on(writer, w.add(buf, rr))
 }
 
 pub fn rtcp_writer_add_sr(
@@ -114,10 +126,17 @@ pub fn rtcp_writer_add_sr(
         packet_count,
         octet_count,
     };
-    hand_on(
-        writer,
-        w.add_sr(buf, info, fractions, losses, words, padding),
-    )
+    let blocks = BlockLists {
+        fractions,
+        losses,
+        words,
+    };
+    let sr = SenderReportBuilder {
+        info,
+        blocks,
+        padding,
+    };
+    hand_on(writer, w.add(buf, sr))
 }
 
 pub fn rtcp_writer_add_sdes(
@@ -134,10 +153,16 @@ pub fn rtcp_writer_add_sdes(
     ensures { (result, writer.new, buf.new) ≡ call_with_buffer writer.old (call (add (give_sdes (lists ssrcs.now counts.now types.now prefixes.now values.now bytes.now) padding)) (writer_in writer.old) buf.old) }
 {
     let w = writer_in(writer);
-    hand_on(
-        writer,
-        w.add_sdes(buf, ssrcs, counts, types, prefixes, values, bytes, padding),
-    )
+    let sdes = SdesBuilder {
+        ssrcs,
+        counts,
+        types,
+        prefixes,
+        values,
+        bytes,
+        padding,
+    };
+    hand_on(writer, w.add(buf, sdes))
 }
 
 pub fn rtcp_writer_add_bye(
@@ -150,7 +175,12 @@ pub fn rtcp_writer_add_bye(
     ensures { (result, writer.new, buf.new) ≡ call_with_buffer writer.old (call (add (give_bye sources.now reason.now padding)) (writer_in writer.old) buf.old) }
 {
     let w = writer_in(writer);
-    hand_on(writer, w.add_bye(buf, sources, reason, padding))
+    let bye = ByeBuilder {
+        sources,
+        reason,
+        padding,
+    };
+    hand_on(writer, w.add(buf, bye))
 }
 
 pub fn rtcp_writer_add_app(
@@ -165,7 +195,14 @@ pub fn rtcp_writer_add_app(
     ensures { (result, writer.new, buf.new) ≡ call_with_buffer writer.old (call (add (give_app subtype ssrc name.now «data».now padding)) (writer_in writer.old) buf.old) }
 {
     let w = writer_in(writer);
-    hand_on(writer, w.add_app(buf, subtype, ssrc, name, data, padding))
+    let app = AppBuilder {
+        subtype,
+        ssrc,
+        name,
+        data,
+        padding,
+    };
+    hand_on(writer, w.add(buf, app))
 }
 
 pub fn rtcp_writer_close(writer: &mut [u64; 4]) -> RtcpCall

@@ -6,8 +6,10 @@ ghost use Rattle.report_write.specs.Report.{block_lists};
 ghost use Rattle.rtcp.specs.WriteResult.{written_result, written_with_buffer};
 
 use super::write_result::RtcpWritten;
-use report_write::sender::SenderInfo;
-use report_write::{receiver, sender};
+use report_write::receiver::ReceiverReportBuilder;
+use report_write::report_block::BlockLists;
+use report_write::sender::{SenderInfo, SenderReportBuilder};
+use utils::packet_writer::RtcpPacketWriter;
 
 pub fn rtcp_rr_write(
     buf: &mut [u8],
@@ -19,14 +21,34 @@ pub fn rtcp_rr_write(
 ) -> RtcpWritten
     ensures { (result, buf.new) ≡ written_with_buffer (write (give_report (receiver ssrc) (block_lists fractions.now losses.now words.now) padding) buf.old) }
 {
-    RtcpWritten::from_written(receiver::write_into(buf, ssrc, fractions, losses, words, padding))
+    let blocks = BlockLists {
+        fractions,
+        losses,
+        words,
+    };
+    let report = ReceiverReportBuilder {
+        ssrc,
+        blocks,
+        padding,
+    };
+    RtcpWritten::from_written(report.write_into(buf))
 }
 
 // The size is the same for every SSRC.
 pub fn rtcp_rr_size(fractions: &[u8], losses: &[i32], words: &[u32], padding: u64) -> RtcpWritten
     ensures { (ssrc : ℕ) → result ≡ written_result (calculate_size (give_report (receiver ssrc) (block_lists fractions.now losses.now words.now) padding)) }
 {
-    RtcpWritten::from_written(receiver::calculate_size(fractions, losses, words, padding))
+    let blocks = BlockLists {
+        fractions,
+        losses,
+        words,
+    };
+    let report = ReceiverReportBuilder {
+        ssrc: 0,
+        blocks,
+        padding,
+    };
+    RtcpWritten::from_written(report.calculate_size())
 }
 
 pub fn rtcp_sr_write(
@@ -50,12 +72,39 @@ pub fn rtcp_sr_write(
         packet_count,
         octet_count,
     };
-    RtcpWritten::from_written(sender::write_into(buf, info, fractions, losses, words, padding))
+    let blocks = BlockLists {
+        fractions,
+        losses,
+        words,
+    };
+    let report = SenderReportBuilder {
+        info,
+        blocks,
+        padding,
+    };
+    RtcpWritten::from_written(report.write_into(buf))
 }
 
 // The size is the same for everything that a sender says of itself.
 pub fn rtcp_sr_size(fractions: &[u8], losses: &[i32], words: &[u32], padding: u64) -> RtcpWritten
     ensures { (ssrc ntp rtp packets octets : ℕ) → result ≡ written_result (calculate_size (give_report (sender ssrc ntp rtp packets octets) (block_lists fractions.now losses.now words.now) padding)) }
 {
-    RtcpWritten::from_written(sender::calculate_size(fractions, losses, words, padding))
+    let info = SenderInfo {
+        ssrc: 0,
+        ntp_timestamp: 0,
+        rtp_timestamp: 0,
+        packet_count: 0,
+        octet_count: 0,
+    };
+    let blocks = BlockLists {
+        fractions,
+        losses,
+        words,
+    };
+    let report = SenderReportBuilder {
+        info,
+        blocks,
+        padding,
+    };
+    RtcpWritten::from_written(report.calculate_size())
 }

@@ -7,6 +7,8 @@ ghost use Rattle.rtcp.specs.WriteResult.{written_result, written_with_buffer};
 
 use super::write_result::RtcpWritten;
 use chunk_write::{chunk, item};
+use sdes_write::SdesBuilder;
+use utils::packet_writer::RtcpPacketWriter;
 
 // A lone item.
 pub fn rtcp_item_write(buf: &mut [u8], type_: u8, prefix: &[u8], value: &[u8]) -> RtcpWritten
@@ -54,9 +56,16 @@ pub fn rtcp_sdes_write(
 ) -> RtcpWritten
     ensures { (result, buf.new) ≡ written_with_buffer (write (give_sdes (lists ssrcs.now counts.now types.now prefixes.now values.now bytes.now) padding) buf.old) }
 {
-    RtcpWritten::from_written(sdes_write::write_into(
-        buf, ssrcs, counts, types, prefixes, values, bytes, padding,
-    ))
+    let sdes = SdesBuilder {
+        ssrcs,
+        counts,
+        types,
+        prefixes,
+        values,
+        bytes,
+        padding,
+    };
+    RtcpWritten::from_written(sdes.write_into(buf))
 }
 
 pub fn rtcp_sdes_size(
@@ -70,7 +79,14 @@ pub fn rtcp_sdes_size(
 ) -> RtcpWritten
     ensures { result ≡ written_result (calculate_size (give_sdes (lists ssrcs.now counts.now types.now prefixes.now values.now bytes.now) padding)) }
 {
-    RtcpWritten::from_written(sdes_write::calculate_size(
-        ssrcs, counts, types, prefixes, values, bytes, padding,
-    ))
+    let sdes = SdesBuilder {
+        ssrcs,
+        counts,
+        types,
+        prefixes,
+        values,
+        bytes,
+        padding,
+    };
+    RtcpWritten::from_written(sdes.calculate_size())
 }

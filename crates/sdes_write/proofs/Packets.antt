@@ -8,7 +8,6 @@ use Rattle.rfc3550.specs.Write.{LentItem, lent_items, lent_chunks, Given, give_s
 use Rattle.rfc3550.proofs.Answers.{need_inv, then_inv, and_inv, ok_injective}
 use Rattle.utils.specs.Error.{or_zero}
 use Rattle.utils.specs.Writer.{written_of, size_refusal, header}
-use Rattle.utils.proofs.Parts.{lent_again}
 use Rattle.utils.proofs.WriterPackets.{writes, padding_most, sized, size_ok, size_over, size_refused, header_last, header_long, packet_laid}
 use Rattle.utils.proofs.Sizes.{size_why, write_why, size_came, write_room, write_laid, why_last}
 use Rattle.utils.specs.declared.error.RtcpWriteError.{RtcpWriteError}
@@ -179,17 +178,11 @@ module _ (ss cs ts ps vs bs : List ℕ) (k : ℕ) where
   pub padding_small : (u : Bool) → u ≡ padding_ok k → u ≡ true → k ≤ 262144
   padding_small u e q = omega (arith, padding_most u k e q)
 
-  -- the lists lent again
-  pub why_lent : (r : Refusal)
-      → r ≡ size_refusal (calculate_size (give_sdes (lists (take (length ss - 0) ss) (take (length cs - 0) cs) (take (length ts - 0) ts) (take (length ps - 0) ps) (take (length vs - 0) vs) (take (length bs - 0) bs)) k))
-      → r ≡ size_refusal (calculate_size given)
-  why_lent r e = rw (lent_again ss, lent_again cs, lent_again ts, lent_again ps, lent_again vs, lent_again bs) at e
-
   -- ---- the bytes
 
-  fits_of : (n space : ℕ) → calculate_size given ≡ ok n → n ≤ space → SdesFits ss cs ts ps vs bs k n space
+  pub sdes_fits : (n space : ℕ) → calculate_size given ≡ ok n → n ≤ space → SdesFits ss cs ts ps vs bs k n space
   unfolding own_tests content_bytes
-  fits_of n space e h =
+  sdes_fits n space e h =
       let z = sized given n e in
       let a = need_inv _ _ _ _ _ z.own in
       let b = need_inv _ _ _ _ _ a.1 in
@@ -212,23 +205,11 @@ module _ (ss cs ts ps vs bs : List ℕ) (k : ℕ) where
         room = h;
       }
 
-  pub sdes_fits : (w : Result ℕ RtcpWriteError) (n space : ℕ) → written_of w ≡ calculate_size given → w ≡ Ok n → n ≤ space → SdesFits ss cs ts ps vs bs k n space
-  sdes_fits w n space e q h = fits_of n space (sym e ∙ ap written_of q) h
-
-  pub size_fits : (n space : ℕ) → n ≡ or_zero (calculate_size given) → (n ≡ 0 → ⊥) → n ≤ space → SdesFits ss cs ts ps vs bs k n space
-  size_fits n space e z h = fits_of n space (size_came given n e z) h
-
   -- ---- from the index after the chunks, or 0
 
   module _ (n : ℕ) (e : with_padding k n ≡ or_zero (calculate_size given)) where
     pub end_zero : n ≡ 0 → 0 ≡ or_zero (calculate_size given)
     end_zero z = let b : eqb n 0 ≡ true = eq-eqb n 0 z in rw b at e
-
-    pub end_why : n ≡ 0 → (r : Refusal) → r ≡ size_refusal (calculate_size given) → refused r ≡ calculate_size given
-    end_why z r q = size_why given 0 (end_zero z) r refl q
-
-    pub end_not_written : n ≡ 0 → (r : Refusal) (l : List ℕ) → r ≡ size_refusal (calculate_size given) → (refused r, l) ≡ write given l
-    end_not_written z r l q = write_why given 0 (end_zero z) r l refl q
 
     module _ (z : n ≡ 0 → ⊥) where
       pub end_size : n + k ≡ or_zero (calculate_size given)
@@ -239,18 +220,6 @@ module _ (ss cs ts ps vs bs : List ℕ) (k : ℕ) where
 
       pub end_within : n + k < 2 ^ 64
       end_within = let y = (sized given (n + k) (size_came given (n + k) end_size some)).most in omega arith
-
-      pub end_sized : ok (n + k) ≡ calculate_size given
-      end_sized = sym (size_came given (n + k) end_size some)
-
-      pub end_room : (space : ℕ) → n + k ≤ space → SdesFits ss cs ts ps vs bs k (n + k) space
-      end_room space h = size_fits (n + k) space end_size some h
-
-      pub end_short : (l : List ℕ) → length l < n + k → (refused (refusal 10 (n + k) 0), l) ≡ write given l
-      end_short l f = write_room given (n + k) end_size some l f
-
-      pub end_laid : (l l₁ : List ℕ) → n + k ≤ length l → l₁ ≡ store 0 (layout (packet_given given)) l → (ok (n + k), l₁) ≡ write given l
-      end_laid l l₁ f q = write_laid given (n + k) end_size some l l₁ f q
 
   module _ (size : ℕ) (l : List ℕ) (f : SdesFits ss cs ts ps vs bs k size (length l)) where
     pub sdes_chunks : ChunksFit 4 ss cs ts ps vs bs (length l)
@@ -279,4 +248,4 @@ module _ (count k size : ℕ) (l l₁ : List ℕ) (f : EndsFit count k size (len
   pub ends_laid : (l₂ : List ℕ) → l₂ ≡ store (size - k) (padding_bytes k) l₁ → l₂ ≡ store (size - k) (padding_bytes k) (store 0 (header k count 202 size) l)
   ends_laid l₂ q = q ∙ rw e
 
-pub ruleset sdess = (writes, not-true, not-false, counts_other, counts_sum, counts_agree, lists_listed, why_disagree, size_counts, size_prefixes, size_values, size_many, why_many, size_padding, why_padding, why_items, why_lent, end_is, end_zero, end_why, end_not_written, end_size, end_within, end_sized, end_room, end_short, end_laid, size_measured, padding_small, sdes_chunks, sdes_ends, sdes_laid, ends_padding, ends_laid)
+pub ruleset sdess = (writes, not-true, not-false, counts_other, counts_sum, counts_agree, lists_listed, why_disagree, size_counts, size_prefixes, size_values, size_many, why_many, size_padding, why_padding, why_items, end_is, end_zero, end_size, end_within, size_measured, padding_small, sdes_chunks, sdes_ends, sdes_laid, ends_padding, ends_laid)

@@ -1,11 +1,18 @@
--- A packet's lists, and what its size leaves known.
+-- A packet's lists and what it is given, and what its size leaves known.
 use Rattle.std.specs.Prelude.{ℕ, ◌+◌, ◌-◌, ◌≤◌, ◌≡◌, List, length, eqb}
 use Rattle.rfc3550.specs.Answer.{pick}
-use Rattle.rfc3550.specs.Write.{Lists}
+use Rattle.rfc3550.specs.Write.{Lists, Given, give_sdes}
 use Rattle.chunk_write.specs.Lists.{laid_chunks, ChunksFit}
+use Rattle.sdes_write.specs.declared.SdesBuilder.{SdesBuilder}
 
 abbrev pub lists : List ℕ → List ℕ → List ℕ → List ℕ → List ℕ → List ℕ → Lists
 lists ss cs ts ps vs bs = record { ssrcs = ss; counts = cs; types = ts; prefixes = ps; values = vs; bytes = bs }
+
+abbrev pub lists_in : SdesBuilder → Lists
+lists_in b = lists b.ssrcs.now b.counts.now b.types.now b.prefixes.now b.values.now b.bytes.now
+
+abbrev pub sdes_given : SdesBuilder → Given
+sdes_given b = give_sdes (lists_in b) b.padding
 
 -- so many bytes and the padding behind them; 0 where there are none
 abbrev pub with_padding : ℕ → ℕ → ℕ

@@ -3,5 +3,6 @@
 
 pub mod error;
 pub mod list;
+pub mod packet_writer;
 pub mod parser;
 pub mod writer;

@@ -1,5 +1,0 @@
-use Rattle.bye.proofs.Writes.{writes}
-use Rattle.bye.proofs.write.calculate_size.Goals as goal
-
-pub returns-then-size-eq0 : goal.returns-then-size-eq0
-returns-then-size-eq0 c = search writes
