@@ -12,6 +12,7 @@ ghost use Rattle.compound.specs.Compound.{frame, padding_last, report_first, fra
 
 use super::packet::Packet;
 use report::receiver::ReceiverReport;
+use report::report::Report;
 use report::sender::SenderReport;
 use utils::error::RtcpParseError;
 use utils::list::ListError;

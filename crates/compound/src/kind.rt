@@ -6,6 +6,7 @@ ghost use Rattle.compound.specs.Kind.{kind_in};
 use app::App;
 use bye::Bye;
 use report::receiver::ReceiverReport;
+use report::report::Report;
 use report::sender::SenderReport;
 use sdes::sdes::Sdes;
 use utils::parser;

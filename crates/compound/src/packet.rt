@@ -10,6 +10,7 @@ use super::unknown::Unknown;
 use app::App;
 use bye::Bye;
 use report::receiver::ReceiverReport;
+use report::report::Report;
 use report::sender::SenderReport;
 use sdes::sdes::Sdes;
 use utils::error::RtcpParseError;

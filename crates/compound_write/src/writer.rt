@@ -8,6 +8,7 @@ ghost use Rattle.utils.specs.Error.{write_refusal};
 ghost use Rattle.compound_write.specs.Writer.{writer_of, call_of, admits, why_not, advanced};
 
 use report::receiver::ReceiverReport;
+use report::report::Report;
 use report::sender::SenderReport;
 use utils::error::RtcpWriteError;
 use utils::packet_writer::RtcpPacketWriter;

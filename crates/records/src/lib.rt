@@ -17,6 +17,7 @@ ghost use Rattle.records.specs.Adds.{admitted, add_framed, blocks_at, added_end,
 
 use compound_write::writer::{Call, Writer};
 use report::receiver::ReceiverReport;
+use report::report::Report;
 use report::report_block::ReportBlock;
 use report::sender::SenderReport;
 use report_write::sender::SenderInfo;

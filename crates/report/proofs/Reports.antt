@@ -1,35 +1,29 @@
 -- Reading a report, over the kind: from what a reader has tested, what an accepted one tells, and its parts.
-use Rattle.rfc3550.proofs.Prelude.{rules, ◌≡◌, refl, ap, ◌∙◌, sym, subst, List, ⊎_elim, ℕ, zero, suc, ◌+◌, ◌-◌, ◌*◌, ◌<◌, ◌≤◌, arith, le-leb, lt-leb, length, take, drop, length-drop, drop-drop, length-take-le, take_all}
+use Rattle.std.specs.Prelude.{Result, eqb}
+use Rattle.std.specs.Result.{IsErrAnd}
+use Rattle.std.proofs.lemmas.Result.{err_from_is_err_and}
+use Rattle.rfc3550.proofs.Prelude.{rules, ◌≡◌, refl, ap, ◌∙◌, sym, subst, List, [], ◌∷◌, ⊎_elim, ℕ, zero, suc, ◌+◌, ◌-◌, ◌*◌, ◌<◌, ◌≤◌, arith, le-leb, lt-leb, length, take, drop, length-drop, drop-drop, length-take-le, take_all, get_or}
 use Rattle.rfc3550.specs.Answer.{Refusal, refusal, Answer, ok, refused, refuse, need, ◌>>◌, ◌>>=◌, map_ok}
 use Rattle.rfc3550.specs.Bytes.{val, get, sum}
 use Rattle.rfc3550.specs.Loss.{Loss}
-use Rattle.rfc3550.specs.Packet.{Block, Reporter, Content, report, Packet, block_widths, receiver_widths, sender_widths}
-use Rattle.rfc3550.specs.Read.{Kind, SR, RR, least, kind_for, low_in, block_from, read_blocks, receiver_from, sender_from, read_report, read_content, check_packet, read_as, blocks_of, nth, read_block_at}
+use Rattle.rfc3550.specs.Packet.{Block, Reporter, Content, report, Packet, reporter_fields, block_widths, sender_widths}
+use Rattle.rfc3550.specs.Read.{Kind, SR, RR, least, kind_for, low_in, block_from, read_blocks, sender_from, read_report, type_in, check_header, check_packet, read_as, blocks_of, nth, read_block_at}
 use Rattle.rfc3550.proofs.Answers.{refused≢ok, ok_injective}
-use Rattle.utils.specs.Error.{refusal_in, value_or, or_zero}
-use Rattle.utils.proofs.Reading.{packet_of, content_in, got, got_is, least_four, none_at_header, why_at_header, body_accepted, body_content, parse_none, parse_read}
+use Rattle.utils.specs.Error.{parse_refusal, refusal_in, value_or, or_zero}
+use Rattle.utils.specs.List.{listed_of}
+use Rattle.utils.specs.declared.error.RtcpParseError.{RtcpParseError}
+use Rattle.utils.specs.declared.list.ListError.{ListError}
+use Rattle.utils.specs.declared.list.ListError.TheVariants as list
+use Rattle.utils.proofs.Errors.{parse_handed}
+use Rattle.utils.proofs.Reading.{packet_of, content_in, got, got_is, least_four, none_at_header, why_at_header, body_accepted, body_content, map_ok_refused}
 use Rattle.utils.proofs.Headers.{Accepted}
-use Rattle.utils.proofs.Values.{value_came, none_came}
+use Rattle.utils.proofs.Values.{value_came, value_is, none_came, none_is}
 use Rattle.utils.proofs.Parts.{drop_take, length_drop_take, get_take, nth_past, nth_read_blocks, length_read_blocks, split}
 use Rattle.report.specs.Block.{block_view, lay_blocks}
 use Rattle.report.specs.declared.report_block.ReportBlock.{ReportBlock}
-use Rattle.report.specs.declared.receiver.ReceiverReport.{ReceiverReport}
-use Rattle.report.specs.declared.sender.SenderReport.{SenderReport}
-use Rattle.report.specs.Report.{report_blocks, report_body, extension_of, extension_at, receiver_view, sender_view, no_receiver, no_sender}
-
--- a kind whose content is a report: the widths of the fields before the blocks, and who reports
-pub record ReporterKind (k : Kind) (ws : List ℕ) (who : List ℕ → Reporter) : Type 0 where
-  pub reads : (n t : ℕ) (s : List ℕ) → read_content k n t s ≡ read_report ws who n s
-  pub wide : least k ≡ 4 + sum ws
-  pub kind : (f : List ℕ) (bs : List Block) (e : List ℕ) → kind_for (report (who f) bs e) ≡ k
-
-pub sender_maker : ReporterKind SR sender_widths sender_from
-unfolding read_content sum
-sender_maker = record { reads = λ n t s. refl; wide = refl; kind = λ f bs e. refl }
-
-pub receiver_maker : ReporterKind RR receiver_widths receiver_from
-unfolding read_content sum
-receiver_maker = record { reads = λ n t s. refl; wide = refl; kind = λ f bs e. refl }
+use Rattle.report.specs.Reporter.{ReporterKind, receiver_maker, sender_maker, places_of, ReportLaws}
+use Rattle.report.specs.declared.report.Places.{Places}
+use Rattle.report.specs.Report.{fields_of, report_blocks, report_body, extension_of, extension_at, receiver_view, sender_view}
 
 -- ---- the content by places in the packet
 
@@ -87,35 +81,48 @@ module _ {k : Kind} {ws : List ℕ} {who : List ℕ → Reporter} (m : ReporterK
 
 -- ---- by the number of the header
 
-pub none_header : (k : Kind) (s : List ℕ) (b : ℕ) → b ≡ or_zero (check_packet k s) → b ≡ 0 → 0 ≡ value_or 0 report_body (read_as k s)
-none_header k s b h z = none_at_header k s b h 0 report_body z
+module _ {k : Kind} {min type : ℕ} {R : Type 0} {none : R} {view : Packet → R} {places : R → Places} (l : ReportLaws k min type none view places) (s : List ℕ) (x t b : ℕ) (e : x ≡ min) (f : t ≡ type)
+    (h : b ≡ or_zero (check_header x (eqb (type_in s) t) (type_in s, t) s)) where
+  same : check_header x (eqb (type_in s) t) (type_in s, t) s ≡ check_packet k s
+  same = rw (e, f) (l.checked s)
 
-pub why_header : (k : Kind) (s : List ℕ) (b : ℕ) (r : Refusal) → b ≡ or_zero (check_packet k s) → b ≡ 0 → r ≡ refusal_in (check_packet k s) → r ≡ refusal_in (read_as k s)
-why_header k s b r h z q = why_at_header k s b h r z q
+  checked : b ≡ or_zero (check_packet k s)
+  checked = h ∙ ap or_zero same
 
-module _ {k : Kind} {ws : List ℕ} {who : List ℕ → Reporter} (m : ReporterKind k ws who) (s : List ℕ) (b : ℕ) (h : b ≡ or_zero (check_packet k s)) (z : b ≡ 0 → ⊥) (n : ℕ) (c : n ≡ low_in s) where
-  body : Accepted (least k) s b
-  body = body_accepted k s b h z
+  pub none_header : b ≡ 0 → 0 ≡ value_or 0 report_body (read_as k s)
+  none_header z = none_at_header k s b checked 0 report_body z
 
-  cut : b < least k + 24 * n → read_as k s ≡ refuse 2 (least k + 24 * n) b
-  unfolding map_ok
-  cut q = rw c (body_content k s b h z ∙ rw (short m s b body.enough body.within (rw (← c) q)))
+  pub why_header : (y u : ℕ) → y ≡ min → u ≡ type → (r : Refusal) → b ≡ 0 → r ≡ refusal_in (check_header y (eqb (type_in s) u) (type_in s, u) s) → r ≡ refusal_in (read_as k s)
+  why_header y u d c r z q = why_at_header k s b checked r z (q ∙ rw (d, c) (ap refusal_in (l.checked s)))
 
-  whole : least k + 24 * n ≤ b → read_as k s ≡ ok (packet_of s b (content_at k ws who s b))
-  unfolding map_ok
-  whole q = body_content k s b h z ∙ rw (long m s b body.enough body.within (rw (← c) q))
+  module _ (z : b ≡ 0 → ⊥) (n : ℕ) (c : n ≡ low_in s) (y : ℕ) (d : y ≡ min) where
+    body : Accepted (least k) s b
+    body = body_accepted k s b checked z
 
-  pub none_short : b < least k + 24 * n → 0 ≡ value_or 0 report_body (read_as k s)
-  none_short q = sym (ap (value_or 0 report_body) (cut q))
+    least_is : y ≡ least k
+    least_is = d ∙ l.least_len
 
-  pub why_short : (x : ℕ) → x ≡ least k + 24 * n → b < x → refusal 2 x b ≡ refusal_in (read_as k s)
-  why_short x e q = rw e (sym (ap refusal_in (cut (rw e at q))))
+    cut : b < y + 24 * n → read_as k s ≡ refuse 2 (y + 24 * n) b
+    unfolding map_ok
+    cut q = rw (least_is, c) (body_content k s b checked z ∙ rw (short l.maker s b body.enough body.within (rw (← c, ← least_is) q)))
 
-  pub body_long : least k + 24 * n ≤ b → b ≡ value_or 0 report_body (read_as k s)
-  body_long q = sym (ap (value_or 0 report_body) (whole q) ∙ body_is m s b body.enough body.within (rw (← c) q))
+    whole : y + 24 * n ≤ b → read_as k s ≡ ok (packet_of s b (content_at k l.widths l.who s b))
+    unfolding map_ok
+    whole q = body_content k s b checked z ∙ rw (long l.maker s b body.enough body.within (rw (← c, ← least_is) q))
 
-  pub why_long : least k + 24 * n ≤ b → refusal 25 0 0 ≡ refusal_in (read_as k s)
-  why_long q = sym (ap refusal_in (whole q))
+    pub none_short : b < y + 24 * n → 0 ≡ value_or 0 report_body (read_as k s)
+    none_short q = sym (ap (value_or 0 report_body) (cut q))
+
+    pub why_short : b < y + 24 * n → refusal 2 (y + 24 * n) b ≡ refusal_in (read_as k s)
+    why_short q = sym (ap refusal_in (cut q))
+
+    pub body_long : y + 24 * n ≤ b → b ≡ value_or 0 report_body (read_as k s)
+    body_long q = sym (ap (value_or 0 report_body) (whole q) ∙ body_is l.maker s b body.enough body.within (rw (← c, ← least_is) q))
+
+    pub why_long : y + 24 * n ≤ b → refusal 25 0 0 ≡ refusal_in (read_as k s)
+    why_long q = sym (ap refusal_in (whole q))
+
+pub ruleset headers = (rules, none_header, why_header, none_short, why_short, body_long, why_long)
 
 -- ---- what the number of the packet tells
 
@@ -152,33 +159,25 @@ module _ {k : Kind} {ws : List ℕ} {who : List ℕ → Reporter} (m : ReporterK
     gone : read_as k s ≡ refused (refusal_in (read_as k s))
     gone = none_came 0 report_body (λ n. n) refl body_some (read_as k s) b h z
 
-    pub report_none : {B : Type 0} (none : B) (view : Packet → B) → none ≡ value_or none view (read_as k s)
-    report_none none view = sym (ap (value_or none view) gone)
-
-    module _ (r : Refusal) (q : r ≡ refusal_in (read_as k (take (length s - 0) (drop 0 s)))) where
-      gone_why : read_as k s ≡ refused r
-      gone_why = gone ∙ ap refused (sym (q ∙ ap (λ (s : List ℕ). refusal_in (read_as k s)) (take_all (length s - 0) s (omega arith))))
-
-      pub index_refused : (i : ℕ) → refused r ≡ map_ok block_view (read_block_at k s i)
-      unfolding read_block_at ◌>>=◌ map_ok
-      index_refused i = rw gone_why
-
-      pub lists_refused : (f : List ℕ) (l : List Loss) (w : List ℕ) → (refused r, f, l, w) ≡ lay_blocks (map_ok report_blocks (read_as k s)) f l w
-      unfolding lay_blocks map_ok
-      lists_refused f l w = rw gone_why
+    pub report_none : {B : Type 0} (none : B) (view : Packet → B) (x : B) → x ≡ none → x ≡ value_or none view (read_as k s)
+    report_none none view x e = e ∙ sym (ap (value_or none view) gone)
 
   -- where it is not
   module _ (z : b ≡ 0 → ⊥) where
     is_whole : Whole k ws who s b
     is_whole = let v = value_came 0 report_body (λ n. n) refl (read_as k s) b h z in subst (Whole k ws who s) v.2 (whole_is m s v.0 v.1)
 
-    pub report_long : (n : ℕ) → n ≤ least k → n ≤ length s
-    report_long n l = let a = is_whole in omega arith
-
     pub report_within : b ≤ length s
     report_within = is_whole.within
 
     module _ (n : ℕ) (c : n ≡ low_in s) where
+      -- what the numbers say is where the packet's parts lie
+      pub report_placed : (x : ℕ) → x ≡ least k → map_ok places_of (read_as k s) ≡ ok (record { n_reports = n; extension = x + 24 * n; body = b })
+      unfolding map_ok
+      report_placed x e =
+          let a = is_whole in
+          rw (a.packet, body_is m s b a.enough a.within a.room, at_is m s b a.enough a.within, count_is m s b a.enough a.within, c, e)
+
       pub blocks_within : (x : ℕ) → x ≡ least k → x + n * 24 ≤ length s
       blocks_within x e = let a = is_whole in omega arith
 
@@ -208,55 +207,92 @@ module _ {k : Kind} {ws : List ℕ} {who : List ℕ → Reporter} (m : ReporterK
           pub index_within : (x : ℕ) → x ≡ least k + 24 * i → x + 24 ≤ length s
           index_within x e = let a = is_whole in omega arith
 
-pub ruleset reports = (rules, receiver_maker, sender_maker, none_header, why_header, none_short, why_short, body_long, why_long, report_none, report_long, report_within, index_refused, index_past, index_there, index_within, lists_refused, blocks_within, lists_all)
+-- ---- where the parts lie, of a packet that was accepted
 
--- ---- the fields of each kind
+came : {A B : Type 0} (f : A → B) (m : Answer A) (b : B) → map_ok f m ≡ ok b → (a : A) × (m ≡ ok a) × (f a ≡ b)
+unfolding map_ok
+came f (ok a) b h = (a, refl, ok_injective h)
+came f (refused r) b h = absurd (refused≢ok h)
 
-module _ (s : List ℕ) (b : ℕ) (z : b ≡ 0 → ⊥) (n : ℕ) (c : n ≡ low_in s) where
-  pub receiver_read : b ≡ value_or 0 report_body (read_as RR s) → (x : ℕ) → x ≡ val (take 4 (drop 4 s))
-      → record { ssrc = x; n_reports = n; extension = 8 + 24 * n; body = b; padding_len = length s - b } ≡ value_or no_receiver receiver_view (read_as RR s)
-  unfolding get
-  receiver_read h x p =
-      let a = is_whole receiver_maker s b h z in
-      rw (a.packet, body_is receiver_maker s b a.enough a.within a.room, count_is receiver_maker s b a.enough a.within, length-drop b s, p, c)
+module _ {k : Kind} {ws : List ℕ} {who : List ℕ → Reporter} (m : ReporterKind k ws who) (s : List ℕ) (at : Places) (h : map_ok places_of (read_as k s) ≡ ok at) where
+  placed : (p : Packet) × (read_as k s ≡ ok p) × (places_of p ≡ at)
+  placed = came places_of (read_as k s) at h
 
-  pub sender_read : b ≡ value_or 0 report_body (read_as SR s) → (x ntp rtp packets octets : ℕ) → x ≡ val (take 4 (drop 4 s)) → ntp ≡ val (take 8 (drop 8 s)) → rtp ≡ val (take 4 (drop 16 s)) → packets ≡ val (take 4 (drop 20 s)) → octets ≡ val (take 4 (drop 24 s))
-      → record { ssrc = x; ntp_timestamp = ntp; rtp_timestamp = rtp; packet_count = packets; octet_count = octets; n_reports = n; extension = 28 + 24 * n; body = b; padding_len = length s - b } ≡ value_or no_sender sender_view (read_as SR s)
-  unfolding get
-  sender_read h x ntp rtp packets octets p₁ p₂ p₃ p₄ p₅ =
-      let a = is_whole sender_maker s b h z in
-      rw (
-        a.packet,
-        body_is sender_maker s b a.enough a.within a.room,
-        count_is sender_maker s b a.enough a.within,
-        length-drop b s,
-        drop-drop 4 4 s,
-        drop-drop 8 8 s,
-        drop-drop 4 16 s,
-        drop-drop 4 20 s,
-        p₁,
-        p₂,
-        p₃,
-        p₄,
-        p₅,
-        c,
-      )
+  placed_body : at.body ≡ value_or 0 report_body (read_as k s)
+  placed_body = let v = placed in ap (λ (a : Places). a.body) (sym v.2) ∙ sym (ap (value_or 0 report_body) v.1)
 
-module _ (s : List ℕ) (o : ReceiverReport) (h : o ≡ value_or no_receiver receiver_view (read_as RR s)) where
-  pub receiver_none : (r : Refusal) → o.body ≡ 0 → r ≡ refusal_in (read_as RR (take (length s - 0) (drop 0 s))) → refused r ≡ map_ok receiver_view (read_as RR s)
-  receiver_none = parse_none RR s no_receiver receiver_view (λ o. o.body) refl o h body_some
+  placed_some : at.body ≡ 0 → ⊥
+  placed_some z = let v = placed in omega (arith, body_some v.0, ap (λ (a : Places). a.body) v.2)
 
-  pub receiver_parsed : (o.body ≡ 0 → ⊥) → ok o ≡ map_ok receiver_view (read_as RR s)
-  receiver_parsed = parse_read RR s no_receiver receiver_view (λ o. o.body) refl o h
+  placed_count : at.n_reports ≡ low_in s
+  placed_count =
+      let w = is_whole m s at.body placed_body placed_some in
+      let v = placed in
+      ap (λ (a : Places). a.n_reports) (sym v.2) ∙ ap (λ (p : Packet). length (report_blocks p)) (ok_injective (sym v.1 ∙ w.packet)) ∙ count_is m s at.body w.enough w.within
 
-module _ (s : List ℕ) (o : SenderReport) (h : o ≡ value_or no_sender sender_view (read_as SR s)) where
-  pub sender_none : (r : Refusal) → o.body ≡ 0 → r ≡ refusal_in (read_as SR (take (length s - 0) (drop 0 s))) → refused r ≡ map_ok sender_view (read_as SR s)
-  sender_none = parse_none SR s no_sender sender_view (λ o. o.body) refl o h body_some
+  pub placed_long : (n : ℕ) → n ≤ least k → n ≤ length s
+  placed_long n l = let w = is_whole m s at.body placed_body placed_some in omega (arith, w.enough, w.within)
 
-  pub sender_parsed : (o.body ≡ 0 → ⊥) → ok o ≡ map_ok sender_view (read_as SR s)
-  sender_parsed = parse_read SR s no_sender sender_view (λ o. o.body) refl o h
+-- a report that was read tells where the parts lie
+module _ {k : Kind} {min type : ℕ} {R : Type 0} {none : R} {view : Packet → R} {places : R → Places} (l : ReportLaws k min type none view places) (s : List ℕ) where
+  module _ (o : R) (h : ok o ≡ map_ok view (read_as k s)) (at : Places) (e : at ≡ places o) where
+    parsed : map_ok places_of (read_as k s) ≡ ok at
+    unfolding map_ok
+    parsed = let v = came view (read_as k s) o (sym h) in ap (map_ok places_of) v.1 ∙ ap ok (sym (l.seen v.0) ∙ ap places v.2 ∙ sym e)
 
-pub ruleset fields = (rules, receiver_maker, sender_maker, report_none, report_long, report_within, receiver_read, sender_read, receiver_none, receiver_parsed, sender_none, sender_parsed)
+    body_in : at.body ≡ value_or 0 report_body (read_as k s)
+    body_in = placed_body l.maker s at parsed
+
+    some : at.body ≡ 0 → ⊥
+    some = placed_some l.maker s at parsed
+
+    count : at.n_reports ≡ low_in s
+    count = placed_count l.maker s at parsed
+
+    pub parsed_past : (i : ℕ) → at.n_reports ≤ i → refuse 25 0 0 ≡ map_ok block_view (read_block_at k s i)
+    parsed_past = index_past l.maker s at.body body_in some at.n_reports count
+
+    module _ (x : ℕ) (f : x ≡ min) where
+      min_is : x ≡ least k
+      min_is = f ∙ l.least_len
+
+      pub parsed_within : x + at.n_reports * 24 ≤ length s
+      parsed_within = blocks_within l.maker s at.body body_in some at.n_reports count x min_is
+
+      pub parsed_blocks : (fs : List ℕ) (ls : List Loss) (ws : List ℕ) (a : Answer ℕ × List ℕ × List Loss × List ℕ) → a ≡ lay_blocks (ok (read_blocks at.n_reports (drop x s))) fs ls ws → a ≡ lay_blocks (map_ok report_blocks (read_as k s)) fs ls ws
+      parsed_blocks fs ls ws a q = lists_all l.maker s at.body body_in some at.n_reports count fs ls ws a (rw min_is at q)
+
+      module _ (i : ℕ) (n : i < at.n_reports) where
+        pub parsed_at : x + 24 * i + 24 ≤ length s
+        parsed_at = index_within l.maker s at.body body_in some at.n_reports count i n (x + 24 * i) (ap (λ (x : ℕ). x + 24 * i) min_is)
+
+        pub parsed_block : (b : ReportBlock) → b ≡ block_view (block_from (get block_widths (drop (x + 24 * i) s))) → ok b ≡ map_ok block_view (read_block_at k s i)
+        parsed_block b q = index_there l.maker s at.body body_in some at.n_reports count i n b (rw min_is at q)
+
+  module _ (o : R) (h : o ≡ value_or none view (read_as k s)) (at : Places) (e : at ≡ places o) where
+    pub parsed_none : at.body ≡ 0 → (r : Refusal) → r ≡ refusal_in (read_as k s) → refused r ≡ map_ok view (read_as k s)
+    parsed_none z r q =
+        none_is none view (λ (o : R). (places o).body) l.no_body (λ p. rw (l.seen p) (body_some p)) view (read_as k s) o r h (ap (λ (a : Places). a.body) (sym e) ∙ z) q
+
+    pub parsed_some : (at.body ≡ 0 → ⊥) → ok o ≡ map_ok view (read_as k s)
+    parsed_some n = value_is none view (λ (o : R). (places o).body) l.no_body (read_as k s) o h (λ z. n (ap (λ (a : Places). a.body) e ∙ z))
+
+pub seen_value : {B : Type 0} (none : B) (view : Packet → B) (m : Answer Packet) (b : B) → ok b ≡ map_ok view m → b ≡ value_or none view m
+unfolding map_ok
+seen_value none view (ok p) b h = ok_injective h
+seen_value none view (refused r) b h = absurd (refused≢ok (sym h))
+
+-- a refusal of the packet, handed on
+pub index_handed : {B : Type 0} (view : Packet → B) (k : Kind) (s : List ℕ) (i : ℕ) (r : Refusal) → refused r ≡ map_ok view (read_as k s) → refused r ≡ map_ok block_view (read_block_at k s i)
+unfolding read_block_at ◌>>=◌ map_ok
+index_handed view k s i r h = rw (map_ok_refused view (read_as k s) (sym h))
+
+pub lists_handed : {B : Type 0} (view : Packet → B) (k : Kind) (s : List ℕ) (q : Result ℕ ListError) (e : RtcpParseError) (f : List ℕ) (l : List Loss) (w : List ℕ) → IsErrAnd q (λ (x : ListError). x ≡ list.Refused e)
+    → refused (parse_refusal e) ≡ map_ok view (read_as k s) → (listed_of q, f, l, w) ≡ lay_blocks (map_ok report_blocks (read_as k s)) f l w
+unfolding lay_blocks map_ok
+lists_handed view k s q e f l w h r = let p = err_from_is_err_and q h in rw (p.1, p.2, map_ok_refused view (read_as k s) (sym r))
+
+pub ruleset reports = (rules, parse_handed, report_none, report_within, report_placed, seen_value, parsed_none, parsed_some, index_handed, lists_handed)
 
 -- ---- what the value that was read tells of the blocks, over the kind and its view
 
@@ -315,3 +351,43 @@ module _ (s : List ℕ) (p : Packet) where
 
   pub sender_padding : read_as SR s ≡ ok p → take (sender_view p).padding_len (drop (sender_view p).body s) ≡ p.padding
   sender_padding e = padding_part sender_maker s p e
+
+-- ---- the fields of each kind
+
+module _ (p : Packet) (at : Places) (e : places_of p ≡ at) where
+  receiver_of : (x d : ℕ) → x ≡ get_or (fields_of p.content) 0 0 → d ≡ length p.padding → record { ssrc = x; n_reports = at.n_reports; extension = at.extension; body = at.body; padding_len = d } ≡ receiver_view p
+  receiver_of x d f q = rw (← e, f, q)
+
+  sender_of : (x ntp rtp packets octets d : ℕ) → x ∷ ntp ∷ rtp ∷ packets ∷ octets ∷ [] ≡ fields_of p.content → d ≡ length p.padding
+      → record { ssrc = x; ntp_timestamp = ntp; rtp_timestamp = rtp; packet_count = packets; octet_count = octets; n_reports = at.n_reports; extension = at.extension; body = at.body; padding_len = d } ≡ sender_view p
+  sender_of x ntp rtp packets octets d f q = rw (← e, ← f, q)
+
+module _ {k : Kind} {ws : List ℕ} {who : List ℕ → Reporter} (m : ReporterKind k ws who) (s : List ℕ) (at : Places) (h : map_ok places_of (read_as k s) ≡ ok at) where
+  placed_padding : let v = placed m s at h in length s - at.body ≡ length v.0.padding
+  placed_padding =
+      let v = placed m s at h in
+      sym (ap (λ (p : Packet). length p.padding) (sym (is_packet m s v.0 v.1)) ∙ length-drop (report_body v.0) s ∙ ap (λ (a : Places). length s - a.body) v.2)
+
+  pub placed_inside : at.body ≤ length s
+  placed_inside = let w = is_whole m s at.body (placed_body m s at h) (placed_some m s at h) in w.within
+
+module _ (s : List ℕ) (at : Places) where
+  pub receiver_fields : map_ok places_of (read_as RR s) ≡ ok at → (x : ℕ) → x ≡ val (take 4 (drop 4 s))
+      → ok (record { ssrc = x; n_reports = at.n_reports; extension = at.extension; body = at.body; padding_len = length s - at.body }) ≡ map_ok receiver_view (read_as RR s)
+  unfolding map_ok get
+  receiver_fields h x e =
+      let v = placed receiver_maker s at h in
+      let f : get_or (fields_of v.0.content) 0 0 ≡ val (take 4 (drop 4 s)) = ap (λ (p : Packet). get_or (fields_of p.content) 0 0) (sym (is_packet receiver_maker s v.0 v.1)) in
+      ap ok (receiver_of v.0 at v.2 x (length s - at.body) (e ∙ sym f) (placed_padding receiver_maker s at h)) ∙ sym (ap (map_ok receiver_view) v.1)
+
+  pub sender_fields : map_ok places_of (read_as SR s) ≡ ok at → (x ntp rtp packets octets : ℕ) → x ≡ val (take 4 (drop 4 s)) → ntp ≡ val (take 8 (drop 8 s)) → rtp ≡ val (take 4 (drop 16 s)) → packets ≡ val (take 4 (drop 20 s)) → octets ≡ val (take 4 (drop 24 s))
+      → ok (record { ssrc = x; ntp_timestamp = ntp; rtp_timestamp = rtp; packet_count = packets; octet_count = octets; n_reports = at.n_reports; extension = at.extension; body = at.body; padding_len = length s - at.body }) ≡ map_ok sender_view (read_as SR s)
+  unfolding map_ok get
+  sender_fields h x ntp rtp packets octets p₁ p₂ p₃ p₄ p₅ =
+      let v = placed sender_maker s at h in
+      let f = ap (λ (p : Packet). fields_of p.content) (sym (is_packet sender_maker s v.0 v.1)) in
+      let q : x ∷ ntp ∷ rtp ∷ packets ∷ octets ∷ [] ≡ reporter_fields (sender_from (get sender_widths (drop 4 s))) =
+      rw (drop-drop 4 4 s, drop-drop 8 8 s, drop-drop 4 16 s, drop-drop 4 20 s, p₁, p₂, p₃, p₄, p₅) in
+      ap ok (sender_of v.0 at v.2 x ntp rtp packets octets (length s - at.body) (q ∙ sym f) (placed_padding sender_maker s at h)) ∙ sym (ap (map_ok sender_view) v.1)
+
+pub ruleset fields = (rules, receiver_maker, sender_maker, placed_long, placed_inside, receiver_fields, sender_fields)

@@ -3,5 +3,6 @@
 
 pub mod loss;
 pub mod receiver;
+pub mod report;
 pub mod report_block;
 pub mod sender;

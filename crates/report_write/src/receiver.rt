@@ -8,6 +8,7 @@ ghost use Rattle.report_write.specs.Report.{receiver_given, lists_in, ReportFits
 use crate::report_block;
 use crate::report_block::BlockLists;
 use report::receiver::ReceiverReport;
+use report::report::Report;
 use utils::error::RtcpWriteError;
 use utils::packet_writer::RtcpPacketWriter;
 use utils::writer;

@@ -7,6 +7,7 @@ ghost use Rattle.report_write.specs.Report.{sender_of, sender_given, lists_in, R
 
 use crate::report_block;
 use crate::report_block::BlockLists;
+use report::report::Report;
 use report::sender::SenderReport;
 use utils::error::RtcpWriteError;
 use utils::packet_writer::RtcpPacketWriter;

@@ -7,6 +7,7 @@ use app::App;
 use bye::Bye;
 use compound::unknown::Unknown;
 use report::receiver::ReceiverReport;
+use report::report::Report;
 use report::sender::SenderReport;
 use rtcp::{read_app, read_bye, read_compound, read_report, read_sdes};
 use sdes::sdes::Sdes;

@@ -14,7 +14,8 @@ use Rattle.utils.specs.Error.{value_or}
 use Rattle.utils.proofs.Parts.{get_take}
 use Rattle.report.specs.Block.{block_view}
 use Rattle.report.specs.Report.{report_body}
-use Rattle.report.proofs.Reports.{ReporterKind, body_some, index_there, index_within}
+use Rattle.report.proofs.Reports.{body_some, index_there, index_within}
+use Rattle.report.specs.Reporter.{ReporterKind}
 use Rattle.sdes.specs.Walk.{chunk_stepped}
 use Rattle.sdes.proofs.Returned.{short}
 use Rattle.compound.specs.Packet.{packet_view}

@@ -19,6 +19,7 @@ use compound::kind::{Kind, kind_of};
 use compound::packet::Packet;
 use compound::unknown::Unknown;
 use report::receiver::ReceiverReport;
+use report::report::Report;
 use report::sender::SenderReport;
 use sdes::sdes::Sdes;
 use utils::error::Code;

@@ -10,6 +10,7 @@ ghost use Rattle.rtcp.specs.Report.{block_result, rr_result, sr_result, blocks_o
 
 use super::write_result::RtcpWritten;
 use report::receiver::ReceiverReport;
+use report::report::Report;
 use report::report_block::{ReportBlock, list_blocks_unchecked};
 use report::sender::SenderReport;
 use utils::error::{Code, RtcpParseError};

@@ -1,5 +1,5 @@
 use Rattle.report.proofs.Reports.{fields}
-use Rattle.report.proofs.sender.SenderReport.read.Goals as goal
+use Rattle.report.proofs.sender.SenderReportReport.read_unchecked.Goals as goal
 
 pub parse_ssrc-requires : goal.parse_ssrc-requires
 parse_ssrc-requires c = search fields

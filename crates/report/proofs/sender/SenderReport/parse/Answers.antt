@@ -1,8 +1,0 @@
-use Rattle.report.proofs.Reports.{fields}
-use Rattle.report.proofs.sender.SenderReport.parse.Goals as goal
-
-pub returns-then-report-eq0 : goal.returns-then-report-eq0
-returns-then-report-eq0 c = search fields
-
-pub returns : goal.returns
-returns c = search fields

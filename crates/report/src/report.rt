@@ -1,0 +1,159 @@
+// What sender and receiver reports have in common: the blocks after the fields, the extension after the blocks, the padding.
+ghost use Rattle.std.specs.Prelude.{◌≡◌, ℕ, ◌-◌, take, drop};
+ghost use Rattle.rfc3550.specs.Answer.{ok, map_ok};
+ghost use Rattle.rfc3550.specs.Packet.{Packet};
+ghost use Rattle.rfc3550.specs.Read.{Kind, read_as, read_block_at};
+ghost use Rattle.utils.specs.Error.{parse_refusal, refusal_in, value_or, parsed_of};
+ghost use Rattle.utils.specs.List.{listed_of};
+ghost use Rattle.report.specs.Block.{block_view, lay_blocks};
+ghost use Rattle.report.specs.Report.{report_body, report_blocks};
+ghost use Rattle.report.specs.Reporter.{places_of, ReportLaws};
+ghost use Rattle.report.specs.declared.report.Places.{Places};
+
+use super::report_block::{ReportBlock, list_blocks_unchecked, parse_block_unchecked};
+use utils::error::RtcpParseError;
+use utils::list::ListError;
+
+// How many blocks a report has, and where its parts lie: the extension between the places extension and body, where the padding starts.
+#[derive(Clone, Copy)]
+pub struct Places {
+    pub n_reports: usize,
+    pub extension: usize,
+    pub body: usize,
+}
+
+pub trait Report: Copy + Default {
+    const MIN_PACKET_LEN: usize;
+
+    const PACKET_TYPE: u8;
+
+    ghost MIN_PACKET_LEN: { ℕ };
+
+    ghost PACKET_TYPE: { ℕ };
+
+    // The kind that is read, what a report tells of its packet, and what stands for a report that is refused.
+    ghost kind: { Kind };
+
+    ghost view: { Packet → Self };
+
+    ghost none: { Self };
+
+    ghost places: { Self → Places };
+
+    ghost padding_len: { Self → ℕ };
+
+    // The report of a packet whose places are these, which the caller has checked.
+    fn read_unchecked(s: &[u8], at: Places) -> Self
+        requires { map_ok places_of (read_as kind s.now) ≡ ok at }
+        ensures { ok result ≡ map_ok view (read_as kind s.now) };
+
+    fn places(self) -> Places
+        ensures { result ≡ places self };
+
+    fn padding_len(self) -> usize
+        ensures { result ≡ padding_len self };
+
+    ghost laws: { ReportLaws kind MIN_PACKET_LEN PACKET_TYPE none view places };
+
+    ghost default_is_none: { (x : Self) → Self.is_default x → x ≡ none };
+
+    // The length of the body; 0 where the packet is refused.
+    final fn body_of(s: &[u8]) -> usize
+        ensures { result ≡ value_or 0 report_body (read_as kind s.now) }
+    {
+        let body = utils::parser::body_of(s, Self::MIN_PACKET_LEN, Self::PACKET_TYPE);
+        if body == 0 {
+            return 0;
+        }
+        let n_reports = utils::parser::parse_count(s) as usize;
+        if body < Self::MIN_PACKET_LEN + ReportBlock::EXPECTED_SIZE * n_reports {
+            return 0;
+        }
+        body
+    }
+
+    // Why it is refused; NothingLeft where it is not.
+    #[cold]
+    final fn why(s: &[u8]) -> RtcpParseError
+        ensures { parse_refusal result ≡ refusal_in (read_as kind s.now) }
+    {
+        let actual = utils::parser::body_of(s, Self::MIN_PACKET_LEN, Self::PACKET_TYPE);
+        if actual == 0 {
+            return utils::parser::why_header(s, Self::MIN_PACKET_LEN, Self::PACKET_TYPE);
+        }
+        let n_reports = utils::parser::parse_count(s) as usize;
+        let expected = Self::MIN_PACKET_LEN + ReportBlock::EXPECTED_SIZE * n_reports;
+        if actual < expected {
+            return RtcpParseError::Truncated { expected, actual };
+        }
+        RtcpParseError::NothingLeft
+    }
+
+    // All 0, where the packet is refused.
+    final fn read(s: &[u8]) -> Self
+        ensures { result ≡ value_or none view (read_as kind s.now) }
+    {
+        let body = Self::body_of(s);
+        if body == 0 {
+            return Self::default();
+        }
+        let n_reports = utils::parser::parse_count(s) as usize;
+        let extension = Self::MIN_PACKET_LEN + ReportBlock::EXPECTED_SIZE * n_reports;
+        let places = Places {
+            n_reports,
+            extension,
+            body,
+        };
+        Self::read_unchecked(s, places)
+    }
+
+    final fn parse(s: &[u8]) -> Result<Self, RtcpParseError>
+        ensures { parsed_of result ≡ map_ok view (read_as kind s.now) }
+    {
+        let report = Self::read(s);
+        if report.places().body == 0 {
+            return Err(Self::why(s));
+        }
+        Ok(report)
+    }
+
+    // The block with an index, from 0.
+    final fn report_block(s: &[u8], i: usize) -> Result<ReportBlock, RtcpParseError>
+        ensures { parsed_of result ≡ map_ok block_view (read_block_at kind s.now i) }
+    {
+        let report = Self::parse(s)?;
+        if report.places().n_reports <= i {
+            return Err(RtcpParseError::NothingLeft);
+        }
+        let at = Self::MIN_PACKET_LEN + ReportBlock::EXPECTED_SIZE * i;
+        Ok(parse_block_unchecked(s, at))
+    }
+
+    // All blocks, into three lent lists: a fraction and a loss for each, and the five words that follow.
+    final fn report_blocks(
+        s: &[u8],
+        fractions: &mut [u8],
+        losses: &mut [i32],
+        words: &mut [u32],
+    ) -> Result<usize, ListError>
+        ensures { (listed_of result, fractions.new, losses.new, words.new) ≡ lay_blocks (map_ok report_blocks (read_as kind s.now)) fractions.old losses.old words.old }
+    {
+        let report = Self::parse(s)?;
+        let n = report.places().n_reports;
+        list_blocks_unchecked(s, Self::MIN_PACKET_LEN, n, fractions, losses, words)
+    }
+
+    // The bytes after the blocks, of the packet that was parsed.
+    final fn extension(self, s: &[u8]) -> &[u8]
+        ensures { result.now ≡ take ((places self).body - (places self).extension) (drop (places self).extension s.now) }
+    {
+        let places = self.places();
+        utils::parser::between(s, places.extension, places.body)
+    }
+
+    final fn padding_bytes(self, s: &[u8]) -> &[u8]
+        ensures { result.now ≡ take (padding_len self) (drop (places self).body s.now) }
+    {
+        utils::parser::part(s, self.places().body, self.padding_len())
+    }
+}
