@@ -1,6 +1,6 @@
 // Rows of reports whose blocks are lent as records, and of the walk over chunks that holds its bytes.
 use sdes_chunk::chunk::SdesChunk;
-use utils::error::RtcpParseError;
+use utils::error::{Code, RtcpParseError};
 use super::answer::Answer;
 use super::operation::{Walking, Way};
 use super::print::numbers;
@@ -48,7 +48,7 @@ fn called(to: &mut Vec<u8>, r: Call) -> io::Result<()> {
     match answer {
         Ok(()) => numbers(to, &[0u64, 0, 0])?,
         Err(e) => {
-            let code = e.code();
+            let code = Code::from(e);
             numbers(to, &[code.number, code.first, code.second])?;
         }
     }
@@ -82,9 +82,9 @@ pub fn report(
     match way {
         Way::Alone => {
             let size = records::calculate_size(reporter, &blocks, padding);
-            RtcpWritten::from_written(size).print(request.to)?;
+            RtcpWritten::from(size).print(request.to)?;
             let answer = records::write_into(request.buf, reporter, &blocks, padding);
-            RtcpWritten::from_written(answer).print(request.to)
+            RtcpWritten::from(answer).print(request.to)
         }
         Way::Added => {
             let writer = writer_in(request.writer);
@@ -101,7 +101,7 @@ fn opened(to: &mut Vec<u8>, answer: Result<ChunkWalk, RtcpParseError>) -> io::Re
             numbers(to, &[walk.at, walk.end])
         }
         Err(e) => {
-            let code = e.code();
+            let code = Code::from(e);
             numbers(to, &[code.number, code.first, code.second, 0, 0])
         }
     }
@@ -115,7 +115,7 @@ fn stepped(to: &mut Vec<u8>, answer: Result<(SdesChunk, ChunkWalk), RtcpParseErr
             numbers(to, &[chunk.length, chunk.cname, next.at, next.end])
         }
         Err(e) => {
-            let code = e.code();
+            let code = Code::from(e);
             numbers(to, &[code.number, code.first, code.second, 0])?;
             numbers(to, &[0, 0, at, end])
         }

@@ -1,5 +1,6 @@
 -- What every result of C has first: the paper's number, 0 where it is done, and the two details. On a refusal all that follows is 0.
-use Rattle.std.specs.Prelude.{ℕ, Bool, true, false}
+use Rattle.std.specs.Prelude.{ℕ, Bool}
+use Rattle.std.specs.Int.{from_bool}
 use Rattle.rfc3550.specs.Answer.{Refusal, refusal, Answer, ok, refused}
 use Rattle.utils.specs.Error.{number_in}
 
@@ -32,5 +33,4 @@ module _ {A : Type 0} where
 
 -- a bool as C gets it
 abbrev pub bit : Bool → ℕ
-bit true = 1
-bit false = 0
+bit = from_bool

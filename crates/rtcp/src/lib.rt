@@ -9,7 +9,6 @@ pub mod read_lookup;
 pub mod read_report;
 pub mod read_sdes;
 pub mod receive;
-pub mod result;
 pub mod write_app;
 pub mod write_bye;
 pub mod write_compound;

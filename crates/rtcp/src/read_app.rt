@@ -6,9 +6,10 @@ ghost use Rattle.app.specs.App.{app_view};
 ghost use Rattle.rtcp.specs.App.{app_result};
 
 use app::App;
+use utils::error::Code;
 
 #[repr(C)]
-#[derive(Clone, Copy)]
+#[derive(Clone, Copy, Default)]
 pub struct RtcpApp {
     pub number: u64,
     pub first: u64,
@@ -28,9 +29,6 @@ pub fn rtcp_app_parse(s: &[u8]) -> RtcpApp
 {
     match App::parse(s) {
         Ok(app) => RtcpApp {
-            number: 0,
-            first: 0,
-            second: 0,
             subtype: app.subtype as u64,
             ssrc: app.ssrc as u64,
             name: App::NAME as u64,
@@ -39,21 +37,15 @@ pub fn rtcp_app_parse(s: &[u8]) -> RtcpApp
             data_len: (app.body - App::MIN_PACKET_LEN) as u64,
             body: app.body as u64,
             padding_len: app.padding_len as u64,
+            ..RtcpApp::default()
         },
         Err(e) => {
-            let code = e.code();
+            let code = Code::from(e);
             RtcpApp {
                 number: code.number,
                 first: code.first,
                 second: code.second,
-                subtype: 0,
-                ssrc: 0,
-                name: 0,
-                name_len: 0,
-                data: 0,
-                data_len: 0,
-                body: 0,
-                padding_len: 0,
+                ..RtcpApp::default()
             }
         }
     }

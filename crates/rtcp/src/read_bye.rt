@@ -2,14 +2,15 @@
 ghost use Rattle.std.specs.Prelude.{◌≡◌};
 ghost use Rattle.rfc3550.specs.Answer.{map_ok};
 ghost use Rattle.rfc3550.specs.Read.{BYE, read_as, read_source_at};
+ghost use Rattle.utils.specs.Error.{parsed_of};
 ghost use Rattle.bye.specs.Bye.{bye_view};
 ghost use Rattle.rtcp.specs.Bye.{bye_result, source_result};
 
-use super::result::bit;
 use bye::Bye;
+use utils::error::{Code, RtcpParseError};
 
 #[repr(C)]
-#[derive(Clone, Copy)]
+#[derive(Clone, Copy, Default)]
 pub struct RtcpBye {
     pub number: u64,
     pub first: u64,
@@ -25,7 +26,7 @@ pub struct RtcpBye {
 }
 
 #[repr(C)]
-#[derive(Clone, Copy)]
+#[derive(Clone, Copy, Default)]
 pub struct RtcpSource {
     pub number: u64,
     pub first: u64,
@@ -33,37 +34,50 @@ pub struct RtcpSource {
     pub ssrc: u64,
 }
 
+impl From<Result<u32, RtcpParseError>> for RtcpSource {
+    ghost from_gives = { λ a r. r ≡ source_result (parsed_of a) };
+
+    fn from(answer: Result<u32, RtcpParseError>) -> RtcpSource {
+        match answer {
+            Ok(ssrc) => RtcpSource {
+                ssrc: ssrc as u64,
+                ..RtcpSource::default()
+            },
+            Err(e) => {
+                let code = Code::from(e);
+                RtcpSource {
+                    number: code.number,
+                    first: code.first,
+                    second: code.second,
+                    ..RtcpSource::default()
+                }
+            }
+        }
+    }
+}
+
 pub fn rtcp_bye_parse(s: &[u8]) -> RtcpBye
     ensures { result ≡ bye_result (map_ok bye_view (read_as BYE s.now)) }
 {
     match Bye::parse(s) {
         Ok(bye) => RtcpBye {
-            number: 0,
-            first: 0,
-            second: 0,
             n_sources: bye.n_sources as u64,
-            has_reason: bit(bye.has_reason),
+            has_reason: u64::from(bye.has_reason),
             reason: bye.reason as u64,
             reason_len: bye.reason_len as u64,
             tail: (bye.reason + bye.reason_len) as u64,
             tail_len: (bye.body - (bye.reason + bye.reason_len)) as u64,
             body: bye.body as u64,
             padding_len: bye.padding_len as u64,
+            ..RtcpBye::default()
         },
         Err(e) => {
-            let code = e.code();
+            let code = Code::from(e);
             RtcpBye {
                 number: code.number,
                 first: code.first,
                 second: code.second,
-                n_sources: 0,
-                has_reason: 0,
-                reason: 0,
-                reason_len: 0,
-                tail: 0,
-                tail_len: 0,
-                body: 0,
-                padding_len: 0,
+                ..RtcpBye::default()
             }
         }
     }
@@ -73,21 +87,5 @@ pub fn rtcp_bye_parse(s: &[u8]) -> RtcpBye
 pub fn rtcp_bye_source(s: &[u8], i: u64) -> RtcpSource
     ensures { result ≡ source_result (read_source_at s.now i) }
 {
-    match Bye::source(s, i as usize) {
-        Ok(ssrc) => RtcpSource {
-            number: 0,
-            first: 0,
-            second: 0,
-            ssrc: ssrc as u64,
-        },
-        Err(e) => {
-            let code = e.code();
-            RtcpSource {
-                number: code.number,
-                first: code.first,
-                second: code.second,
-                ssrc: 0,
-            }
-        }
-    }
+    RtcpSource::from(Bye::source(s, i as usize))
 }

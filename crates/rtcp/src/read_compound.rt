@@ -4,13 +4,12 @@ ghost use Rattle.rfc3550.specs.Answer.{map_ok, refused};
 ghost use Rattle.rfc3550.specs.Read.{kind_of, type_in, low_in};
 ghost use Rattle.rfc3550.specs.Compound.{read_compound};
 ghost use Rattle.rfc3550.specs.Walk.{open_walk, step};
-ghost use Rattle.utils.specs.Error.{code_refusal};
+ghost use Rattle.utils.specs.Error.{code_refusal, parsed_of};
 ghost use Rattle.utils.specs.List.{lay_list};
 ghost use Rattle.compound.specs.Compound.{compound_view, packet_rows, walk_at, step_view};
 ghost use Rattle.rtcp.specs.Compound.{bare_numbers, sr_numbers, rr_numbers, sdes_numbers, bye_numbers, app_numbers, unknown_numbers, numbers_read, compound_result, walk_result, step_result};
 ghost use Rattle.rtcp.specs.WriteResult.{written_with_buffer};
 
-use super::result::bit;
 use super::write_result::RtcpWritten;
 use app::App;
 use bye::Bye;
@@ -22,10 +21,10 @@ use report::receiver::ReceiverReport;
 use report::report::Report;
 use report::sender::SenderReport;
 use sdes::sdes::Sdes;
-use utils::error::Code;
+use utils::error::{Code, RtcpParseError};
 
 #[repr(C)]
-#[derive(Clone, Copy)]
+#[derive(Clone, Copy, Default)]
 pub struct RtcpCompound {
     pub number: u64,
     pub first: u64,
@@ -34,7 +33,7 @@ pub struct RtcpCompound {
 }
 
 #[repr(C)]
-#[derive(Clone, Copy)]
+#[derive(Clone, Copy, Default)]
 pub struct RtcpWalk {
     pub number: u64,
     pub first: u64,
@@ -45,7 +44,7 @@ pub struct RtcpWalk {
 // The packet has `len` bytes from `offset`. Every other place is counted from the packet's start, so the numbers are those that the function of
 // its kind gives of these bytes; 0 where its kind has no such field.
 #[repr(C)]
-#[derive(Clone, Copy)]
+#[derive(Clone, Copy, Default)]
 pub struct RtcpStep {
     pub number: u64,
     pub first: u64,
@@ -79,30 +78,14 @@ impl RtcpStep {
             number: code.number,
             first: code.first,
             second: code.second,
-            kind: 0,
-            packet_type: 0,
-            count: 0,
-            offset: 0,
-            len: 0,
-            body: 0,
-            padding_len: 0,
-            ssrc: 0,
-            ntp_timestamp: 0,
-            rtp_timestamp: 0,
-            packet_count: 0,
-            octet_count: 0,
-            extension: 0,
-            has_cname: 0,
-            has_reason: 0,
-            reason: 0,
-            reason_len: 0,
             at,
+            ..Self::default()
         }
     }
 }
 
 // A packet of any kind as numbers. The kind is its packet type, or 0 where the type has no layout.
-#[derive(Clone, Copy)]
+#[derive(Clone, Copy, Default)]
 struct PacketNumbers {
     kind: u64,
     packet_type: u64,
@@ -132,93 +115,8 @@ impl PacketNumbers {
             count: count as u64,
             body: body as u64,
             padding_len: padding_len as u64,
-            ssrc: 0,
-            ntp_timestamp: 0,
-            rtp_timestamp: 0,
-            packet_count: 0,
-            octet_count: 0,
-            extension: 0,
-            has_cname: 0,
-            has_reason: 0,
-            reason: 0,
-            reason_len: 0,
+            ..PacketNumbers::default()
         }
-    }
-
-    fn of_sr(sr: SenderReport) -> PacketNumbers
-        ensures { result ≡ sr_numbers sr }
-    {
-        let mut n = Self::bare(
-            SenderReport::PACKET_TYPE,
-            sr.n_reports,
-            sr.body,
-            sr.padding_len,
-        );
-        n.ssrc = sr.ssrc as u64;
-        n.ntp_timestamp = sr.ntp_timestamp;
-        n.rtp_timestamp = sr.rtp_timestamp as u64;
-        n.packet_count = sr.packet_count as u64;
-        n.octet_count = sr.octet_count as u64;
-        n.extension = sr.extension as u64;
-        n
-    }
-
-    fn of_rr(rr: ReceiverReport) -> PacketNumbers
-        ensures { result ≡ rr_numbers rr }
-    {
-        let mut n = Self::bare(
-            ReceiverReport::PACKET_TYPE,
-            rr.n_reports,
-            rr.body,
-            rr.padding_len,
-        );
-        n.ssrc = rr.ssrc as u64;
-        n.extension = rr.extension as u64;
-        n
-    }
-
-    fn of_sdes(sdes: Sdes) -> PacketNumbers
-        ensures { result ≡ sdes_numbers sdes }
-    {
-        let mut n = Self::bare(
-            Sdes::PACKET_TYPE,
-            sdes.n_chunks,
-            sdes.body,
-            sdes.padding_len,
-        );
-        n.has_cname = bit(sdes.has_cname);
-        n
-    }
-
-    fn of_bye(bye: Bye) -> PacketNumbers
-        ensures { result ≡ bye_numbers bye }
-    {
-        let mut n = Self::bare(Bye::PACKET_TYPE, bye.n_sources, bye.body, bye.padding_len);
-        n.has_reason = bit(bye.has_reason);
-        n.reason = bye.reason as u64;
-        n.reason_len = bye.reason_len as u64;
-        n
-    }
-
-    fn of_app(app: App) -> PacketNumbers
-        ensures { result ≡ app_numbers app }
-    {
-        let mut n = Self::bare(
-            App::PACKET_TYPE,
-            app.subtype as usize,
-            app.body,
-            app.padding_len,
-        );
-        n.ssrc = app.ssrc as u64;
-        n
-    }
-
-    fn of_unknown(u: Unknown) -> PacketNumbers
-        ensures { result ≡ unknown_numbers u }
-    {
-        let mut n = Self::bare(u.packet_type, u.count as usize, u.body, u.padding_len);
-        n.kind = 0;
-        n
     }
 
     // With body 0, where the packet is refused.
@@ -226,12 +124,155 @@ impl PacketNumbers {
         ensures { result ≡ numbers_read (kind_of (type_in s.now) (low_in s.now)) s.now }
     {
         match kind_of(s) {
-            Kind::Sr => Self::of_sr(SenderReport::read(s)),
-            Kind::Rr => Self::of_rr(ReceiverReport::read(s)),
-            Kind::Sdes => Self::of_sdes(Sdes::read(s)),
-            Kind::Bye => Self::of_bye(Bye::read(s)),
-            Kind::App => Self::of_app(App::read(s)),
-            Kind::Unknown => Self::of_unknown(Unknown::read(s)),
+            Kind::Sr => Self::from(SenderReport::read(s)),
+            Kind::Rr => Self::from(ReceiverReport::read(s)),
+            Kind::Sdes => Self::from(Sdes::read(s)),
+            Kind::Bye => Self::from(Bye::read(s)),
+            Kind::App => Self::from(App::read(s)),
+            Kind::Unknown => Self::from(Unknown::read(s)),
+        }
+    }
+}
+
+impl From<SenderReport> for PacketNumbers {
+    ghost from_gives = { λ sr n. n ≡ sr_numbers sr };
+
+    fn from(sr: SenderReport) -> PacketNumbers {
+        PacketNumbers {
+            ssrc: sr.ssrc as u64,
+            ntp_timestamp: sr.ntp_timestamp,
+            rtp_timestamp: sr.rtp_timestamp as u64,
+            packet_count: sr.packet_count as u64,
+            octet_count: sr.octet_count as u64,
+            extension: sr.extension as u64,
+            ..Self::bare(
+                SenderReport::PACKET_TYPE,
+                sr.n_reports,
+                sr.body,
+                sr.padding_len,
+            )
+        }
+    }
+}
+
+impl From<ReceiverReport> for PacketNumbers {
+    ghost from_gives = { λ rr n. n ≡ rr_numbers rr };
+
+    fn from(rr: ReceiverReport) -> PacketNumbers {
+        PacketNumbers {
+            ssrc: rr.ssrc as u64,
+            extension: rr.extension as u64,
+            ..Self::bare(
+                ReceiverReport::PACKET_TYPE,
+                rr.n_reports,
+                rr.body,
+                rr.padding_len,
+            )
+        }
+    }
+}
+
+impl From<Sdes> for PacketNumbers {
+    ghost from_gives = { λ sdes n. n ≡ sdes_numbers sdes };
+
+    fn from(sdes: Sdes) -> PacketNumbers {
+        PacketNumbers {
+            has_cname: u64::from(sdes.has_cname),
+            ..Self::bare(
+                Sdes::PACKET_TYPE,
+                sdes.n_chunks,
+                sdes.body,
+                sdes.padding_len,
+            )
+        }
+    }
+}
+
+impl From<Bye> for PacketNumbers {
+    ghost from_gives = { λ bye n. n ≡ bye_numbers bye };
+
+    fn from(bye: Bye) -> PacketNumbers {
+        PacketNumbers {
+            has_reason: u64::from(bye.has_reason),
+            reason: bye.reason as u64,
+            reason_len: bye.reason_len as u64,
+            ..Self::bare(Bye::PACKET_TYPE, bye.n_sources, bye.body, bye.padding_len)
+        }
+    }
+}
+
+impl From<App> for PacketNumbers {
+    ghost from_gives = { λ app n. n ≡ app_numbers app };
+
+    fn from(app: App) -> PacketNumbers {
+        PacketNumbers {
+            ssrc: app.ssrc as u64,
+            ..Self::bare(
+                App::PACKET_TYPE,
+                app.subtype as usize,
+                app.body,
+                app.padding_len,
+            )
+        }
+    }
+}
+
+impl From<Unknown> for PacketNumbers {
+    ghost from_gives = { λ unknown n. n ≡ unknown_numbers unknown };
+
+    fn from(unknown: Unknown) -> PacketNumbers {
+        PacketNumbers {
+            kind: 0,
+            ..Self::bare(
+                unknown.packet_type,
+                unknown.count as usize,
+                unknown.body,
+                unknown.padding_len,
+            )
+        }
+    }
+}
+
+impl From<Result<Compound, RtcpParseError>> for RtcpCompound {
+    ghost from_gives = { λ a r. r ≡ compound_result (parsed_of a) };
+
+    fn from(answer: Result<Compound, RtcpParseError>) -> RtcpCompound {
+        match answer {
+            Ok(compound) => RtcpCompound {
+                n_packets: compound.n_packets as u64,
+                ..RtcpCompound::default()
+            },
+            Err(e) => {
+                let code = Code::from(e);
+                RtcpCompound {
+                    number: code.number,
+                    first: code.first,
+                    second: code.second,
+                    ..RtcpCompound::default()
+                }
+            }
+        }
+    }
+}
+
+impl From<Result<Walk, RtcpParseError>> for RtcpWalk {
+    ghost from_gives = { λ a r. r ≡ walk_result (parsed_of a) };
+
+    fn from(answer: Result<Walk, RtcpParseError>) -> RtcpWalk {
+        match answer {
+            Ok(walk) => RtcpWalk {
+                at: walk.at as u64,
+                ..RtcpWalk::default()
+            },
+            Err(e) => {
+                let code = Code::from(e);
+                RtcpWalk {
+                    number: code.number,
+                    first: code.first,
+                    second: code.second,
+                    ..RtcpWalk::default()
+                }
+            }
         }
     }
 }
@@ -239,52 +280,20 @@ impl PacketNumbers {
 pub fn rtcp_compound_parse(s: &[u8]) -> RtcpCompound
     ensures { result ≡ compound_result (map_ok compound_view (read_compound s.now)) }
 {
-    match Compound::parse(s) {
-        Ok(compound) => RtcpCompound {
-            number: 0,
-            first: 0,
-            second: 0,
-            n_packets: compound.n_packets as u64,
-        },
-        Err(e) => {
-            let code = e.code();
-            RtcpCompound {
-                number: code.number,
-                first: code.first,
-                second: code.second,
-                n_packets: 0,
-            }
-        }
-    }
+    RtcpCompound::from(Compound::parse(s))
 }
 
 // Three numbers for each packet, in order, into a lent list: its type, its offset in the datagram and its length.
 pub fn rtcp_compound_packets(s: &[u8], packets: &mut [u64]) -> RtcpWritten
     ensures { (result, packets.new) ≡ written_with_buffer (lay_list (map_ok packet_rows (read_compound s.now)) packets.old) }
 {
-    RtcpWritten::from_listed(Compound::packets(s, packets))
+    RtcpWritten::from(Compound::packets(s, packets))
 }
 
 pub fn rtcp_walk_open(s: &[u8]) -> RtcpWalk
     ensures { result ≡ walk_result (map_ok walk_at (open_walk s.now)) }
 {
-    match Walk::open(s) {
-        Ok(walk) => RtcpWalk {
-            number: 0,
-            first: 0,
-            second: 0,
-            at: walk.at as u64,
-        },
-        Err(e) => {
-            let code = e.code();
-            RtcpWalk {
-                number: code.number,
-                first: code.first,
-                second: code.second,
-                at: 0,
-            }
-        }
-    }
+    RtcpWalk::from(Walk::open(s))
 }
 
 pub fn rtcp_walk_step(s: &[u8], at: u64) -> RtcpStep
@@ -294,18 +303,15 @@ pub fn rtcp_walk_step(s: &[u8], at: u64) -> RtcpStep
     let len = packet_len(s, from);
     if len == 0 {
         let why = why_len(&s[0..], from);
-        return RtcpStep::coded(why.code(), at);
+        return RtcpStep::coded(Code::from(why), at);
     }
     let end = from + len;
     let n = PacketNumbers::read(&s[from..end]);
     if n.body == 0 {
         let why = Packet::why(&s[from..end]);
-        return RtcpStep::coded(why.code(), at);
+        return RtcpStep::coded(Code::from(why), at);
     }
     RtcpStep {
-        number: 0,
-        first: 0,
-        second: 0,
         kind: n.kind,
         packet_type: n.packet_type,
         count: n.count,
@@ -324,5 +330,6 @@ pub fn rtcp_walk_step(s: &[u8], at: u64) -> RtcpStep
         reason: n.reason,
         reason_len: n.reason_len,
         at: end as u64,
+        ..RtcpStep::default()
     }
 }

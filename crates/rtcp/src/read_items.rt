@@ -12,5 +12,5 @@ use super::write_result::RtcpWritten;
 pub fn rtcp_sdes_items(s: &[u8], rows: &mut [u32]) -> RtcpWritten
     ensures { (result, rows.new) ≡ written_with_buffer (lay_list (map_ok sdes_rows (read_as SDES s.now)) rows.old) }
 {
-    RtcpWritten::from_listed(sdes::items::items(s, rows))
+    RtcpWritten::from(sdes::items::items(s, rows))
 }

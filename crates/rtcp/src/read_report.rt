@@ -17,7 +17,7 @@ use utils::error::{Code, RtcpParseError};
 use utils::list::ListError;
 
 #[repr(C)]
-#[derive(Clone, Copy)]
+#[derive(Clone, Copy, Default)]
 pub struct RtcpBlock {
     pub number: u64,
     pub first: u64,
@@ -32,7 +32,7 @@ pub struct RtcpBlock {
 }
 
 #[repr(C)]
-#[derive(Clone, Copy)]
+#[derive(Clone, Copy, Default)]
 pub struct RtcpRr {
     pub number: u64,
     pub first: u64,
@@ -46,7 +46,7 @@ pub struct RtcpRr {
 }
 
 #[repr(C)]
-#[derive(Clone, Copy)]
+#[derive(Clone, Copy, Default)]
 pub struct RtcpSr {
     pub number: u64,
     pub first: u64,
@@ -63,15 +63,12 @@ pub struct RtcpSr {
     pub padding_len: u64,
 }
 
-impl RtcpBlock {
-    pub fn from_parsed(parsed: Result<ReportBlock, RtcpParseError>) -> RtcpBlock
-        ensures { result ≡ block_result (parsed_of parsed) }
-    {
-        match parsed {
+impl From<Result<ReportBlock, RtcpParseError>> for RtcpBlock {
+    ghost from_gives = { λ a r. r ≡ block_result (parsed_of a) };
+
+    fn from(answer: Result<ReportBlock, RtcpParseError>) -> RtcpBlock {
+        match answer {
             Ok(block) => RtcpBlock {
-                number: 0,
-                first: 0,
-                second: 0,
                 ssrc: block.ssrc as u64,
                 fraction_lost: block.fraction_lost as u64,
                 cumulative_lost: block.cumulative_lost,
@@ -79,58 +76,47 @@ impl RtcpBlock {
                 interarrival_jitter: block.interarrival_jitter as u64,
                 last_sender_report_timestamp: block.last_sender_report_timestamp as u64,
                 delay_since_last_sender_report_timestamp: block.delay_since_last_sender_report_timestamp as u64,
+                ..RtcpBlock::default()
             },
             Err(e) => {
-                let code = e.code();
+                let code = Code::from(e);
                 RtcpBlock {
                     number: code.number,
                     first: code.first,
                     second: code.second,
-                    ssrc: 0,
-                    fraction_lost: 0,
-                    cumulative_lost: 0,
-                    extended_sequence_number: 0,
-                    interarrival_jitter: 0,
-                    last_sender_report_timestamp: 0,
-                    delay_since_last_sender_report_timestamp: 0,
+                    ..RtcpBlock::default()
                 }
             }
         }
     }
 }
 
-impl RtcpRr {
-    // A refusal by its three numbers.
-    fn coded(code: Code) -> RtcpRr
-        ensures { result ≡ rr_result (refused (code_refusal code)) }
-    {
+impl From<Code> for RtcpRr {
+    ghost from_gives = { λ c r. r ≡ rr_result (refused (code_refusal c)) };
+
+    fn from(code: Code) -> RtcpRr {
         RtcpRr {
             number: code.number,
             first: code.first,
             second: code.second,
-            ssrc: 0,
-            n_reports: 0,
-            extension: 0,
-            extension_len: 0,
-            body: 0,
-            padding_len: 0,
+            ..RtcpRr::default()
         }
     }
+}
 
+impl RtcpRr {
     fn from_report(rr: ReceiverReport) -> RtcpRr
         requires { rr.extension ≤ rr.body }
         ensures { result ≡ rr_result (ok rr) }
     {
         RtcpRr {
-            number: 0,
-            first: 0,
-            second: 0,
             ssrc: rr.ssrc as u64,
             n_reports: rr.n_reports as u64,
             extension: rr.extension as u64,
             extension_len: (rr.body - rr.extension) as u64,
             body: rr.body as u64,
             padding_len: rr.padding_len as u64,
+            ..Self::default()
         }
     }
 
@@ -141,12 +127,20 @@ impl RtcpRr {
     {
         match listed {
             Ok(_) => RtcpRr::from_report(rr),
-            Err(ListError::TooShort(needed)) => RtcpRr::coded(Code {
-                number: 10,
-                first: needed as u64,
-                second: 0,
-            }),
-            Err(ListError::Refused(e)) => RtcpRr::coded(e.code()),
+            Err(e) => RtcpRr::from(Code::from(e)),
+        }
+    }
+}
+
+impl From<Code> for RtcpSr {
+    ghost from_gives = { λ c r. r ≡ sr_result (refused (code_refusal c)) };
+
+    fn from(code: Code) -> RtcpSr {
+        RtcpSr {
+            number: code.number,
+            first: code.first,
+            second: code.second,
+            ..RtcpSr::default()
         }
     }
 }
@@ -157,9 +151,6 @@ impl RtcpSr {
         ensures { result ≡ sr_result (ok sr) }
     {
         RtcpSr {
-            number: 0,
-            first: 0,
-            second: 0,
             ssrc: sr.ssrc as u64,
             ntp_timestamp: sr.ntp_timestamp,
             rtp_timestamp: sr.rtp_timestamp as u64,
@@ -170,6 +161,7 @@ impl RtcpSr {
             extension_len: (sr.body - sr.extension) as u64,
             body: sr.body as u64,
             padding_len: sr.padding_len as u64,
+            ..Self::default()
         }
     }
 
@@ -180,33 +172,7 @@ impl RtcpSr {
     {
         match listed {
             Ok(_) => RtcpSr::from_report(sr),
-            Err(ListError::TooShort(needed)) => RtcpSr::coded(Code {
-                number: 10,
-                first: needed as u64,
-                second: 0,
-            }),
-            Err(ListError::Refused(e)) => RtcpSr::coded(e.code()),
-        }
-    }
-
-    // A refusal by its three numbers.
-    fn coded(code: Code) -> RtcpSr
-        ensures { result ≡ sr_result (refused (code_refusal code)) }
-    {
-        RtcpSr {
-            number: code.number,
-            first: code.first,
-            second: code.second,
-            ssrc: 0,
-            ntp_timestamp: 0,
-            rtp_timestamp: 0,
-            packet_count: 0,
-            octet_count: 0,
-            n_reports: 0,
-            extension: 0,
-            extension_len: 0,
-            body: 0,
-            padding_len: 0,
+            Err(e) => RtcpSr::from(Code::from(e)),
         }
     }
 }
@@ -214,7 +180,7 @@ impl RtcpSr {
 pub fn rtcp_block_parse(s: &[u8]) -> RtcpBlock
     ensures { result ≡ block_result (map_ok block_view (read_block s.now)) }
 {
-    RtcpBlock::from_parsed(ReportBlock::parse(s))
+    RtcpBlock::from(ReportBlock::parse(s))
 }
 
 pub fn rtcp_rr_parse(s: &[u8]) -> RtcpRr
@@ -223,7 +189,7 @@ pub fn rtcp_rr_parse(s: &[u8]) -> RtcpRr
     let rr = ReceiverReport::read(s);
     if rr.body == 0 {
         let why = ReceiverReport::why(&s[0..]);
-        return RtcpRr::coded(why.code());
+        return RtcpRr::from(Code::from(why));
     }
     RtcpRr::from_report(rr)
 }
@@ -234,7 +200,7 @@ pub fn rtcp_sr_parse(s: &[u8]) -> RtcpSr
     let sr = SenderReport::read(s);
     if sr.body == 0 {
         let why = SenderReport::why(&s[0..]);
-        return RtcpSr::coded(why.code());
+        return RtcpSr::from(Code::from(why));
     }
     RtcpSr::from_report(sr)
 }
@@ -243,13 +209,13 @@ pub fn rtcp_sr_parse(s: &[u8]) -> RtcpSr
 pub fn rtcp_rr_report_block(s: &[u8], i: u64) -> RtcpBlock
     ensures { result ≡ block_result (map_ok block_view (read_block_at RR s.now i)) }
 {
-    RtcpBlock::from_parsed(ReceiverReport::report_block(s, i as usize))
+    RtcpBlock::from(ReceiverReport::report_block(s, i as usize))
 }
 
 pub fn rtcp_sr_report_block(s: &[u8], i: u64) -> RtcpBlock
     ensures { result ≡ block_result (map_ok block_view (read_block_at SR s.now i)) }
 {
-    RtcpBlock::from_parsed(SenderReport::report_block(s, i as usize))
+    RtcpBlock::from(SenderReport::report_block(s, i as usize))
 }
 
 // All blocks, into three lent lists: a fraction and a loss for each, and the five words that follow.
@@ -261,7 +227,7 @@ pub fn rtcp_rr_report_blocks(
 ) -> RtcpWritten
     ensures { (result, fractions.new, losses.new, words.new) ≡ blocks_out (lay_blocks (map_ok report_blocks (read_as RR s.now)) fractions.old losses.old words.old) }
 {
-    RtcpWritten::from_listed(ReceiverReport::report_blocks(s, fractions, losses, words))
+    RtcpWritten::from(ReceiverReport::report_blocks(s, fractions, losses, words))
 }
 
 pub fn rtcp_sr_report_blocks(
@@ -272,7 +238,7 @@ pub fn rtcp_sr_report_blocks(
 ) -> RtcpWritten
     ensures { (result, fractions.new, losses.new, words.new) ≡ blocks_out (lay_blocks (map_ok report_blocks (read_as SR s.now)) fractions.old losses.old words.old) }
 {
-    RtcpWritten::from_listed(SenderReport::report_blocks(s, fractions, losses, words))
+    RtcpWritten::from(SenderReport::report_blocks(s, fractions, losses, words))
 }
 
 // The report's own numbers, and its blocks as rtcp_rr_report_blocks lays them, in one reading of the packet.
@@ -282,7 +248,7 @@ pub fn rtcp_rr_read(s: &[u8], fractions: &mut [u8], losses: &mut [i32], words: &
     let rr = ReceiverReport::read(s);
     if rr.body == 0 {
         let why = ReceiverReport::why(&s[0..]);
-        return RtcpRr::coded(why.code());
+        return RtcpRr::from(Code::from(why));
     }
     let listed = list_blocks_unchecked(
         s,
@@ -301,7 +267,7 @@ pub fn rtcp_sr_read(s: &[u8], fractions: &mut [u8], losses: &mut [i32], words: &
     let sr = SenderReport::read(s);
     if sr.body == 0 {
         let why = SenderReport::why(&s[0..]);
-        return RtcpSr::coded(why.code());
+        return RtcpSr::from(Code::from(why));
     }
     let listed = list_blocks_unchecked(
         s,

@@ -3,6 +3,7 @@ ghost use Rattle.std.specs.Prelude.{◌≡◌, ◌+◌, ◌^◌, ◌<◌, ◌≤
 ghost use Rattle.rfc3550.specs.Answer.{map_ok};
 ghost use Rattle.rfc3550.specs.Read.{SDES, read_as, read_item, read_prefix, read_chunk};
 ghost use Rattle.rfc3550.specs.Walk.{open_sdes, sdes_step, open_items, item_step};
+ghost use Rattle.utils.specs.Error.{parsed_of};
 ghost use Rattle.sdes_chunk.specs.Item.{item_first};
 ghost use Rattle.sdes_chunk.specs.Chunk.{chunk_first};
 ghost use Rattle.sdes_chunk.specs.Walk.{item_walk, item_stepped};
@@ -10,13 +11,13 @@ ghost use Rattle.sdes.specs.Sdes.{sdes_view};
 ghost use Rattle.sdes.specs.Walk.{chunk_walk, chunk_stepped};
 ghost use Rattle.rtcp.specs.Sdes.{sdes_result, prefix_start, item_parts, item_result, prefix_result, chunk_result, chunk_walk_result, chunk_step_result, item_walk_result, item_step_result};
 
-use super::result::bit;
 use sdes::sdes::{ChunkWalk, Sdes};
 use sdes_chunk::chunk::{ItemWalk, SdesChunk};
 use sdes_chunk::item::SdesItem;
+use utils::error::{Code, RtcpParseError};
 
 #[repr(C)]
-#[derive(Clone, Copy)]
+#[derive(Clone, Copy, Default)]
 pub struct RtcpSdes {
     pub number: u64,
     pub first: u64,
@@ -28,7 +29,7 @@ pub struct RtcpSdes {
 }
 
 #[repr(C)]
-#[derive(Clone, Copy)]
+#[derive(Clone, Copy, Default)]
 pub struct RtcpItem {
     pub number: u64,
     pub first: u64,
@@ -42,7 +43,7 @@ pub struct RtcpItem {
 }
 
 #[repr(C)]
-#[derive(Clone, Copy)]
+#[derive(Clone, Copy, Default)]
 pub struct RtcpPart {
     pub number: u64,
     pub first: u64,
@@ -52,7 +53,7 @@ pub struct RtcpPart {
 }
 
 #[repr(C)]
-#[derive(Clone, Copy)]
+#[derive(Clone, Copy, Default)]
 pub struct RtcpChunk {
     pub number: u64,
     pub first: u64,
@@ -63,7 +64,7 @@ pub struct RtcpChunk {
 }
 
 #[repr(C)]
-#[derive(Clone, Copy)]
+#[derive(Clone, Copy, Default)]
 pub struct RtcpChunkWalk {
     pub number: u64,
     pub first: u64,
@@ -73,7 +74,7 @@ pub struct RtcpChunkWalk {
 }
 
 #[repr(C)]
-#[derive(Clone, Copy)]
+#[derive(Clone, Copy, Default)]
 pub struct RtcpChunkStep {
     pub number: u64,
     pub first: u64,
@@ -86,7 +87,7 @@ pub struct RtcpChunkStep {
 }
 
 #[repr(C)]
-#[derive(Clone, Copy)]
+#[derive(Clone, Copy, Default)]
 pub struct RtcpItemWalk {
     pub number: u64,
     pub first: u64,
@@ -95,7 +96,7 @@ pub struct RtcpItemWalk {
 }
 
 #[repr(C)]
-#[derive(Clone, Copy)]
+#[derive(Clone, Copy, Default)]
 pub struct RtcpItemStep {
     pub number: u64,
     pub first: u64,
@@ -140,32 +141,104 @@ impl ItemParts {
     }
 }
 
-pub fn rtcp_sdes_parse(s: &[u8]) -> RtcpSdes
-    ensures { result ≡ sdes_result (map_ok sdes_view (read_as SDES s.now)) }
-{
-    match Sdes::parse(s) {
-        Ok(sdes) => RtcpSdes {
-            number: 0,
-            first: 0,
-            second: 0,
-            n_chunks: sdes.n_chunks as u64,
-            has_cname: bit(sdes.has_cname),
-            body: sdes.body as u64,
-            padding_len: sdes.padding_len as u64,
-        },
-        Err(e) => {
-            let code = e.code();
-            RtcpSdes {
-                number: code.number,
-                first: code.first,
-                second: code.second,
-                n_chunks: 0,
-                has_cname: 0,
-                body: 0,
-                padding_len: 0,
+impl From<Result<Sdes, RtcpParseError>> for RtcpSdes {
+    ghost from_gives = { λ a r. r ≡ sdes_result (parsed_of a) };
+
+    fn from(answer: Result<Sdes, RtcpParseError>) -> RtcpSdes {
+        match answer {
+            Ok(sdes) => RtcpSdes {
+                n_chunks: sdes.n_chunks as u64,
+                has_cname: u64::from(sdes.has_cname),
+                body: sdes.body as u64,
+                padding_len: sdes.padding_len as u64,
+                ..RtcpSdes::default()
+            },
+            Err(e) => {
+                let code = Code::from(e);
+                RtcpSdes {
+                    number: code.number,
+                    first: code.first,
+                    second: code.second,
+                    ..RtcpSdes::default()
+                }
             }
         }
     }
+}
+
+impl From<Result<SdesChunk, RtcpParseError>> for RtcpChunk {
+    ghost from_gives = { λ a r. r ≡ chunk_result (parsed_of a) };
+
+    fn from(answer: Result<SdesChunk, RtcpParseError>) -> RtcpChunk {
+        match answer {
+            Ok(chunk) => RtcpChunk {
+                ssrc: chunk.ssrc as u64,
+                length: chunk.length as u64,
+                cname: chunk.cname as u64,
+                ..RtcpChunk::default()
+            },
+            Err(e) => {
+                let code = Code::from(e);
+                RtcpChunk {
+                    number: code.number,
+                    first: code.first,
+                    second: code.second,
+                    ..RtcpChunk::default()
+                }
+            }
+        }
+    }
+}
+
+impl From<Result<ChunkWalk, RtcpParseError>> for RtcpChunkWalk {
+    ghost from_gives = { λ a r. r ≡ chunk_walk_result (parsed_of a) };
+
+    fn from(answer: Result<ChunkWalk, RtcpParseError>) -> RtcpChunkWalk {
+        match answer {
+            Ok(chunks) => RtcpChunkWalk {
+                at: chunks.at as u64,
+                end: chunks.end as u64,
+                ..RtcpChunkWalk::default()
+            },
+            Err(e) => {
+                let code = Code::from(e);
+                RtcpChunkWalk {
+                    number: code.number,
+                    first: code.first,
+                    second: code.second,
+                    ..RtcpChunkWalk::default()
+                }
+            }
+        }
+    }
+}
+
+impl From<Result<ItemWalk, RtcpParseError>> for RtcpItemWalk {
+    ghost from_gives = { λ a r. r ≡ item_walk_result (parsed_of a) };
+
+    fn from(answer: Result<ItemWalk, RtcpParseError>) -> RtcpItemWalk {
+        match answer {
+            Ok(items) => RtcpItemWalk {
+                at: items.at as u64,
+                ..RtcpItemWalk::default()
+            },
+            Err(e) => {
+                let code = Code::from(e);
+                RtcpItemWalk {
+                    number: code.number,
+                    first: code.first,
+                    second: code.second,
+                    ..RtcpItemWalk::default()
+                }
+            }
+        }
+    }
+}
+
+pub fn rtcp_sdes_parse(s: &[u8]) -> RtcpSdes
+    ensures { result ≡ sdes_result (map_ok sdes_view (read_as SDES s.now)) }
+{
+    RtcpSdes::from(Sdes::parse(s))
 }
 
 // A lone item.
@@ -176,29 +249,22 @@ pub fn rtcp_item_parse(s: &[u8]) -> RtcpItem
         Ok(item) => {
             let parts = ItemParts::of(item, 0);
             RtcpItem {
-                number: 0,
-                first: 0,
-                second: 0,
                 type_: item.type_ as u64,
                 length: item.length as u64,
                 prefix: parts.prefix,
                 prefix_len: item.prefix_len as u64,
                 value: parts.value,
                 value_len: parts.value_len,
+                ..RtcpItem::default()
             }
         }
         Err(e) => {
-            let code = e.code();
+            let code = Code::from(e);
             RtcpItem {
                 number: code.number,
                 first: code.first,
                 second: code.second,
-                type_: 0,
-                length: 0,
-                prefix: 0,
-                prefix_len: 0,
-                value: 0,
-                value_len: 0,
+                ..RtcpItem::default()
             }
         }
     }
@@ -216,16 +282,13 @@ pub fn rtcp_item_priv_prefix(s: &[u8]) -> RtcpPart
             number,
             first: answer[1],
             second: answer[2],
-            offset: 0,
-            len: 0,
+            ..RtcpPart::default()
         };
     }
     RtcpPart {
-        number: 0,
-        first: 0,
-        second: 0,
         offset: 3,
         len: prefix.len() as u64,
+        ..RtcpPart::default()
     }
 }
 
@@ -233,51 +296,13 @@ pub fn rtcp_item_priv_prefix(s: &[u8]) -> RtcpPart
 pub fn rtcp_chunk_parse(s: &[u8]) -> RtcpChunk
     ensures { result ≡ chunk_result (map_ok chunk_first (read_chunk s.now)) }
 {
-    match SdesChunk::parse(s) {
-        Ok(chunk) => RtcpChunk {
-            number: 0,
-            first: 0,
-            second: 0,
-            ssrc: chunk.ssrc as u64,
-            length: chunk.length as u64,
-            cname: chunk.cname as u64,
-        },
-        Err(e) => {
-            let code = e.code();
-            RtcpChunk {
-                number: code.number,
-                first: code.first,
-                second: code.second,
-                ssrc: 0,
-                length: 0,
-                cname: 0,
-            }
-        }
-    }
+    RtcpChunk::from(SdesChunk::parse(s))
 }
 
 pub fn rtcp_chunk_walk_open(s: &[u8]) -> RtcpChunkWalk
     ensures { result ≡ chunk_walk_result (map_ok chunk_walk (open_sdes s.now)) }
 {
-    match ChunkWalk::open(s) {
-        Ok(chunks) => RtcpChunkWalk {
-            number: 0,
-            first: 0,
-            second: 0,
-            at: chunks.at as u64,
-            end: chunks.end as u64,
-        },
-        Err(e) => {
-            let code = e.code();
-            RtcpChunkWalk {
-                number: code.number,
-                first: code.first,
-                second: code.second,
-                at: 0,
-                end: 0,
-            }
-        }
-    }
+    RtcpChunkWalk::from(ChunkWalk::open(s))
 }
 
 pub fn rtcp_chunk_walk_step(s: &[u8], at: u64, end: u64) -> RtcpChunkStep
@@ -289,26 +314,22 @@ pub fn rtcp_chunk_walk_step(s: &[u8], at: u64, end: u64) -> RtcpChunkStep
     };
     match walk.step(s) {
         Ok((chunk, next)) => RtcpChunkStep {
-            number: 0,
-            first: 0,
-            second: 0,
             ssrc: chunk.ssrc as u64,
             length: chunk.length as u64,
             cname: chunk.cname as u64,
             at: next.at as u64,
             end: next.end as u64,
+            ..RtcpChunkStep::default()
         },
         Err(e) => {
-            let code = e.code();
+            let code = Code::from(e);
             RtcpChunkStep {
                 number: code.number,
                 first: code.first,
                 second: code.second,
-                ssrc: 0,
-                length: 0,
-                cname: 0,
                 at,
                 end,
+                ..RtcpChunkStep::default()
             }
         }
     }
@@ -317,23 +338,7 @@ pub fn rtcp_chunk_walk_step(s: &[u8], at: u64, end: u64) -> RtcpChunkStep
 pub fn rtcp_item_walk_open(s: &[u8]) -> RtcpItemWalk
     ensures { result ≡ item_walk_result (map_ok item_walk (open_items s.now)) }
 {
-    match ItemWalk::open(s) {
-        Ok(items) => RtcpItemWalk {
-            number: 0,
-            first: 0,
-            second: 0,
-            at: items.at as u64,
-        },
-        Err(e) => {
-            let code = e.code();
-            RtcpItemWalk {
-                number: code.number,
-                first: code.first,
-                second: code.second,
-                at: 0,
-            }
-        }
-    }
+    RtcpItemWalk::from(ItemWalk::open(s))
 }
 
 // Offsets are counted from the chunk's start, as the walk's place is.
@@ -345,9 +350,6 @@ pub fn rtcp_item_walk_step(s: &[u8], at: u64) -> RtcpItemStep
         Ok((item, next)) => {
             let parts = ItemParts::of(item, at as usize);
             RtcpItemStep {
-                number: 0,
-                first: 0,
-                second: 0,
                 type_: item.type_ as u64,
                 length: item.length as u64,
                 prefix: parts.prefix,
@@ -355,21 +357,17 @@ pub fn rtcp_item_walk_step(s: &[u8], at: u64) -> RtcpItemStep
                 value: parts.value,
                 value_len: parts.value_len,
                 at: next.at as u64,
+                ..RtcpItemStep::default()
             }
         }
         Err(e) => {
-            let code = e.code();
+            let code = Code::from(e);
             RtcpItemStep {
                 number: code.number,
                 first: code.first,
                 second: code.second,
-                type_: 0,
-                length: 0,
-                prefix: 0,
-                prefix_len: 0,
-                value: 0,
-                value_len: 0,
                 at,
+                ..RtcpItemStep::default()
             }
         }
     }

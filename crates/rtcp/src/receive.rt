@@ -2,7 +2,7 @@
 ghost use Rattle.std.specs.Prelude.{◌≡◌};
 ghost use Rattle.rfc3550.specs.Reception.{new_reception, update, report_block};
 ghost use Rattle.reception.specs.Reception.{reception_of, report_of};
-ghost use Rattle.rtcp.specs.Receive.{reception_in, reception_result, update_result, no_block, report_result};
+ghost use Rattle.rtcp.specs.Receive.{reception_in, reception_result, update_result, report_result};
 
 use super::read_report::RtcpBlock;
 use super::result::bit;
@@ -39,10 +39,10 @@ pub struct RtcpReceptionBlock {
     pub block: RtcpBlock,
 }
 
-impl RtcpReception {
-    fn from_reception(s: Reception) -> RtcpReception
-        ensures { result ≡ reception_result (reception_of s) }
-    {
+impl From<Reception> for RtcpReception {
+    ghost from_gives = { λ s r. r ≡ reception_result (reception_of s) };
+
+    fn from(s: Reception) -> RtcpReception {
         RtcpReception {
             max_seq: s.max_seq,
             cycles: s.cycles,
@@ -56,40 +56,24 @@ impl RtcpReception {
             jitter: s.jitter,
         }
     }
-
-    fn to_reception(self) -> Reception
-        ensures { reception_of result ≡ reception_in self }
-    {
-        Reception {
-            max_seq: self.max_seq,
-            cycles: self.cycles,
-            base_seq: self.base_seq,
-            bad_seq: self.bad_seq,
-            probation: self.probation,
-            received: self.received,
-            expected_prior: self.expected_prior,
-            received_prior: self.received_prior,
-            transit: self.transit,
-            jitter: self.jitter,
-        }
-    }
 }
 
-// No block: every number is 0.
-fn no_block() -> RtcpBlock
-    ensures { result ≡ no_block }
-{
-    RtcpBlock {
-        number: 0,
-        first: 0,
-        second: 0,
-        ssrc: 0,
-        fraction_lost: 0,
-        cumulative_lost: 0,
-        extended_sequence_number: 0,
-        interarrival_jitter: 0,
-        last_sender_report_timestamp: 0,
-        delay_since_last_sender_report_timestamp: 0,
+impl From<RtcpReception> for Reception {
+    ghost from_gives = { λ s r. reception_of r ≡ reception_in s };
+
+    fn from(state: RtcpReception) -> Reception {
+        Reception {
+            max_seq: state.max_seq,
+            cycles: state.cycles,
+            base_seq: state.base_seq,
+            bad_seq: state.bad_seq,
+            probation: state.probation,
+            received: state.received,
+            expected_prior: state.expected_prior,
+            received_prior: state.received_prior,
+            transit: state.transit,
+            jitter: state.jitter,
+        }
     }
 }
 
@@ -102,14 +86,14 @@ impl RtcpReceptionBlock {
     {
         match reported {
             Some((block, after)) => RtcpReceptionBlock {
-                reception: RtcpReception::from_reception(after),
+                reception: RtcpReception::from(after),
                 in_probation: 0,
-                block: RtcpBlock::from_parsed(Ok(block)),
+                block: RtcpBlock::from(Ok(block)),
             },
             None => RtcpReceptionBlock {
                 reception: before,
                 in_probation: 1,
-                block: no_block(),
+                block: RtcpBlock::default(),
             },
         }
     }
@@ -119,7 +103,7 @@ impl RtcpReceptionBlock {
 pub fn rtcp_reception_new(seq: u16) -> RtcpReception
     ensures { result ≡ reception_result (new_reception seq) }
 {
-    RtcpReception::from_reception(Reception::new(seq))
+    RtcpReception::from(Reception::new(seq))
 }
 
 // The state after a packet, and whether A.1 accepts it.
@@ -131,10 +115,10 @@ pub fn rtcp_reception_update(
 ) -> RtcpReceptionUpdate
     ensures { result ≡ update_result (update (reception_in reception) seq timestamp arrival) }
 {
-    let after = reception.to_reception().update(seq, timestamp, arrival);
+    let after = Reception::from(reception).update(seq, timestamp, arrival);
     RtcpReceptionUpdate {
-        reception: RtcpReception::from_reception(after.reception),
-        accepted: bit(after.accepted),
+        reception: RtcpReception::from(after.reception),
+        accepted: u64::from(after.accepted),
     }
 }
 
@@ -147,7 +131,7 @@ pub fn rtcp_reception_report_block(
 ) -> RtcpReceptionBlock
     ensures { result ≡ report_result (report_block (reception_in reception) ssrc last_sender_report_timestamp delay_since_last_sender_report_timestamp) }
 {
-    let reported = reception.to_reception().report_block(
+    let reported = Reception::from(reception).report_block(
         ssrc,
         last_sender_report_timestamp,
         delay_since_last_sender_report_timestamp,

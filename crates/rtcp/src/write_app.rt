@@ -24,7 +24,7 @@ pub fn rtcp_app_write(
         data,
         padding,
     };
-    RtcpWritten::from_written(app.write_into(buf))
+    RtcpWritten::from(app.write_into(buf))
 }
 
 // The size is the same for every SSRC.
@@ -38,5 +38,5 @@ pub fn rtcp_app_size(subtype: u64, name: &[u8], data: &[u8], padding: u64) -> Rt
         data,
         padding,
     };
-    RtcpWritten::from_written(app.calculate_size())
+    RtcpWritten::from(app.calculate_size())
 }

@@ -15,7 +15,7 @@ pub fn rtcp_bye_write(buf: &mut [u8], sources: &[u32], reason: &[u8], padding: u
         reason,
         padding,
     };
-    RtcpWritten::from_written(bye.write_into(buf))
+    RtcpWritten::from(bye.write_into(buf))
 }
 
 pub fn rtcp_bye_size(sources: &[u32], reason: &[u8], padding: u64) -> RtcpWritten
@@ -26,5 +26,5 @@ pub fn rtcp_bye_size(sources: &[u32], reason: &[u8], padding: u64) -> RtcpWritte
         reason,
         padding,
     };
-    RtcpWritten::from_written(bye.calculate_size())
+    RtcpWritten::from(bye.calculate_size())
 }

@@ -4,10 +4,11 @@ ghost use Rattle.std.specs.Prelude.{◌≡◌, []};
 ghost use Rattle.rfc3550.specs.Packet.{receiver, sender};
 ghost use Rattle.rfc3550.specs.Write.{give_report, give_sdes, give_bye, give_app};
 ghost use Rattle.rfc3550.specs.Writer.{fresh, add, close, call};
+ghost use Rattle.utils.specs.Writer.{written_of};
 ghost use Rattle.report_write.specs.Report.{block_lists};
 ghost use Rattle.sdes_write.specs.Packets.{lists};
 ghost use Rattle.compound_write.specs.Writer.{writer_of, call_of};
-ghost use Rattle.rtcp.specs.WriteCompound.{writer_in, writer_out, call_with_state, call_with_buffer};
+ghost use Rattle.rtcp.specs.WriteCompound.{writer_in, writer_out, call_result, call_with_state, call_with_buffer};
 
 use super::result::bit;
 use app::write::AppBuilder;
@@ -17,10 +18,12 @@ use report_write::receiver::ReceiverReportBuilder;
 use report_write::report_block::BlockLists;
 use report_write::sender::{SenderInfo, SenderReportBuilder};
 use sdes_write::SdesBuilder;
+use report_write::sender::SenderInfo;
+use utils::error::{Code, RtcpWriteError};
 
 // What a call answers: 0, or the refusal and its details, which leaves the writer and the buffer as they were.
 #[repr(C)]
-#[derive(Clone, Copy)]
+#[derive(Clone, Copy, Default)]
 pub struct RtcpCall {
     pub number: u64,
     pub first: u64,
@@ -41,35 +44,38 @@ fn writer_in(state: &[u64; 4]) -> Writer
 fn writer_out(state: &mut [u64; 4], writer: Writer)
     ensures { state.new ≡ writer_out (writer_of writer) }
 {
-    let padded = bit(writer.padded);
-    let cname = bit(writer.cname);
-    let closed = bit(writer.closed);
+    let padded = u64::from(writer.padded);
+    let cname = u64::from(writer.cname);
+    let closed = u64::from(writer.closed);
     *state = [writer.len as u64, padded, cname, closed];
+}
+
+impl From<Result<(), RtcpWriteError>> for RtcpCall {
+    ghost from_gives = { λ w r. r ≡ call_result (written_of w) };
+
+    fn from(answer: Result<(), RtcpWriteError>) -> RtcpCall {
+        match answer {
+            Ok(()) => RtcpCall::default(),
+            Err(e) => {
+                let code = Code::from(e);
+                RtcpCall {
+                    number: code.number,
+                    first: code.first,
+                    second: code.second,
+                }
+            }
+        }
+    }
 }
 
 // The answer of a call; the state is that of the writer after it, on a refusal as it was.
 fn hand_on(state: &mut [u64; 4], call: Call) -> RtcpCall
     ensures { (result, state.new) ≡ call_with_state state.old (call_of call) }
 {
-    let answer = call.answer;
-    match answer {
-        Ok(()) => {
-            writer_out(state, call.writer);
-            RtcpCall {
-                number: 0,
-                first: 0,
-                second: 0,
-            }
-        }
-        Err(e) => {
-            let code = e.code();
-            RtcpCall {
-                number: code.number,
-                first: code.first,
-                second: code.second,
-            }
-        }
+    if call.answer.is_ok() {
+        writer_out(state, call.writer);
     }
+    RtcpCall::from(call.answer)
 }
 
 pub fn rtcp_writer_new(writer: &mut [u64; 4])

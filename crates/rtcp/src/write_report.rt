@@ -31,7 +31,7 @@ pub fn rtcp_rr_write(
         blocks,
         padding,
     };
-    RtcpWritten::from_written(report.write_into(buf))
+    RtcpWritten::from(report.write_into(buf))
 }
 
 // The size is the same for every SSRC.
@@ -48,7 +48,7 @@ pub fn rtcp_rr_size(fractions: &[u8], losses: &[i32], words: &[u32], padding: u6
         blocks,
         padding,
     };
-    RtcpWritten::from_written(report.calculate_size())
+    RtcpWritten::from(report.calculate_size())
 }
 
 pub fn rtcp_sr_write(
@@ -82,7 +82,7 @@ pub fn rtcp_sr_write(
         blocks,
         padding,
     };
-    RtcpWritten::from_written(report.write_into(buf))
+    RtcpWritten::from(report.write_into(buf))
 }
 
 // The size is the same for everything that a sender says of itself.
@@ -106,5 +106,5 @@ pub fn rtcp_sr_size(fractions: &[u8], losses: &[i32], words: &[u32], padding: u6
         blocks,
         padding,
     };
-    RtcpWritten::from_written(report.calculate_size())
+    RtcpWritten::from(report.calculate_size())
 }

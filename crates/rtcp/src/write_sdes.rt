@@ -14,13 +14,13 @@ use utils::packet_writer::RtcpPacketWriter;
 pub fn rtcp_item_write(buf: &mut [u8], type_: u8, prefix: &[u8], value: &[u8]) -> RtcpWritten
     ensures { (result, buf.new) ≡ written_with_buffer (write_item (lent type_ prefix.now value.now) buf.old) }
 {
-    RtcpWritten::from_written(item::write_into(buf, type_, prefix, value))
+    RtcpWritten::from(item::write_into(buf, type_, prefix, value))
 }
 
 pub fn rtcp_item_size(type_: u8, prefix: &[u8], value: &[u8]) -> RtcpWritten
     ensures { result ≡ written_result (item_size (lent type_ prefix.now value.now)) }
 {
-    RtcpWritten::from_written(item::calculate_size(type_, prefix, value))
+    RtcpWritten::from(item::calculate_size(type_, prefix, value))
 }
 
 // A lone chunk.
@@ -34,14 +34,14 @@ pub fn rtcp_chunk_write(
 ) -> RtcpWritten
     ensures { (result, buf.new) ≡ written_with_buffer (write_chunk ssrc types.now prefixes.now values.now bytes.now buf.old) }
 {
-    RtcpWritten::from_written(chunk::write_into(buf, ssrc, types, prefixes, values, bytes))
+    RtcpWritten::from(chunk::write_into(buf, ssrc, types, prefixes, values, bytes))
 }
 
 // The size is the same for every SSRC.
 pub fn rtcp_chunk_size(types: &[u8], prefixes: &[u64], values: &[u64], bytes: &[u8]) -> RtcpWritten
     ensures { (ssrc : ℕ) → result ≡ written_result (chunk_size ssrc types.now prefixes.now values.now bytes.now) }
 {
-    RtcpWritten::from_written(chunk::calculate_size(0, types, prefixes, values, bytes))
+    RtcpWritten::from(chunk::calculate_size(0, types, prefixes, values, bytes))
 }
 
 pub fn rtcp_sdes_write(
@@ -65,7 +65,7 @@ pub fn rtcp_sdes_write(
         bytes,
         padding,
     };
-    RtcpWritten::from_written(sdes.write_into(buf))
+    RtcpWritten::from(sdes.write_into(buf))
 }
 
 pub fn rtcp_sdes_size(
@@ -88,5 +88,5 @@ pub fn rtcp_sdes_size(
         bytes,
         padding,
     };
-    RtcpWritten::from_written(sdes.calculate_size())
+    RtcpWritten::from(sdes.calculate_size())
 }

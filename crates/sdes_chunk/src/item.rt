@@ -211,14 +211,14 @@ impl SdesItem {
         let size = item_size(rest);
         if size == 0 {
             let why = why_item(&rest[0..]);
-            set_answer(answer, why.code());
+            set_answer(answer, Code::from(why));
             return &rest[..0];
         }
         let item = item_of_unchecked(rest);
         let type_ = item.type_;
         if type_ != SdesItem::PRIV {
             let why = RtcpParseError::NotPriv(type_);
-            set_answer(answer, why.code());
+            set_answer(answer, Code::from(why));
             return &rest[..0];
         }
         *answer = [0, 0, 0];

@@ -52,7 +52,7 @@ pub struct Code {
     pub second: u64,
 }
 
-fn coded(number: u64, first: u64, second: u64) -> Code
+pub(crate) fn coded(number: u64, first: u64, second: u64) -> Code
     ensures { code_refusal result ≡ refusal number first second }
 {
     Code {
@@ -62,61 +62,79 @@ fn coded(number: u64, first: u64, second: u64) -> Code
     }
 }
 
-impl RtcpParseError {
+impl From<RtcpParseError> for Code {
+    ghost from_gives = { λ e c. code_refusal c ≡ parse_refusal e };
+
     #[cold]
-    pub fn code(self) -> Code
-        ensures { code_refusal result ≡ parse_refusal self }
-    {
-        match self {
-            Self::UnsupportedVersion(version) => coded(1, version as u64, 0),
-            Self::Truncated { expected, actual } => coded(2, expected as u64, actual as u64),
-            Self::TooLarge { expected, actual } => coded(3, expected as u64, actual as u64),
-            Self::InvalidPadding => coded(4, 0, 0),
-            Self::SdesPrivPrefixTooLarge { len, available } => coded(
+    fn from(e: RtcpParseError) -> Code {
+        match e {
+            RtcpParseError::UnsupportedVersion(version) => coded(1, version as u64, 0),
+            RtcpParseError::Truncated { expected, actual } => coded(
+                2,
+                expected as u64,
+                actual as u64,
+            ),
+            RtcpParseError::TooLarge { expected, actual } => coded(
+                3,
+                expected as u64,
+                actual as u64,
+            ),
+            RtcpParseError::InvalidPadding => coded(4, 0, 0),
+            RtcpParseError::SdesPrivPrefixTooLarge { len, available } => coded(
                 5,
                 len as u64,
                 available as u64,
             ),
-            Self::PacketTypeMismatch { actual, requested } => coded(
+            RtcpParseError::PacketTypeMismatch { actual, requested } => coded(
                 6,
                 actual as u64,
                 requested as u64,
             ),
-            Self::FirstPacketNoReport(packet_type) => coded(7, packet_type as u64, 0),
-            Self::NoCname => coded(8, 0, 0),
-            Self::NonLastCompoundPacketPadding => coded(9, 0, 0),
-            Self::NothingLeft => coded(25, 0, 0),
-            Self::NotPriv(type_) => coded(30, type_ as u64, 0),
-            Self::AnswersTooShort => coded(31, 0, 0),
+            RtcpParseError::FirstPacketNoReport(packet_type) => coded(7, packet_type as u64, 0),
+            RtcpParseError::NoCname => coded(8, 0, 0),
+            RtcpParseError::NonLastCompoundPacketPadding => coded(9, 0, 0),
+            RtcpParseError::NothingLeft => coded(25, 0, 0),
+            RtcpParseError::NotPriv(type_) => coded(30, type_ as u64, 0),
+            RtcpParseError::AnswersTooShort => coded(31, 0, 0),
         }
     }
 }
 
-impl RtcpWriteError {
+impl From<RtcpWriteError> for Code {
+    ghost from_gives = { λ e c. code_refusal c ≡ write_refusal e };
+
     #[cold]
-    pub fn code(self) -> Code
-        ensures { code_refusal result ≡ write_refusal self }
-    {
-        match self {
-            Self::OutputTooSmall(size) => coded(10, size, 0),
-            Self::InvalidPadding { padding } => coded(11, padding, 0),
-            Self::AppSubtypeOutOfRange { subtype, max } => coded(12, subtype, max as u64),
-            Self::InvalidName => coded(13, 0, 0),
-            Self::DataLen32bitMultiple(len) => coded(14, len as u64, 0),
-            Self::TooManySources { count, max } => coded(15, count as u64, max as u64),
-            Self::ReasonLenTooLarge { len, max } => coded(16, len as u64, max as u64),
-            Self::CumulativeLostTooLarge { value, max } => coded(17, value as u64, max as u64),
-            Self::TooManyReportBlocks { count, max } => coded(18, count as u64, max as u64),
-            Self::TooManySdesChunks { count, max } => coded(19, count as u64, max as u64),
-            Self::SdesValueTooLarge { len, max } => coded(20, len as u64, max as u64),
-            Self::SdesPrivPrefixTooLarge { len, max } => coded(21, len as u64, max as u64),
-            Self::PacketTooLarge => coded(22, 0, 0),
-            Self::ItemTypeZero => coded(23, 0, 0),
-            Self::ListsDisagree => coded(24, 0, 0),
-            Self::WriterClosed => coded(26, 0, 0),
-            Self::FirstPacketNoReport => coded(27, 0, 0),
-            Self::NoCname => coded(28, 0, 0),
-            Self::AlreadyPadded => coded(29, 0, 0),
+    fn from(e: RtcpWriteError) -> Code {
+        match e {
+            RtcpWriteError::OutputTooSmall(size) => coded(10, size, 0),
+            RtcpWriteError::InvalidPadding { padding } => coded(11, padding, 0),
+            RtcpWriteError::AppSubtypeOutOfRange { subtype, max } => coded(12, subtype, max as u64),
+            RtcpWriteError::InvalidName => coded(13, 0, 0),
+            RtcpWriteError::DataLen32bitMultiple(len) => coded(14, len as u64, 0),
+            RtcpWriteError::TooManySources { count, max } => coded(15, count as u64, max as u64),
+            RtcpWriteError::ReasonLenTooLarge { len, max } => coded(16, len as u64, max as u64),
+            RtcpWriteError::CumulativeLostTooLarge { value, max } => coded(
+                17,
+                value as u64,
+                max as u64,
+            ),
+            RtcpWriteError::TooManyReportBlocks { count, max } => coded(
+                18,
+                count as u64,
+                max as u64,
+            ),
+            RtcpWriteError::TooManySdesChunks { count, max } => coded(19, count as u64, max as u64),
+            RtcpWriteError::SdesValueTooLarge { len, max } => coded(20, len as u64, max as u64),
+            RtcpWriteError::SdesPrivPrefixTooLarge { len, max } => coded(
+                21, len as u64, max as u64,
+            ),
+            RtcpWriteError::PacketTooLarge => coded(22, 0, 0),
+            RtcpWriteError::ItemTypeZero => coded(23, 0, 0),
+            RtcpWriteError::ListsDisagree => coded(24, 0, 0),
+            RtcpWriteError::WriterClosed => coded(26, 0, 0),
+            RtcpWriteError::FirstPacketNoReport => coded(27, 0, 0),
+            RtcpWriteError::NoCname => coded(28, 0, 0),
+            RtcpWriteError::AlreadyPadded => coded(29, 0, 0),
         }
     }
 }

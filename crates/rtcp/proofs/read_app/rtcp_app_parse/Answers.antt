@@ -5,9 +5,3 @@ use Rattle.rtcp.proofs.read_app.rtcp_app_parse.Goals as goal
 
 pub overflow_sub-result : goal.overflow_sub-result
 overflow_sub-result c = search apps
-
-pub returns-in-Ok : goal.returns-in-Ok
-returns-in-Ok c = search (apps, handed app_result)
-
-pub returns-in-Err : goal.returns-in-Err
-returns-in-Err c = search (apps, turned app_result c.code-code.result)

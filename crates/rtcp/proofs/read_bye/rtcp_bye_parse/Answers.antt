@@ -11,9 +11,3 @@ overflow_add-result-in-Ok c = search byes
 
 pub overflow_sub-result : goal.overflow_sub-result
 overflow_sub-result c = search byes
-
-pub returns-in-Ok : goal.returns-in-Ok
-returns-in-Ok c = rw c.bit.ensures (search (byes, handed bye_result))
-
-pub returns-in-Err : goal.returns-in-Err
-returns-in-Err c = search (byes, turned bye_result c.code-code.result)

@@ -1,8 +1,12 @@
-use Rattle.rtcp.proofs.Descriptions.{descriptions, prefix_none}
+use Rattle.rfc3550.proofs.Prelude.{rules}
+use Rattle.rfc3550.specs.Answer.{map_ok}
+use Rattle.sdes_chunk.proofs.Readings.{prefix_numbered}
 use Rattle.rtcp.proofs.read_sdes.rtcp_item_priv_prefix.Goals as goal
 
 pub returns-then-number-ne0 : goal.returns-then-number-ne0
-returns-then-number-ne0 c = prefix_none _ _ _ c.priv_prefix-prefix.ensures c.if-number-ne0.true
+unfolding map_ok
+returns-then-number-ne0 c = search rules
 
 pub returns : goal.returns
-returns c = search descriptions
+unfolding map_ok
+returns c = let n = prefix_numbered c.args.s.now in search rules

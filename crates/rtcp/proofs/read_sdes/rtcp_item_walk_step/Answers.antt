@@ -10,9 +10,3 @@ of-parts-requires c =
     let i = c.in-Ok.item in
     let w = c.in-Ok.next in
     (step_order _ i w _ _ c.in-Ok.is c.step.ensures, step_fits _ i w _ _ c.in-Ok.is c.step.ensures l)
-
-pub returns-in-Ok : goal.returns-in-Ok
-returns-in-Ok c = rw c.of-parts.ensures (search (descriptions, item_stepped_lem))
-
-pub returns-in-Err : goal.returns-in-Err
-returns-in-Err c = search (descriptions, turned (item_step_result c.args.at) c.code-code.result)

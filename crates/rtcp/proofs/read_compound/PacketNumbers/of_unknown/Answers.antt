@@ -1,4 +1,0 @@
-use Rattle.rtcp.proofs.read_compound.PacketNumbers.of_unknown.Goals as goal
-
-pub returns : goal.returns
-returns c = rw c.bare-n.ensures
