@@ -1,17 +1,18 @@
 -- A datagram: the steps of a packet's frame, the packet behind it, and the loop over the packets.
+use Rattle.std.specs.Prelude.{Option, Some, None}
 use Rattle.rfc3550.proofs.Prelude.{rules, ◌≡◌, refl, sym, ap, ◌∙◌, subst, Bool, true, false, ◌||◌, not, List, [], ◌∷◌, ℕ, zero, suc, ◌+◌, ◌-◌, ◌<◌, ◌≤◌, ◌^◌, zero-add, add-zero, arith, lt-leb, le-leb, lt-ltb, le-ltb, eq-eqb, ne_eqb, eqb-true, leb-true, ltb-true, not-true, not-false, length, take, drop, get_or, length-drop, drop_of_length-le, length-take-le, take_all, drop-drop, get_or-take, drop-cons, eqb, ltb}
 use Rattle.rfc3550.specs.Answer.{Refusal, refusal, Answer, ok, refused, refuse, need, ◌>>◌, ◌>>=◌, map_ok, pick}
 use Rattle.rfc3550.specs.Packet.{Packet as Read, has_cname, some}
 use Rattle.rfc3550.specs.Read.{kind_of, version_in, padded, type_in, low_in, stated, read_as}
 use Rattle.rfc3550.specs.Compound.{read_packet, read_packets, read_compound}
 use Rattle.rfc3550.specs.Walk.{open_walk, step}
-use Rattle.rfc3550.proofs.Answers.{need_inv, ok_injective, map_ok_inv, or_assoc}
+use Rattle.rfc3550.proofs.Answers.{true≢false, need_inv, ok_injective, map_ok_inv, or_assoc}
 use Rattle.rfc3550.proofs.Compounds.{packet_span, packets_turns}
 use Rattle.utils.specs.Error.{refusal_in, value_or, or_zero}
 use Rattle.utils.proofs.Reading.{map_ok_refused}
 use Rattle.utils.proofs.Errors.{parse_handed}
-use Rattle.utils.proofs.Values.{value_came, none_came, number_came}
-use Rattle.compound.specs.Packet.{packet_view, verdict_of, verdict}
+use Rattle.utils.proofs.Values.{number_came}
+use Rattle.compound.specs.Packet.{packet_view, verdict}
 use Rattle.compound.specs.Compound.{padding_last, report_first, frame, frame_at, with_length, compound_view, walk_at, step_view}
 use Rattle.compound.specs.declared.packet.Packet.{Packet}
 use Rattle.compound.specs.declared.compound.Compound.{Compound}
@@ -139,16 +140,9 @@ kind_cut : (n : ℕ) (s : List ℕ) → 4 ≤ n → kind_of (type_in (take n s))
 unfolding type_in low_in
 kind_cut n s h = rw (get_or-take n s 0 0 (omega arith), get_or-take n s 1 0 (omega arith))
 
-verdict_some : (p : Read) → 0 < verdict p
-verdict_some p = go (has_cname p)
-  where
-    go : (b : Bool) → 0 < verdict_of b
-    go true = omega arith
-    go false = omega arith
-
-verdict_two : (b : Bool) → eqb (verdict_of b) 2 ≡ b
-verdict_two true = refl
-verdict_two false = refl
+verdict_none : (a : Answer Read) → None ≡ value_or None verdict a → a ≡ refused (refusal_in a)
+verdict_none (ok p) e = absurd (let z : true ≡ false = cc in true≢false z)
+verdict_none (refused r) e = refl
 
 module _ (first : Bool) (s : List ℕ) (n : ℕ) (h : n ≡ or_zero (frame first s)) where
   unframed : n ≡ 0 → read_packet first s ≡ refused (refusal_in (frame first s))
@@ -183,19 +177,18 @@ module _ (first : Bool) (s : List ℕ) (n : ℕ) (h : n ≡ or_zero (frame first
     unfolding ◌>>=◌
     behind = framed first s ∙ rw (number_came (frame first s) n h z, kind_cut n s frame_is.long)
 
-    module _ (m : ℕ) (g : m ≡ value_or 0 verdict (read_as (kind_of (type_in (take n s)) (low_in (take n s))) (take n s))) where
-      pub verdict_refused : (r : Refusal) → m ≡ 0 → r ≡ refusal_in (read_as (kind_of (type_in (take n s)) (low_in (take n s))) (take n s)) → refused r ≡ map_ok (with_length has_cname s) (read_packet first s)
+    module _ (m : Option Bool) (g : m ≡ value_or None verdict (read_as (kind_of (type_in (take n s)) (low_in (take n s))) (take n s))) where
+      pub verdict_refused : (r : Refusal) → m ≡ None → r ≡ refusal_in (read_as (kind_of (type_in (take n s)) (low_in (take n s))) (take n s)) → refused r ≡ map_ok (with_length has_cname s) (read_packet first s)
       unfolding map_ok
-      verdict_refused r e k = let w = none_came 0 verdict (λ n. n) refl verdict_some within m g e in rw (behind, w) (ap refused k)
+      verdict_refused r e k = let w = verdict_none within (sym e ∙ g) in rw (behind, w) (ap refused k)
 
-      pub verdict_passed : (m ≡ 0 → ⊥) → ok (eqb m 2, n) ≡ map_ok (with_length has_cname s) (read_packet first s)
+      pub verdict_passed : (b : Bool) → m ≡ Some b → ok (b, n) ≡ map_ok (with_length has_cname s) (read_packet first s)
       unfolding map_ok
-      verdict_passed e =
-          let w = value_came 0 verdict (λ n. n) refl within m g e in
-          rw (behind, w.1) (go w.0 w.2 frame_is.stated)
+      verdict_passed b e = rw behind (go within (sym e ∙ g))
         where
-          go : (x : Read) → verdict x ≡ m → n ≡ stated s → ok (eqb m 2, n) ≡ ok (with_length has_cname s x)
-          go x v st = let y : eqb m 2 ≡ has_cname x = ap (λ (m : ℕ). eqb m 2) (sym v) ∙ verdict_two (has_cname x) in rw (y, st)
+          go : (a : Answer Read) → Some b ≡ value_or None verdict a → ok (b, n) ≡ map_ok (with_length has_cname s) a
+          go (ok p) q = let y : b ≡ has_cname p = cc in rw (y, frame_is.stated)
+          go (refused r) q = absurd (let z : true ≡ false = cc in true≢false z)
 
 -- ---- the loop: from a place on
 

@@ -6,6 +6,9 @@ use Rattle.rfc3550.specs.Read.{Kind as ReadKind, SR, RR, SDES, BYE, APP, UNKNOWN
 use Rattle.utils.proofs.Parts.{split}
 use Rattle.compound.specs.Kind.{kind_in}
 use Rattle.compound.specs.declared.kind.Kind.{Kind}
+use Rattle.compound.specs.declared.kind.Kind.TheVariants as kind
+use Rattle.compound.specs.contracts.kind.Kind.{the_type}
+use denote.Enum.Bare.{sameb}
 
 -- ---- by the type
 
@@ -71,12 +74,18 @@ unknown_is t low = go (eqb t 200) (eqb t 201) (eqb t 202) (eqb t 203) (eqb t 204
         let j = other 204 u in
         ⊎_elim (λ w. rw (lt-leb 200 t w)) (λ w. let l : 204 < t = omega arith in rw (le-leb 200 t w, lt-leb t 204 l)) (split t 200)
 
-module _ (s : List ℕ) (c d : Kind) (h : kind_in c ≡ kind_of (type_in s) (low_in s)) (e : c ≡ d) where
-  -- of a kind that a match found
-  pub kind_found : kind_in d ≡ kind_of (type_in s) (low_in s)
-  kind_found = ap kind_in (sym e) ∙ h
+-- as the code tells it
+unknown_same : (c : Kind) → sameb the_type c kind.Unknown ≡ is_unknown (kind_in c)
+unknown_same kind.Sr = refl
+unknown_same kind.Rr = refl
+unknown_same kind.Sdes = refl
+unknown_same kind.Bye = refl
+unknown_same kind.App = refl
+unknown_same kind.Unknown = refl
 
-  pub unknown_found : (b : Bool) → b ≡ is_unknown (kind_in d) → b ≡ not (known (type_in s) (low_in s))
-  unknown_found b q = q ∙ ap is_unknown kind_found ∙ unknown_is (type_in s) (low_in s)
+-- of a kind that a match found
+pub kind_found : (s : List ℕ) (c d : Kind) → kind_in c ≡ kind_of (type_in s) (low_in s) → c ≡ d → kind_in d ≡ kind_of (type_in s) (low_in s)
+kind_found s c d h e = ap kind_in (sym e) ∙ h
 
-pub ruleset unknown_kinds = (rules, unknown_found)
+pub unknown_told : (s : List ℕ) (c : Kind) (b : Bool) → kind_in c ≡ kind_of (type_in s) (low_in s) → b ≡ sameb the_type c kind.Unknown → b ≡ not (known (type_in s) (low_in s))
+unknown_told s c b h q = q ∙ unknown_same c ∙ ap is_unknown h ∙ unknown_is (type_in s) (low_in s)

@@ -1,4 +1,6 @@
 -- A packet of any kind, from the answer of its kind's reader.
+use Rattle.std.specs.Prelude.{Option, None, not}
+use Rattle.std.specs.Bool.{then_some}
 use Rattle.rfc3550.proofs.Prelude.{rules, ◌≡◌, refl, sym, ap, ◌∙◌, arith, eqb, Bool, true, false, List, ℕ, ◌<◌, ne_eqb}
 use Rattle.rfc3550.specs.Answer.{Refusal, Answer, ok, refused, map_ok, pick}
 use Rattle.rfc3550.specs.Packet.{Content, report, sdes, bye, app, unknown, receiver, sender, Packet as Read, has_cname}
@@ -19,7 +21,7 @@ use Rattle.compound.specs.Kind.{kind_in}
 use Rattle.compound.specs.declared.kind.Kind.{Kind as Kinds}
 use Rattle.compound.specs.declared.kind.Kind.TheVariants as kind
 use Rattle.compound.proofs.PacketKinds.{kind_found}
-use Rattle.compound.specs.Packet.{sr_packet, rr_packet, sdes_packet, bye_packet, app_packet, unknown_packet, view_as, packet_view, verdict_of, verdict}
+use Rattle.compound.specs.Packet.{sr_packet, rr_packet, sdes_packet, bye_packet, app_packet, unknown_packet, view_as, packet_view, verdict}
 use Rattle.compound.specs.declared.packet.Packet.{Packet}
 
 -- ---- an answer whose constructor is known
@@ -89,16 +91,16 @@ unnamed p = go p.content
     go (app subtype ssrc name d) h = refl
     go (unknown t low b) h = refl
 
-abbrev verdict_in : Kind → List ℕ → ℕ
-verdict_in k s = value_or 0 verdict (read_as k s)
+abbrev verdict_in : Kind → List ℕ → Option Bool
+verdict_in k s = value_or None verdict (read_as k s)
 
 -- from what was read of the packet, a number of it that is its body and whether it has a CNAME
 module _ {A : Type 0} (none : A) (view : Read → A) (body : A → ℕ) (named : A → Bool) (z : body none ≡ 0) (k : Kind) (s : List ℕ) where
-  by_body : ((p : Read) → read_as k s ≡ ok p → (0 < body (view p)) × (named (view p) ≡ has_cname p)) → (o : A) (r : ℕ)
-      → o ≡ value_or none view (read_as k s) → r ≡ pick (eqb (body o) 0) 0 (verdict_of (named o)) → r ≡ verdict_in k s
+  by_body : ((p : Read) → read_as k s ≡ ok p → (0 < body (view p)) × (named (view p) ≡ has_cname p)) → (o : A) (r : Option Bool)
+      → o ≡ value_or none view (read_as k s) → r ≡ then_some (not (eqb (body o) 0)) (named o) → r ≡ verdict_in k s
   by_body h o r e q = go (read_as k s) refl
     where
-      go : (a : Answer Read) → read_as k s ≡ a → r ≡ value_or 0 verdict a
+      go : (a : Answer Read) → read_as k s ≡ a → r ≡ value_or None verdict a
       go (ok p) w =
           let v : o ≡ view p = e ∙ ap (value_or none view) w in
           let n : body (view p) ≡ 0 → ⊥ = λ x. omega (arith, (h p w).0) in
@@ -106,41 +108,31 @@ module _ {A : Type 0} (none : A) (view : Read → A) (body : A → ℕ) (named :
       go (refused x) w = let v : o ≡ none = e ∙ ap (value_or none view) w in q ∙ rw (v, z)
 
   -- a kind without a CNAME
-  by_body_alone : is_sdes k ≡ false → ((p : Read) → read_as k s ≡ ok p → 0 < body (view p)) → ((a : A) → named a ≡ false) → (o : A) (r : ℕ)
-      → o ≡ value_or none view (read_as k s) → r ≡ pick (eqb (body o) 0) 0 (verdict_of (named o)) → r ≡ verdict_in k s
+  by_body_alone : is_sdes k ≡ false → ((p : Read) → read_as k s ≡ ok p → 0 < body (view p)) → ((a : A) → named a ≡ false) → (o : A) (r : Option Bool)
+      → o ≡ value_or none view (read_as k s) → r ≡ then_some (not (eqb (body o) 0)) (named o) → r ≡ verdict_in k s
   by_body_alone i l f = by_body (λ p w. (l p w, f (view p) ∙ sym (unnamed p (ap is_sdes (read_as_kind k s w) ∙ i))))
 
 module _ (s : List ℕ) where
-  pub sr_verdict : (b r : ℕ) → b ≡ value_or 0 report_body (read_as SR s) → r ≡ pick (eqb b 0) 0 1 → r ≡ verdict_in SR s
+  pub sr_verdict : (b : ℕ) (r : Option Bool) → b ≡ value_or 0 report_body (read_as SR s) → r ≡ then_some (not (eqb b 0)) false → r ≡ verdict_in SR s
   sr_verdict = by_body_alone 0 report_body (λ b. b) (λ b. false) refl SR s refl (λ p w. body_some p) (λ b. refl)
 
-  pub rr_verdict : (b r : ℕ) → b ≡ value_or 0 report_body (read_as RR s) → r ≡ pick (eqb b 0) 0 1 → r ≡ verdict_in RR s
+  pub rr_verdict : (b : ℕ) (r : Option Bool) → b ≡ value_or 0 report_body (read_as RR s) → r ≡ then_some (not (eqb b 0)) false → r ≡ verdict_in RR s
   rr_verdict = by_body_alone 0 report_body (λ b. b) (λ b. false) refl RR s refl (λ p w. body_some p) (λ b. refl)
 
-  pub sdes_verdict : (o : Sdes) (r : ℕ) → o ≡ value_or no_sdes sdes_view (read_as SDES s) → r ≡ pick (eqb o.body 0) 0 (verdict_of o.has_cname) → r ≡ verdict_in SDES s
+  pub sdes_verdict : (o : Sdes) (r : Option Bool) → o ≡ value_or no_sdes sdes_view (read_as SDES s) → r ≡ then_some (not (eqb o.body 0)) o.has_cname → r ≡ verdict_in SDES s
   sdes_verdict = by_body no_sdes sdes_view (λ o. o.body) (λ o. o.has_cname) refl SDES s (λ p w. (omega arith, refl))
 
-  pub bye_verdict : (o : Bye) (r : ℕ) → o ≡ value_or no_bye bye_view (read_as BYE s) → r ≡ pick (eqb o.body 0) 0 1 → r ≡ verdict_in BYE s
+  pub bye_verdict : (o : Bye) (r : Option Bool) → o ≡ value_or no_bye bye_view (read_as BYE s) → r ≡ then_some (not (eqb o.body 0)) false → r ≡ verdict_in BYE s
   bye_verdict = by_body_alone no_bye bye_view (λ o. o.body) (λ o. false) refl BYE s refl (λ p w. omega arith) (λ o. refl)
 
-  pub app_verdict : (o : App) (r : ℕ) → o ≡ value_or no_app app_view (read_as APP s) → r ≡ pick (eqb o.body 0) 0 1 → r ≡ verdict_in APP s
+  pub app_verdict : (o : App) (r : Option Bool) → o ≡ value_or no_app app_view (read_as APP s) → r ≡ then_some (not (eqb o.body 0)) false → r ≡ verdict_in APP s
   app_verdict = by_body_alone no_app app_view (λ o. o.body) (λ o. false) refl APP s refl (λ p w. omega arith) (λ o. refl)
 
-  pub unknown_verdict : (o : Unknown) (r : ℕ) → o ≡ value_or no_unknown unknown_view (read_as UNKNOWN s) → r ≡ pick (eqb o.body 0) 0 1 → r ≡ verdict_in UNKNOWN s
+  pub unknown_verdict : (o : Unknown) (r : Option Bool) → o ≡ value_or no_unknown unknown_view (read_as UNKNOWN s) → r ≡ then_some (not (eqb o.body 0)) false → r ≡ verdict_in UNKNOWN s
   unknown_verdict = by_body_alone no_unknown unknown_view (λ o. o.body) (λ o. false) refl UNKNOWN s refl (λ p w. omega arith) (λ o. refl)
 
   -- of a kind that a match found
-  pub verdict_found : (c d : Kinds) (r : ℕ) → kind_in c ≡ kind_of (type_in s) (low_in s) → c ≡ d → r ≡ verdict_in (kind_in d) s → r ≡ verdict_in (kind_of (type_in s) (low_in s)) s
+  pub verdict_found : (c d : Kinds) (r : Option Bool) → kind_in c ≡ kind_of (type_in s) (low_in s) → c ≡ d → r ≡ verdict_in (kind_in d) s → r ≡ verdict_in (kind_of (type_in s) (low_in s)) s
   verdict_found c d r h e q = q ∙ ap (λ (k : Kind). verdict_in k s) (kind_found s c d h e)
 
-pub verdict_none : (b : ℕ) (c : Bool) → b ≡ 0 → ◌≡◌ {A = ℕ} 0 (pick (eqb b 0) 0 (verdict_of c))
-verdict_none b c z = rw z
-
-module _ (b : ℕ) (c : Bool) (z : b ≡ 0 → ⊥) where
-  pub verdict_named : c ≡ true → ◌≡◌ {A = ℕ} 2 (pick (eqb b 0) 0 (verdict_of c))
-  verdict_named e = rw (ne_eqb b 0 z, e)
-
-  pub verdict_unnamed : c ≡ false → ◌≡◌ {A = ℕ} 1 (pick (eqb b 0) 0 (verdict_of c))
-  verdict_unnamed e = rw (ne_eqb b 0 z, e)
-
-pub ruleset verdicts = (rules, verdict_none, verdict_named, verdict_unnamed, sr_verdict, rr_verdict, sdes_verdict, bye_verdict, app_verdict, unknown_verdict, verdict_found)
+pub ruleset verdicts = (rules, sr_verdict, rr_verdict, sdes_verdict, bye_verdict, app_verdict, unknown_verdict, verdict_found)

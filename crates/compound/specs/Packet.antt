@@ -1,5 +1,5 @@
 -- What the code hands over of a packet of any kind: its kind's fields, as functions of the packet.
-use Rattle.std.specs.Prelude.{ℕ, Bool, true, false}
+use Rattle.std.specs.Prelude.{Bool, Option, Some}
 use Rattle.rfc3550.specs.Packet.{Packet as Read, has_cname}
 use Rattle.rfc3550.specs.Read.{Kind, SR, RR, SDES, BYE, APP, UNKNOWN, kind_for}
 use Rattle.report.specs.Report.{sender_view, receiver_view}
@@ -16,13 +16,9 @@ use Rattle.compound.specs.declared.unknown.Unknown.{Unknown}
 use Rattle.compound.specs.declared.packet.Packet.{Packet}
 use Rattle.compound.specs.declared.packet.Packet.TheVariants as packet
 
--- 1 of a packet that is accepted, 2 where it has a CNAME
-abbrev pub verdict_of : Bool → ℕ
-verdict_of true = 2
-verdict_of false = 1
-
-abbrev pub verdict : Read → ℕ
-verdict p = verdict_of (has_cname p)
+-- of a packet that is accepted, whether it has a CNAME
+abbrev pub verdict : Read → Option Bool
+verdict p = Some (has_cname p)
 
 -- ---- each kind as a packet
 

@@ -125,11 +125,10 @@ fn check_packet(rest: &[u8], first: bool) -> Result<(bool, usize), RtcpParseErro
     if len == 0 {
         return Err(why_frame(&rest[0..], first));
     }
-    let verdict = Packet::verdict(&rest[..len]);
-    if verdict == 0 {
+    let Some(has_cname) = Packet::verdict(&rest[..len]) else {
         return Err(Packet::why(&rest[..len]));
-    }
-    Ok((verdict == 2, len))
+    };
+    Ok((has_cname, len))
 }
 
 // An accepted datagram: the number of its packets.

@@ -11,7 +11,7 @@ use report::sender::SenderReport;
 use sdes::sdes::Sdes;
 use utils::parser;
 
-#[derive(Clone, Copy)]
+#[derive(Clone, Copy, PartialEq, Eq)]
 pub enum Kind {
     Sr,
     Rr,
@@ -24,35 +24,19 @@ pub enum Kind {
 pub fn kind_of(s: &[u8]) -> Kind
     ensures { kind_in result ≡ kind_of (type_in s.now) (low_in s.now) }
 {
-    let packet_type = parser::parse_packet_type(s);
-    if packet_type == SenderReport::PACKET_TYPE {
-        return Kind::Sr;
+    match parser::parse_packet_type(s) {
+        SenderReport::PACKET_TYPE => Kind::Sr,
+        ReceiverReport::PACKET_TYPE => Kind::Rr,
+        Sdes::PACKET_TYPE => Kind::Sdes,
+        Bye::PACKET_TYPE => Kind::Bye,
+        App::PACKET_TYPE => Kind::App,
+        _ => Kind::Unknown,
     }
-    if packet_type == ReceiverReport::PACKET_TYPE {
-        return Kind::Rr;
-    }
-    if packet_type == Sdes::PACKET_TYPE {
-        return Kind::Sdes;
-    }
-    if packet_type == Bye::PACKET_TYPE {
-        return Kind::Bye;
-    }
-    if packet_type == App::PACKET_TYPE {
-        return Kind::App;
-    }
-    Kind::Unknown
 }
 
 // Whether the packet is of no kind that has a layout.
 pub fn is_unknown(s: &[u8]) -> bool
     ensures { result ≡ of_kind UNKNOWN (type_in s.now) (low_in s.now) }
 {
-    match kind_of(s) {
-        Kind::Sr => false,
-        Kind::Rr => false,
-        Kind::Sdes => false,
-        Kind::Bye => false,
-        Kind::App => false,
-        Kind::Unknown => true,
-    }
+    kind_of(s) == Kind::Unknown
 }

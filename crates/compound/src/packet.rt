@@ -1,9 +1,10 @@
 // A packet of any kind.
-ghost use Rattle.std.specs.Prelude.{◌≡◌, eqb};
-ghost use Rattle.rfc3550.specs.Answer.{map_ok, pick};
+ghost use Rattle.std.specs.Prelude.{◌≡◌, None, not, eqb};
+ghost use Rattle.std.specs.Bool.{then_some};
+ghost use Rattle.rfc3550.specs.Answer.{map_ok};
 ghost use Rattle.rfc3550.specs.Read.{kind_of, type_in, low_in, read_as};
 ghost use Rattle.utils.specs.Error.{parse_refusal, refusal_in, value_or, parsed_of};
-ghost use Rattle.compound.specs.Packet.{packet_view, verdict_of, verdict};
+ghost use Rattle.compound.specs.Packet.{packet_view, verdict};
 
 use super::kind::{Kind, kind_of};
 use super::unknown::Unknown;
@@ -25,14 +26,11 @@ pub enum Packet {
     Unknown(Unknown),
 }
 
-// 0 where the body is, for a packet that is refused; else 1, or 2 where it has a CNAME.
-fn verdict_of(body: usize, has_cname: bool) -> usize
-    ensures { result ≡ pick (eqb body 0) 0 (verdict_of has_cname) }
+// Whether a packet has a CNAME; None where the body is 0, since it is refused.
+fn verdict_of(body: usize, has_cname: bool) -> Option<bool>
+    ensures { result ≡ then_some (not (eqb body 0)) has_cname }
 {
-    if body == 0 {
-        return 0;
-    }
-    if has_cname { 2 } else { 1 }
+    (body != 0).then_some(has_cname)
 }
 
 impl Packet {
@@ -66,9 +64,9 @@ impl Packet {
         }
     }
 
-    // 0 where the packet is refused, 1 where it is accepted, 2 where it is and has a CNAME.
-    pub fn verdict(s: &[u8]) -> usize
-        ensures { result ≡ value_or 0 verdict (read_as (kind_of (type_in s.now) (low_in s.now)) s.now) }
+    // Whether the packet has a CNAME; None where it is refused.
+    pub fn verdict(s: &[u8]) -> Option<bool>
+        ensures { result ≡ value_or None verdict (read_as (kind_of (type_in s.now) (low_in s.now)) s.now) }
     {
         match kind_of(s) {
             Kind::Sr => verdict_of(SenderReport::body_of(s), false),
@@ -77,18 +75,9 @@ impl Packet {
                 let sdes = Sdes::read(s);
                 verdict_of(sdes.body, sdes.has_cname)
             }
-            Kind::Bye => {
-                let bye = Bye::read(s);
-                verdict_of(bye.body, false)
-            }
-            Kind::App => {
-                let app = App::read(s);
-                verdict_of(app.body, false)
-            }
-            Kind::Unknown => {
-                let unknown = Unknown::read(s);
-                verdict_of(unknown.body, false)
-            }
+            Kind::Bye => verdict_of(Bye::read(s).body, false),
+            Kind::App => verdict_of(App::read(s).body, false),
+            Kind::Unknown => verdict_of(Unknown::read(s).body, false),
         }
     }
 }

@@ -6,6 +6,8 @@ use super::operation::{Walking, Way};
 use super::print::numbers;
 use super::row::Row;
 use super::write::{Blocks, Request};
+use super::print::{four, three, two, written};
+use super::{held, lend, lists};
 use compound_write::writer::{Call, Writer};
 use records::Reporter;
 use report::report_block::ReportBlock;
@@ -14,6 +16,7 @@ use sdes::sdes::ChunkWalk;
 use sdes_walk::SdesWalk;
 use std::alloc::{AllocError, Global};
 use std::io;
+use utils::error::{Code, RtcpParseError};
 
 // So many blocks are lent at most.
 const MOST: usize = 33;

@@ -9,51 +9,17 @@ use Rattle.utils.specs.Error.{refusal_in, value_or, or_zero}
 use Rattle.utils.proofs.Values.{value_came, none_came}
 use Rattle.report.proofs.Reports.{body_some}
 use Rattle.report.specs.Report.{sender_view, no_sender, receiver_view, no_receiver}
-use Rattle.report.specs.declared.sender.SenderReport.{SenderReport}
-use Rattle.report.specs.declared.receiver.ReceiverReport.{ReceiverReport}
 use Rattle.sdes.specs.Sdes.{sdes_view, no_sdes}
-use Rattle.sdes.specs.declared.sdes.Sdes.{Sdes}
 use Rattle.bye.specs.Bye.{bye_view, no_bye}
-use Rattle.bye.specs.declared.Bye.{Bye}
 use Rattle.app.specs.App.{app_view, no_app}
-use Rattle.app.specs.declared.App.{App}
 use Rattle.compound.specs.Unknown.{unknown_view, no_unknown}
-use Rattle.compound.specs.declared.unknown.Unknown.{Unknown}
-use Rattle.compound.specs.Kind.{kind_in}
-use Rattle.compound.specs.declared.kind.Kind.{Kind as Kinds}
 use Rattle.compound.specs.Packet.{view_as, packet_view}
 use Rattle.compound.specs.Compound.{frame_at, walk_at, step_view}
 use Rattle.compound.specs.declared.packet.Packet.{Packet}
-use Rattle.compound.proofs.PacketKinds.{kind_found}
 use Rattle.compound.proofs.Compounds.{step_none, step_within, step_fits, stepped}
 use Rattle.rtcp.specs.Compound.{sr_numbers, rr_numbers, sdes_numbers, bye_numbers, app_numbers, unknown_numbers, numbers_of, numbers_read, step_result}
 use Rattle.rtcp.specs.declared.read_compound.PacketNumbers.{PacketNumbers}
 use Rattle.rtcp.specs.declared.read_compound.RtcpStep.{RtcpStep}
-
--- ---- a packet's numbers, from what was read of it
-
-module _ (s : List ℕ) (n : PacketNumbers) where
-  pub sr_numbers_lem : (x : SenderReport) → n ≡ sr_numbers x → x ≡ value_or no_sender sender_view (read_as SR s) → n ≡ numbers_read SR s
-  sr_numbers_lem x h e = h ∙ ap sr_numbers e
-
-  pub rr_numbers_lem : (x : ReceiverReport) → n ≡ rr_numbers x → x ≡ value_or no_receiver receiver_view (read_as RR s) → n ≡ numbers_read RR s
-  rr_numbers_lem x h e = h ∙ ap rr_numbers e
-
-  pub sdes_numbers_lem : (x : Sdes) → n ≡ sdes_numbers x → x ≡ value_or no_sdes sdes_view (read_as SDES s) → n ≡ numbers_read SDES s
-  sdes_numbers_lem x h e = h ∙ ap sdes_numbers e
-
-  pub bye_numbers_lem : (x : Bye) → n ≡ bye_numbers x → x ≡ value_or no_bye bye_view (read_as BYE s) → n ≡ numbers_read BYE s
-  bye_numbers_lem x h e = h ∙ ap bye_numbers e
-
-  pub app_numbers_lem : (x : App) → n ≡ app_numbers x → x ≡ value_or no_app app_view (read_as APP s) → n ≡ numbers_read APP s
-  app_numbers_lem x h e = h ∙ ap app_numbers e
-
-  pub unknown_numbers_lem : (x : Unknown) → n ≡ unknown_numbers x → x ≡ value_or no_unknown unknown_view (read_as UNKNOWN s) → n ≡ numbers_read UNKNOWN s
-  unknown_numbers_lem x h e = h ∙ ap unknown_numbers e
-
-  -- of a kind that a match found
-  pub numbers_found : (c d : Kinds) → kind_in c ≡ kind_of (type_in s) (low_in s) → c ≡ d → n ≡ numbers_read (kind_in d) s → n ≡ numbers_read (kind_of (type_in s) (low_in s)) s
-  numbers_found c d h e q = q ∙ ap (λ (k : Kind). numbers_read k s) (kind_found s c d h e)
 
 -- a body of 0 is a refusal
 module _ (s : List ℕ) where
@@ -138,4 +104,4 @@ module _ (s : List ℕ) (at n : ℕ) (h : n ≡ or_zero (frame_at s at)) where
         let v : x ≡ numbers_of (packet_view w.0) = e ∙ sym w.2 ∙ ap (λ (k : Kind). numbers_of (view_as k w.0)) (sym (read_as_kind kind packet w.1)) in
         step_of_lem at n x (packet_view w.0) v ∙ ap (step_result at) (stepped s at n h z (ok (packet_view w.0)) (sym (ap (map_ok packet_view) w.1)))
 
-pub ruleset datagrams = (rules, sr_numbers_lem, rr_numbers_lem, sdes_numbers_lem, bye_numbers_lem, app_numbers_lem, unknown_numbers_lem, numbers_found, step_within, step_fits, walk_none, walk_refused, packet_stepped)
+pub ruleset datagrams = (rules, step_within, step_fits, walk_none, walk_refused, packet_stepped)

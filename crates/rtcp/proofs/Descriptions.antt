@@ -1,22 +1,20 @@
 -- SDES packets, chunks, items and walks: what C gets, from what the readers answer.
 use Rattle.std.specs.Prelude.{Result, Ok}
 use Rattle.rfc3550.proofs.Prelude.{◌≡◌, refl, sym, ap, Bool, not, List, ℕ, ◌+◌, ◌-◌, ◌^◌, ◌<◌, ◌≤◌, arith, length, length-drop, drop, get_or, eqb, ltb, rules, eq-eqb, ne_eqb}
-use Rattle.rfc3550.specs.Answer.{refusal, Answer, ok, refused, map_ok, pick}
+use Rattle.rfc3550.specs.Answer.{Answer, ok, map_ok, pick}
 use Rattle.rfc3550.specs.Packet.{Item, item, priv, item_rest, item_bytes}
-use Rattle.rfc3550.specs.Read.{read_item, read_prefix}
+use Rattle.rfc3550.specs.Read.{read_item}
 use Rattle.rfc3550.specs.Walk.{item_step}
 use Rattle.rfc3550.proofs.Answers.{ok_injective, need_inv, bind_elim}
 use Rattle.utils.specs.Error.{parsed_of}
 use Rattle.utils.specs.declared.error.RtcpParseError.{RtcpParseError}
-use Rattle.sdes_chunk.specs.Item.{item_view, item_first, prefix_length, value_start, prefix_in, answer_of}
+use Rattle.sdes_chunk.specs.Item.{item_view, item_first, prefix_length, value_start}
 use Rattle.sdes_chunk.specs.Walk.{item_stepped}
-use Rattle.sdes_chunk.proofs.Readings.{item_placed, Numbered, prefix_numbered}
+use Rattle.sdes_chunk.proofs.Readings.{item_placed}
 use Rattle.sdes_chunk.specs.declared.item.SdesItem.{SdesItem}
 use Rattle.sdes_chunk.specs.declared.chunk.ItemWalk.{ItemWalk}
-use Rattle.sdes_chunk.specs.declared.chunk.SdesChunk.{SdesChunk}
-use Rattle.sdes.specs.declared.sdes.ChunkWalk.{ChunkWalk}
-use Rattle.rtcp.specs.Sdes.{prefix_start, item_parts, prefix_result, chunk_step_result, item_step_result}
-use Rattle.rtcp.proofs.Results.{handed, viewed}
+use Rattle.rtcp.specs.Sdes.{prefix_start, item_parts}
+use Rattle.rtcp.proofs.Results.{viewed}
 
 -- ---- items
 
@@ -50,25 +48,6 @@ module _ (o : Result SdesItem RtcpParseError) (i : SdesItem) (s : List ℕ) (p :
       viewed item_first (λ (i : SdesItem). 2 + i.length ≤ length s) (read_item s) (λ x e. (item_placed s e).within) o i p q
       in omega arith
 
--- ---- the prefix
-
-module _ (s : List ℕ) (p l : List ℕ) (e : (p ≡ prefix_in (read_prefix s)) × (l ≡ answer_of (read_prefix s))) where
-  pub prefix_none : (get_or l 0 0 ≡ 0 → ⊥) → record { number = get_or l 0 0; first = get_or l 1 0; second = get_or l 2 0; offset = 0; len = 0 } ≡ prefix_result (map_ok length (read_prefix s))
-  unfolding map_ok
-  prefix_none z = go (read_prefix s) e.1
-    where
-      go : (m : Answer (List ℕ)) → l ≡ answer_of m → record { number = get_or l 0 0; first = get_or l 1 0; second = get_or l 2 0; offset = 0; len = 0 } ≡ prefix_result (map_ok length m)
-      go (ok x) q = absurd (z (ap (λ (l : List ℕ). get_or l 0 0) q))
-      go (refused (refusal n a b)) q = rw q
-
-  pub prefix_some : get_or l 0 0 ≡ 0 → record { number = 0; first = 0; second = 0; offset = 3; len = length p } ≡ prefix_result (map_ok length (read_prefix s))
-  unfolding map_ok
-  prefix_some z = go (read_prefix s) (prefix_numbered s) e.0 e.1
-    where
-      go : (m : Answer (List ℕ)) → Numbered m → p ≡ prefix_in m → l ≡ answer_of m → record { number = 0; first = 0; second = 0; offset = 3; len = length p } ≡ prefix_result (map_ok length m)
-      go (ok x) n q r = rw q
-      go (refused (refusal n a b)) k q r = absurd (omega (arith, sym (ap (λ (l : List ℕ). get_or l 0 0) r)))
-
 -- ---- the walk over items
 
 step_read : (s : List ℕ) (at : ℕ) {y : Item × ℕ} → item_step s at ≡ ok y → (r : List ℕ) × (read_item (drop at s) ≡ ok (y.0, r)) × (y.1 ≡ at + length (item_bytes y.0))
@@ -98,14 +77,4 @@ module _ (o : Result (SdesItem × ItemWalk) RtcpParseError) (i : SdesItem) (w : 
       came (λ x. 2 + x.0.length ≤ length s - at) (λ y e. let g = item_placed (drop at s) (step_read s at e).1 in let d = length-drop at s in omega (arith, g.within))
       in omega arith
 
--- ---- what C gets of a step
-
-pub item_stepped_lem : (at : ℕ) (o : Result (SdesItem × ItemWalk) RtcpParseError) (i : SdesItem) (w : ItemWalk) (x : Answer (SdesItem × ItemWalk)) → o ≡ Ok (i, w) → parsed_of o ≡ x
-    → item_step_result at (ok (i, w)) ≡ item_step_result at x
-item_stepped_lem at o i w x e q = handed (item_step_result at) o (i, w) x e q
-
-pub chunk_stepped_lem : (at end : ℕ) (o : Result (SdesChunk × ChunkWalk) RtcpParseError) (c : SdesChunk) (w : ChunkWalk) (x : Answer (SdesChunk × ChunkWalk)) → o ≡ Ok (c, w) → parsed_of o ≡ x
-    → chunk_step_result at end (ok (c, w)) ≡ chunk_step_result at end x
-chunk_stepped_lem at end o c w x = handed (chunk_step_result at end) o (c, w) x
-
-pub ruleset descriptions = (rules, start_priv, start_plain, parts_of, item_order, item_fits, prefix_none, prefix_some, step_order, step_fits, chunk_stepped_lem)
+pub ruleset descriptions = (rules, start_priv, start_plain, parts_of, item_order, item_fits, step_order, step_fits)

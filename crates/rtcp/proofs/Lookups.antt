@@ -1,22 +1,14 @@
 -- What C gets of a lookup, and what it says of the packet.
-use Rattle.std.specs.Prelude.{Result}
 use Rattle.rfc3550.proofs.Prelude.{ℕ, ◌≤◌, ◌≡◌, sym, ap, ◌∙◌, subst, List, map, length, take}
 use Rattle.rfc3550.specs.Answer.{Answer, ok}
 use Rattle.rfc3550.specs.Bytes.{Bytes}
 use Rattle.rfc3550.specs.Packet.{Packet, chunks_of}
 use Rattle.rfc3550.specs.Read.{SDES, low_in, read_as}
 use Rattle.rfc3550.specs.Lookup.{found_in, Visited, decoded, lookup_with}
-use Rattle.utils.specs.Error.{parsed_of}
-use Rattle.utils.specs.declared.error.RtcpParseError.{RtcpParseError}
 use Rattle.sdes_lookup.proofs.Returned as lookups
 use Rattle.rtcp.specs.Lookup.{lookup_result, lookup_with_answers}
 use Rattle.rtcp.specs.declared.read_lookup.RtcpLookup.{RtcpLookup}
 use Rattle.rtcp.proofs.Nonzero.{lookup_nonzero, accepted}
-
-pub lookup_out : (s ssrcs l l₁ : List ℕ) (w : Result ℕ RtcpParseError) (r : RtcpLookup) → r ≡ lookup_result (parsed_of w)
-    → ((visits : ℕ) × Visited s ssrcs visits × ((parsed_of w, l₁) ≡ lookup_with visits s ssrcs l))
-    → (visits : ℕ) × Visited s ssrcs visits × ((r, l₁) ≡ lookup_with_answers (lookup_with visits s ssrcs l))
-lookup_out s ssrcs l l₁ w r h c = (c.0, c.1, rw h (ap lookup_with_answers c.2))
 
 -- what `rtcp_sdes_lookup` returned, and the answers that it left: number 0 says that the packet is accepted, answer i is that of SSRC i, and no more
 -- chunks were visited than the header counts

@@ -1,5 +1,5 @@
 -- What C gets of a source, and histories of what its functions returned.
-use Rattle.std.specs.Prelude.{Option, Some, None}
+use Rattle.std.specs.Prelude.{Option}
 use Rattle.rfc3550.proofs.Prelude.{rules, ℕ, ◌/◌, ◌<◌, ◌≡◌, refl, sym, ap, ◌∙◌, subst, Bool, true, false, List, [], ◌∷◌, map, arith, eqb}
 use Rattle.rfc3550.specs.Answer.{refusal, Answer, ok, refused}
 use Rattle.rfc3550.specs.Packet.{Block, Reporter, All}
@@ -22,9 +22,8 @@ use Rattle.rtcp.specs.WriteCompound.{writer_in, call_with_buffer}
 use Rattle.rtcp.specs.declared.write_result.RtcpWritten.{RtcpWritten}
 use Rattle.rtcp.specs.declared.write_compound.RtcpCall.{RtcpCall}
 use Rattle.rtcp.specs.Report.{block_result}
-use Rattle.rtcp.specs.Receive.{reception_in, reception_result, update_result, no_block, report_result}
+use Rattle.rtcp.specs.Receive.{reception_in, reception_result, update_result, report_result}
 use Rattle.rtcp.specs.Received.{Call, rtcp_reception_update, rtcp_reception_report_block, happening_of, block_in, reply_of, receptions}
-use Rattle.rtcp.specs.declared.read_report.RtcpBlock.{RtcpBlock}
 use Rattle.rtcp.specs.declared.receive.RtcpReception.{RtcpReception}
 use Rattle.rtcp.specs.declared.receive.RtcpReceptionUpdate.{RtcpReceptionUpdate}
 use Rattle.rtcp.specs.declared.receive.RtcpReceptionBlock.{RtcpReceptionBlock}
@@ -39,18 +38,11 @@ pub update_out : (s : RtcpReception) (c : code.Reception) (seq timestamp arrival
     → r ≡ reception_result (reception_of u.reception) → a ≡ bit u.accepted → record { reception = r; accepted = a } ≡ update_result (update (reception_in s) seq timestamp arrival)
 update_out s c seq timestamp arrival u r a e m h k = rw (h, k) (ap update_result (m ∙ ap (λ (x : Reception). update x seq timestamp arrival) e))
 
-pub made_out : (s : RtcpReception) (o : Option (ReportBlock × code.Reception)) (b : ReportBlock) (t : code.Reception) (r : RtcpReception) (k : RtcpBlock) → o ≡ Some (b, t) → r ≡ reception_result (reception_of t) → k ≡ block_result (ok b)
-    → record { reception = r; in_probation = 0; block = k } ≡ report_result (report_of (reception_in s) o)
-made_out s o b t r k e h q = rw (e, h, q)
-
-pub none_out : (s : RtcpReception) (o : Option (ReportBlock × code.Reception)) (k : RtcpBlock) → o ≡ None → k ≡ no_block → record { reception = s; in_probation = 1; block = k } ≡ report_result (report_of (reception_in s) o)
-none_out s o k e q = rw (e, q)
-
 pub report_out : (s : RtcpReception) (c : code.Reception) (ssrc lsr dlsr : ℕ) (o : Option (ReportBlock × code.Reception)) (r : RtcpReceptionBlock) → reception_of c ≡ reception_in s → report_of (reception_of c) o ≡ report_block (reception_of c) ssrc lsr dlsr
     → r ≡ report_result (report_of (reception_in s) o) → r ≡ report_result (report_block (reception_in s) ssrc lsr dlsr)
 report_out s c ssrc lsr dlsr o r e m h = h ∙ ap report_result (ap (λ (x : Reception). report_of x o) (sym e) ∙ m ∙ ap (λ (x : Reception). report_block x ssrc lsr dlsr) e)
 
-pub ruleset receives = (rules, new_out, update_out, made_out, none_out, report_out)
+pub ruleset receives = (rules, new_out, update_out, report_out)
 
 -- ---- histories
 

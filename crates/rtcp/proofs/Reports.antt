@@ -1,27 +1,23 @@
 -- Reports: what C gets, from what the readers answer.
-use Rattle.std.specs.Prelude.{Result, Ok, Err}
+use Rattle.std.specs.Prelude.{Result}
 use Rattle.rfc3550.proofs.Prelude.{◌≡◌, refl, sym, ap, ◌∙◌, List, ℕ, ◌+◌, ◌-◌, ◌*◌, ◌<◌, ◌≤◌, arith, rules, length, take, drop}
-use lib.Signed.{mag}
-use mir.Syntax.{w32}
-use mir.Val.{to_z, of_z}
 use Rattle.rfc3550.specs.Answer.{Answer, ok, refused, map_ok}
 use Rattle.rfc3550.specs.Loss.{Loss}
 use Rattle.rfc3550.specs.Packet.{Block, Reporter, Packet}
 use Rattle.rfc3550.specs.Read.{Kind, RR, SR, least, read_blocks, read_as}
-use Rattle.utils.specs.Error.{parse_refusal, code_refusal, refusal_in, value_or, parsed_of}
+use Rattle.utils.specs.Error.{parse_refusal, code_refusal, refusal_in, value_or}
 use Rattle.utils.specs.declared.error.Code.{Code}
 use Rattle.utils.specs.declared.error.RtcpParseError.{RtcpParseError}
 use Rattle.utils.specs.List.{listed_of}
 use Rattle.utils.proofs.Reading.{parse_read}
 use Rattle.utils.specs.declared.list.ListError.{ListError}
-use Rattle.utils.specs.declared.list.ListError.TheVariants as list
 use Rattle.report.specs.Block.{lay_blocks}
 use Rattle.report.specs.Report.{report_blocks, report_body, receiver_view, no_receiver, sender_view, no_sender}
 use Rattle.report.specs.declared.receiver.ReceiverReport.{ReceiverReport}
 use Rattle.report.specs.declared.sender.SenderReport.{SenderReport}
 use Rattle.report.specs.declared.report_block.ReportBlock.{ReportBlock}
 use Rattle.report.proofs.Losses.{bits_back}
-use Rattle.report.proofs.Reports.{value_refused, value_blocks, value_within}
+use Rattle.report.proofs.Reports.{value_refused, value_blocks, value_within, ReporterKind, receiver_maker, sender_maker}
 use Rattle.report.specs.Reporter.{ReporterKind, receiver_maker, sender_maker}
 use Rattle.rtcp.specs.Report.{block_result, rr_result, sr_result, blocks_out, read_out, read_both}
 use Rattle.rtcp.specs.WriteResult.{written_result}
@@ -29,30 +25,6 @@ use Rattle.rtcp.proofs.Results.{coded}
 use Rattle.rtcp.specs.declared.read_report.RtcpRr.{RtcpRr}
 use Rattle.rtcp.specs.declared.read_report.RtcpSr.{RtcpSr}
 use Rattle.rtcp.specs.declared.write_result.RtcpWritten.{RtcpWritten}
-
--- of what the lists' call answers, whose constructor is known
-pub out_known : {A R : Type 0} (result : Answer A → R) (a : Answer A) (q k : Result ℕ ListError) (r : R) → q ≡ k → r ≡ read_out result a (listed_of k) → r ≡ read_out result a (listed_of q)
-out_known result a q k r e p = p ∙ ap (λ (q : Result ℕ ListError). read_out result a (listed_of q)) (sym e)
-
-pub out_coded : {A R : Type 0} (result : Answer A → R) (a : Answer A) (q : Result ℕ ListError) (c : Code) (e : RtcpParseError) (r : R) → r ≡ result (refused (code_refusal c)) → code_refusal c ≡ parse_refusal e
-    → q ≡ Err (list.Refused e) → r ≡ read_out result a (listed_of q)
-out_coded result a q c e r p h k = out_known result a q (Err (list.Refused e)) r k (coded result c e r p h)
-
--- the numbers of a block, whose loss is passed on by its bits
-pub block_out : (o : Result ReportBlock RtcpParseError) (b : ReportBlock) → o ≡ Ok b → mag b.cumulative_lost < 2147483648
-    → record {
-      number = 0;
-      first = 0;
-      second = 0;
-      ssrc = b.ssrc;
-      fraction_lost = b.fraction_lost;
-      cumulative_lost = to_z w32 (of_z w32 b.cumulative_lost);
-      extended_sequence_number = b.extended_sequence_number;
-      interarrival_jitter = b.interarrival_jitter;
-      last_sender_report_timestamp = b.last_sender_report_timestamp;
-      delay_since_last_sender_report_timestamp = b.delay_since_last_sender_report_timestamp;
-    } ≡ block_result (parsed_of o)
-block_out o b e h = rw (e, bits_back b.cumulative_lost h)
 
 pub lists_out : (q : Result ℕ ListError) (r : RtcpWritten) (f : List ℕ) (l : List Loss) (w : List ℕ) (x : Answer ℕ × List ℕ × List Loss × List ℕ) → r ≡ written_result (listed_of q) → (listed_of q, f, l, w) ≡ x → (r, f, l, w) ≡ blocks_out x
 lists_out q r f l w x h e = ap (λ (r : RtcpWritten). (r, f, l, w)) h ∙ ap blocks_out e

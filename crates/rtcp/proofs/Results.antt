@@ -1,5 +1,5 @@
 -- A result of C, from what a kind's function answers: of a value, of a refusal, and what a value's view shows. Stated once, over the result.
-use Rattle.std.specs.Prelude.{Result, Ok, Err}
+use Rattle.std.specs.Prelude.{Result, Ok}
 use mathlib.Core.Path.{◌≡◌, sym, ap, ◌∙◌, subst}
 use Rattle.rfc3550.specs.Answer.{Refusal, Answer, ok, refused, map_ok}
 use Rattle.rfc3550.proofs.Answers.{map_ok_inv}
@@ -10,16 +10,6 @@ use Rattle.utils.specs.declared.error.Code.{Code}
 module _ {A R : Type 0} (result : Answer A → R) where
   pub coded : (c : Code) (e : RtcpParseError) (r : R) → r ≡ result (refused (code_refusal c)) → code_refusal c ≡ parse_refusal e → r ≡ result (refused (parse_refusal e))
   coded c e r p h = p ∙ ap (λ (k : Refusal). result (refused k)) h
-
-  pub passed : (o : Result A RtcpParseError) (x : Answer A) (r : R) → r ≡ result (parsed_of o) → parsed_of o ≡ x → r ≡ result x
-  passed o x r p q = p ∙ ap result q
-
-  pub handed : (o : Result A RtcpParseError) (a : A) (x : Answer A) → o ≡ Ok a → parsed_of o ≡ x → result (ok a) ≡ result x
-  handed o a x p q = ap result (sym (ap parsed_of p) ∙ q)
-
-  -- from the three numbers of the refusal
-  pub turned : (c : Code) (o : Result A RtcpParseError) (e : RtcpParseError) (x : Answer A) → code_refusal c ≡ parse_refusal e → o ≡ Err e → parsed_of o ≡ x → result (refused (code_refusal c)) ≡ result x
-  turned c o e x k p q = ap result (ap refused k ∙ sym (ap parsed_of p) ∙ q)
 
 -- what holds of every view of what was read holds of the value handed over
 pub viewed : {A B : Type 0} (view : A → B) (P : B → Type 0) (x : Answer A) → ((a : A) → x ≡ ok a → P (view a)) → (o : Result B RtcpParseError) (b : B) → o ≡ Ok b → parsed_of o ≡ map_ok view x → P b

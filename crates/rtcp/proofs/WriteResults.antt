@@ -1,42 +1,21 @@
 -- What C gets of a write and of a size, from what a kind's function answers. Stated once, over what is written.
-use Rattle.std.specs.Prelude.{Result, Ok, Err}
+use Rattle.std.specs.Prelude.{Result}
 use Rattle.rfc3550.proofs.Prelude.{ℕ, ◌≡◌, refl, sym, ap, ◌∙◌, List, length, length-append, rules}
-use Rattle.rfc3550.specs.Answer.{Refusal, Answer, refused}
+use Rattle.rfc3550.specs.Answer.{Answer}
 use Rattle.rfc3550.specs.Packet.{content_bytes, chunk_bytes}
 use Rattle.rfc3550.specs.Write.{Given, give_app, content_given, padding_given, packet_given, own_tests, tests, size_given, calculate_size, chunk_size}
 use Rattle.rfc3550.proofs.Bytes.{length_be}
 use Rattle.rfc3550.proofs.Packets.{length_layout}
-use Rattle.utils.specs.Error.{parse_refusal, write_refusal, code_refusal}
 use Rattle.utils.specs.List.{listed_of}
 use Rattle.utils.specs.Writer.{written_of}
-use Rattle.utils.specs.declared.error.RtcpParseError.{RtcpParseError}
 use Rattle.utils.specs.declared.error.RtcpWriteError.{RtcpWriteError}
-use Rattle.utils.specs.declared.error.Code.{Code}
 use Rattle.utils.specs.declared.list.ListError.{ListError}
-use Rattle.utils.specs.declared.list.ListError.TheVariants as list
 use Rattle.rtcp.specs.WriteResult.{written_result, written_with_buffer}
 use Rattle.rtcp.specs.declared.write_result.RtcpWritten.{RtcpWritten}
-
-pub size_out : (w : Result ℕ RtcpWriteError) (n : ℕ) → w ≡ Ok n → record { number = 0; first = 0; second = 0; size = n } ≡ written_result (written_of w)
-size_out w n p = rw p
-
-pub refused_out : (w : Result ℕ RtcpWriteError) (e : RtcpWriteError) (c : Code) → w ≡ Err e → code_refusal c ≡ write_refusal e
-    → record { number = c.number; first = c.first; second = c.second; size = 0 } ≡ written_result (written_of w)
-refused_out w e c p q = rw p (ap (λ (k : Refusal). written_result (refused k)) q)
 
 -- ---- a list, handed over
 
 module _ (w : Result ℕ ListError) where
-  pub listed_out : (n : ℕ) → w ≡ Ok n → record { number = 0; first = 0; second = 0; size = n } ≡ written_result (listed_of w)
-  listed_out n p = rw p
-
-  pub short_out : (n : ℕ) → w ≡ (Err (list.TooShort n)) → record { number = 10; first = n; second = 0; size = 0 } ≡ written_result (listed_of w)
-  short_out n p = rw p
-
-  pub unlisted_out : (e : RtcpParseError) (c : Code) → w ≡ Err (list.Refused e) → code_refusal c ≡ parse_refusal e
-      → record { number = c.number; first = c.first; second = c.second; size = 0 } ≡ written_result (listed_of w)
-  unlisted_out e c p q = rw p (ap (λ (k : Refusal). written_result (refused k)) q)
-
   pub out_listed : (r : RtcpWritten) → r ≡ written_result (listed_of w) → (l : List ℕ) (x : Answer ℕ × List ℕ) → (listed_of w, l) ≡ x → (r, l) ≡ written_with_buffer x
   out_listed r h l x q = rw h (ap written_with_buffer q)
 
@@ -72,4 +51,4 @@ module _ (w : Result ℕ RtcpWriteError) (r : RtcpWritten) (h : r ≡ written_re
   pub out_chunk : (ts ps vs bs : List ℕ) → written_of w ≡ chunk_size 0 ts ps vs bs → (ssrc : ℕ) → r ≡ written_result (chunk_size ssrc ts ps vs bs)
   out_chunk ts ps vs bs q ssrc = out_size w r h _ (q ∙ chunk_same 0 ssrc ts ps vs bs)
 
-pub ruleset outs = (rules, size_out, refused_out, listed_out, short_out, unlisted_out, out_listed, out_size, out_written, out_app, out_chunk)
+pub ruleset outs = (rules, out_listed, out_size, out_written, out_app, out_chunk)

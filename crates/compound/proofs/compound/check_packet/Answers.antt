@@ -10,8 +10,8 @@ slice_bounds-verdict-end c = search frames
 pub slice_bounds-why-end : goal.slice_bounds-why-end
 slice_bounds-why-end c = search frames
 
-pub returns-then-verdict-eq0 : goal.returns-then-verdict-eq0
-returns-then-verdict-eq0 c = search frames
-
 pub returns : goal.returns
 returns c = search frames
+
+pub returns-in_default : goal.returns-in_default
+returns-in_default c = search frames

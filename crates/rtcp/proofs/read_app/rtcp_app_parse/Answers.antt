@@ -1,5 +1,3 @@
-use Rattle.rtcp.specs.App.{app_result}
-use Rattle.rtcp.proofs.Results.{handed, turned}
 use Rattle.rtcp.proofs.Apps.{apps}
 use Rattle.rtcp.proofs.read_app.rtcp_app_parse.Goals as goal
 

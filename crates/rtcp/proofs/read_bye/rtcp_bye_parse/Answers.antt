@@ -1,5 +1,3 @@
-use Rattle.rtcp.specs.Bye.{bye_result}
-use Rattle.rtcp.proofs.Results.{handed, turned}
 use Rattle.rtcp.proofs.Byes.{byes}
 use Rattle.rtcp.proofs.read_bye.rtcp_bye_parse.Goals as goal
 

@@ -1,5 +1,3 @@
-use Rattle.rtcp.specs.Sdes.{item_result}
-use Rattle.rtcp.proofs.Results.{handed, turned}
 use Rattle.rtcp.proofs.Descriptions.{descriptions}
 use Rattle.rtcp.proofs.read_sdes.rtcp_item_parse.Goals as goal
 

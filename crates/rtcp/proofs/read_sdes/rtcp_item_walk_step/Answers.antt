@@ -1,7 +1,5 @@
 use Rattle.rfc3550.proofs.Prelude.{◌<◌, ◌^◌, length, arith}
-use Rattle.rtcp.specs.Sdes.{item_step_result}
-use Rattle.rtcp.proofs.Results.{turned}
-use Rattle.rtcp.proofs.Descriptions.{descriptions, step_order, step_fits, item_stepped_lem}
+use Rattle.rtcp.proofs.Descriptions.{step_order, step_fits}
 use Rattle.rtcp.proofs.read_sdes.rtcp_item_walk_step.Goals as goal
 
 pub of-parts-requires : goal.of-parts-requires
