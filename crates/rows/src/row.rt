@@ -1,5 +1,6 @@
 // What a row gives: words that one blank sets apart, each a number or bytes.
-ghost use Rattle.std.specs.Prelude.{◌≡◌, ◌%◌, ◌^◌, ◌<◌, take, drop};
+ghost use Rattle.std.specs.Prelude.{◌≡◌, ◌%◌, ◌^◌, ◌<◌, ◌≤◌, take, drop, vec_len};
+ghost use Rattle.rows.specs.declared.row.TheConstants.{BYTES};
 
 use std::alloc::{AllocError, Global};
 
@@ -94,6 +95,7 @@ fn between<T>(list: &[T], from: u64, to: u64) -> &[T]
 pub struct Row {
     numbers: Vec<Number>,
     bytes: Vec<u8>,
+    ghost bounded: { vec_len bytes ≤ BYTES },
 }
 
 impl Row {
@@ -128,9 +130,10 @@ impl Row {
 
     // Each pair of digits is a byte.
     fn push_bytes(&mut self, digits: &[u8]) -> Result<(), AllocError> {
-        let room = BYTES.saturating_sub(self.bytes.len());
-        for pair in digits.chunks_exact(2).take(room) {
-            if let [high, low] = pair {
+        for pair in digits.chunks_exact(2) {
+            if let [high, low] = pair
+                && self.bytes.len() < BYTES
+            {
                 self.bytes
                     .push(hexadecimal(*high) * 16 + hexadecimal(*low))?;
             }
