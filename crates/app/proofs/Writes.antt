@@ -2,6 +2,7 @@
 use Rattle.rfc3550.proofs.Prelude.{ℕ, zero, suc, ◌+◌, ◌-◌, ◌%◌, ◌<◌, ◌≤◌, ◌≡◌, refl, sym, ap, ◌∙◌, Bool, true, false, ◌&&◌, List, [], ◌∷◌, ◌++◌, arith, le-leb, lt-leb, leb-true, eq-eqb, ne_eqb, not-true, not-false, length, take, drop, get_or, replicate, length-append, length-replicate, leb, add-one, drop_of_length-le, drop-cons}
 use Rattle.std.specs.Bool.{MatchBool}
 use Rattle.std.specs.Str.{IsAscii, IsNotAscii}
+use Rattle.std.specs.List.{list_all}
 use Rattle.rfc3550.specs.Answer.{Refusal, refusal, ok, refused, need, ◌>>◌}
 use Rattle.rfc3550.specs.Bytes.{be, store}
 use Rattle.rfc3550.specs.Packet.{app, content_bytes, layout}
@@ -17,27 +18,15 @@ use Rattle.app.specs.Write.{AppFits, name_ok}
 
 -- ---- the name
 
-ascii_each : (name : List ℕ) → IsAscii name → true ≡ ascii name
-ascii_each [] h = refl
-ascii_each (b ∷ bs) h =
-    let f : b < 128 = h 0 in
-    rw (le-leb b 127 (omega arith)) (ascii_each bs (λ i. h (suc i)))
-
-ascii_none : (name : List ℕ) (i : ℕ) → 128 ≤ get_or name i 0 → false ≡ ascii name
-ascii_none [] i h = absurd (omega arith)
-ascii_none (b ∷ bs) zero h = rw (lt-leb b 127 (omega arith)) refl
-ascii_none (b ∷ bs) (suc i) h = rw (← ascii_none bs i h) (go (leb b 127))
-  where
-    go : (t : Bool) → false ≡ t && false
-    go true = refl
-    go false = refl
+ascii_all : (name : List ℕ) → list_all (λ b. leb b 127) name ≡ ascii name
+ascii_all [] = refl
+ascii_all (b ∷ bs) = ap (λ (t : Bool). leb b 127 && t) (ascii_all bs)
 
 pub name_long : (name : List ℕ) → 4 < length name → false ≡ name_ok name
 name_long name h = sym (rw (lt-leb _ _ h))
 
-pub name_short : (name : List ℕ) (r : Bool) → length name ≤ 4 → MatchBool r (IsAscii name) (IsNotAscii name) → r ≡ name_ok name
-name_short name true h a = rw (le-leb _ _ h) (ascii_each name a)
-name_short name false h a = rw (le-leb _ _ h) (ascii_none name a.0 a.1)
+pub name_short : (name : List ℕ) (r : Bool) → length name ≤ 4 → r ≡ list_all (λ b. leb b 127) name → r ≡ name_ok name
+name_short name r h e = e ∙ ascii_all name ∙ sym (rw (le-leb _ _ h))
 
 -- ---- the size
 

@@ -27,7 +27,7 @@ fn check_name(name: &[u8]) -> bool
     if App::NAME_LEN < name.len() {
         return false;
     }
-    name.is_ascii()
+    name.iter().all(|b| b.is_ascii())
 }
 
 impl<'a> RtcpPacketWriter for AppBuilder<'a> {
