@@ -1,9 +1,9 @@
 -- The cases of a BYE's size and bytes, each from what the code has tested or called.
 use Rattle.rfc3550.proofs.Prelude.{ℕ, suc, ◌+◌, ◌-◌, ◌*◌, ◌/◌, ◌%◌, ◌<◌, ◌≤◌, ◌≡◌, refl, sym, ap, ◌∙◌, Bool, true, false, List, [], ◌∷◌, ◌++◌, add-zero, add-one, arith, le-leb, lt-leb, leb-true, not-true, not-false, length, take, drop, set, get_or, replicate, length-append, length-drop, length-replicate, drop_of_length-le, drop-cons}
-use Rattle.rfc3550.specs.Answer.{Refusal, refusal, ok, refused, need, ◌>>◌}
+use Rattle.rfc3550.specs.Answer.{refusal, ok, refused, need, ◌>>◌}
 use Rattle.rfc3550.specs.Bytes.{be, put, store}
 use Rattle.rfc3550.specs.Packet.{bye, content_bytes, layout, leaving_bytes}
-use Rattle.rfc3550.specs.Write.{Given, give_bye, write, leaving_of, packet_given, padding_bytes, padding_ok, own_tests, calculate_size}
+use Rattle.rfc3550.specs.Write.{Given, give_bye, leaving_of, packet_given, padding_bytes, padding_ok, own_tests, calculate_size}
 use Rattle.rfc3550.proofs.Answers.{need_inv, need_ok}
 use Rattle.rfc3550.proofs.Bytes.{length_be, length_store}
 use Rattle.utils.specs.Error.{or_zero}

@@ -2,9 +2,8 @@
 use Rattle.rfc3550.proofs.Prelude.{rules, ℕ, ◌+◌, ◌-◌, ◌^◌, ◌<◌, ◌≤◌, ◌≡◌, refl, sym, ap, ◌∙◌, Bool, true, false, ◌&&◌, ◌||◌, not, List, [], ◌++◌, arith, le-leb, lt-leb, leb-true, leb-false, lt-ltb, le-ltb, ltb-true, eq-eqb, ne_eqb, not-true, not-false, length, take, drop, length-take, length-drop, leb, ltb, eqb}
 use Rattle.rfc3550.specs.Answer.{Refusal, refusal, Answer, ok, refused, need, ◌>>◌, capped, pick}
 use Rattle.rfc3550.specs.Bytes.{store}
-use Rattle.rfc3550.specs.Loss.{Loss}
-use Rattle.rfc3550.specs.Packet.{Reporter, type, layout, is_report}
-use Rattle.rfc3550.specs.Write.{BlockLists, Given, give_report, give_sdes, give_bye, give_app, packet_given, content_given, padding_given, size_given, lists_agree, tests, own_tests, calculate_size}
+use Rattle.rfc3550.specs.Packet.{type, layout, is_report}
+use Rattle.rfc3550.specs.Write.{Given, packet_given, content_given, padding_given, size_given, tests, own_tests, calculate_size}
 use Rattle.rfc3550.specs.Writer.{Writer, add, close, gives_cname, add_tests, close_tests, after_close, call}
 use Rattle.rfc3550.proofs.Answers.{true≢false, and_inv, need_inv}
 use Rattle.utils.specs.Error.{or_zero}

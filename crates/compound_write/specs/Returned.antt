@@ -14,7 +14,7 @@ use Rattle.compound_write.specs.Writer.{writer_of}
 use Rattle.compound_write.specs.declared.writer.Writer.{Writer}
 use Rattle.compound_write.specs.declared.writer.Call.{Call}
 
--- the functions that add, each with its arguments
+-- what is added: a packet of each kind, with what its struct holds
 pub data Adding : Type 0 where
   add_rr : ℕ → List ℕ → List Loss → List ℕ → ℕ → Adding
   add_sr : SenderInfo → List ℕ → List Loss → List ℕ → ℕ → Adding
@@ -29,7 +29,7 @@ given (add_sdes ssrcs counts types prefixes values bytes padding) = give_sdes (l
 given (add_bye sources reason padding) = give_bye sources reason padding
 given (add_app subtype ssrc name d padding) = give_app subtype ssrc name d padding
 
--- what a call returned: for one that adds, its function and arguments, the buffer at entry, the answer and the buffer at exit
+-- what a call returned: for one that adds, the packet, the buffer at entry, the answer and the buffer at exit
 pub data Result : Type 0 where
   added : Adding → List ℕ → Call → List ℕ → Result
   closed : Call → Result

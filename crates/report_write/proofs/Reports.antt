@@ -7,12 +7,12 @@ use Rattle.rfc3550.specs.Answer.{Refusal, ok, refused, refusal, need, ◌>>◌}
 use Rattle.rfc3550.specs.Bytes.{be, put, store}
 use Rattle.rfc3550.specs.Loss.{Loss, no_loss, loss_in, loss_shown, loss_most}
 use Rattle.rfc3550.specs.Packet.{Block, Reporter, receiver, sender, report, blocks_bytes, sender_widths, reporter_widths, reporter_fields, content_bytes, type, layout}
-use Rattle.rfc3550.specs.Write.{BlockLists, blocks_lent, give_report, blocks_agree, packet_given, padding_bytes, padding_ok, own_tests, calculate_size, write}
+use Rattle.rfc3550.specs.Write.{BlockLists, blocks_lent, give_report, blocks_agree, packet_given, padding_bytes, padding_ok, own_tests, calculate_size}
 use Rattle.rfc3550.proofs.Answers.{need_inv}
 use Rattle.rfc3550.proofs.Writes.{length_lent_blocks}
 use Rattle.utils.specs.Error.{or_zero}
 use Rattle.utils.specs.Writer.{header, size_refusal}
-use Rattle.utils.proofs.Sizes.{why_of, size_why, write_why, size_came, size_is, write_room, write_laid}
+use Rattle.utils.proofs.Sizes.{why_of}
 use Rattle.utils.proofs.WriterStores.{stores}
 use Rattle.utils.proofs.WriterPackets.{writes, padding_most, sized, size_ok, size_refused, parts_laid, header_long, packet_laid}
 use Rattle.report_write.specs.declared.sender.SenderInfo.{SenderInfo}

@@ -1,16 +1,14 @@
 -- The cases of a packet's lists, of its size and of its bytes, each from what the code has tested or called.
-use Rattle.std.specs.Prelude.{Result, Ok}
 use Rattle.rfc3550.proofs.Prelude.{ℕ, suc, ◌+◌, ◌-◌, ◌*◌, ◌<◌, ◌≤◌, ◌^◌, ◌≡◌, refl, sym, ap, ◌∙◌, Bool, true, false, ◌&&◌, List, [], ◌∷◌, arith, le-leb, lt-leb, leb-true, leb-false, eq-eqb, ne_eqb, eqb-true, eqb-false, not-true, not-false, length, take, drop, get_or, leb, eqb}
 use Rattle.rfc3550.specs.Answer.{Refusal, Answer, ok, refused, refusal, need, ◌>>◌, pick}
 use Rattle.rfc3550.specs.Bytes.{sum, store}
 use Rattle.rfc3550.specs.Packet.{sdes, content_bytes, layout}
-use Rattle.rfc3550.specs.Write.{LentItem, lent_items, lent_chunks, Given, give_sdes, chunks_given, packet_given, padding_bytes, padding_ok, items_tests, items_agree, lists_agree, own_tests, calculate_size, write}
+use Rattle.rfc3550.specs.Write.{LentItem, lent_items, lent_chunks, Given, give_sdes, chunks_given, packet_given, padding_bytes, padding_ok, items_tests, items_agree, lists_agree, own_tests, calculate_size}
 use Rattle.rfc3550.proofs.Answers.{need_inv, then_inv, and_inv, ok_injective}
 use Rattle.utils.specs.Error.{or_zero}
-use Rattle.utils.specs.Writer.{written_of, size_refusal, header}
+use Rattle.utils.specs.Writer.{size_refusal, header}
 use Rattle.utils.proofs.WriterPackets.{writes, padding_most, sized, size_ok, size_over, size_refused, header_last, header_long, packet_laid}
-use Rattle.utils.proofs.Sizes.{size_why, write_why, size_came, write_room, write_laid, why_last}
-use Rattle.utils.specs.declared.error.RtcpWriteError.{RtcpWriteError}
+use Rattle.utils.proofs.Sizes.{size_came, why_last}
 use Rattle.chunk_write.specs.Sizes.{SameLengths, items_refusal, at_most, chunks_end, ChunksMeasured}
 use Rattle.chunk_write.specs.Lists.{laid_chunks, ChunksFit}
 use Rattle.chunk_write.proofs.Sizes.{Agreed, agreed, chunks_are, refusal_of, EndKnown, end_known, end_none}

@@ -40,6 +40,7 @@ fn write_ends_unchecked(buf: &mut [u8], count: usize, padding: u64, size: usize)
 
 impl<'a> SdesBuilder<'a> {
     // The lists of a packet agree.
+    #[inline(always)]
     fn lists_agree(self) -> bool
         ensures { result ≡ lists_agree (lists_in self.entry) }
     {
@@ -53,6 +54,7 @@ impl<'a> SdesBuilder<'a> {
     }
 
     // The index after the chunks of an SDES, its header before them; 0 where it is refused.
+    #[inline(always)]
     fn end_of(self) -> usize
         ensures { with_padding self.entry.padding result ≡ or_zero (calculate_size (sdes_given self.entry)) }
     {

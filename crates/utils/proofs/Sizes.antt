@@ -1,14 +1,11 @@
 -- Writing, numbers first: what a size or 0, and why there is none, say of the size's answer and of the write, over what is given.
-use Rattle.std.specs.Prelude.{Ok}
-use Rattle.rfc3550.proofs.Prelude.{ℕ, ◌<◌, ◌≤◌, ◌≡◌, refl, sym, ap, ◌∙◌, Bool, true, false, List, arith, length, leb}
-use Rattle.rfc3550.specs.Answer.{Refusal, refusal, Answer, ok, refused, need, ◌>>◌, ◌>>=◌}
-use Rattle.rfc3550.specs.Bytes.{store}
-use Rattle.rfc3550.specs.Packet.{layout}
-use Rattle.rfc3550.specs.Write.{Given, packet_given, size_given, own_tests, tests, calculate_size, room, write}
+use Rattle.rfc3550.proofs.Prelude.{ℕ, ◌≡◌, refl, sym, ap, ◌∙◌, Bool, true, false, arith, leb}
+use Rattle.rfc3550.specs.Answer.{Refusal, refusal, Answer, ok, refused, need, ◌>>◌}
+use Rattle.rfc3550.specs.Write.{Given, size_given, own_tests, tests, calculate_size}
 use Rattle.utils.specs.Error.{or_zero}
 use Rattle.utils.specs.Writer.{size_refusal}
 use Rattle.utils.proofs.Values.{number_came}
-use Rattle.utils.proofs.WriterPackets.{sized, write_short, write_done}
+use Rattle.utils.proofs.WriterPackets.{sized}
 
 -- a refusal is told by the number and by why
 pub none_of : (m : Answer ℕ) {k : Refusal} → refused k ≡ m → 0 ≡ or_zero m
@@ -34,10 +31,6 @@ module _ (g : Given) (n : ℕ) (h : n ≡ or_zero (calculate_size g)) where
       go (ok x) e = absurd (omega (arith, (sized g x e).is, h ∙ ap or_zero e))
       go (refused r) e = ap refused (q ∙ ap size_refusal e) ∙ sym e
 
-  pub write_why : (k : Refusal) (l : List ℕ) → n ≡ 0 → k ≡ size_refusal (calculate_size g) → (refused k, l) ≡ write g l
-  unfolding write room ◌>>=◌
-  write_why k l z q = simp (← size_why k z q)
-
   module _ (z : n ≡ 0 → ⊥) where
     pub size_came : calculate_size g ≡ ok n
     size_came = number_came (calculate_size g) n h z
@@ -45,10 +38,4 @@ module _ (g : Given) (n : ℕ) (h : n ≡ or_zero (calculate_size g)) where
     pub size_is : ok n ≡ calculate_size g
     size_is = sym size_came
 
-    pub write_room : (l : List ℕ) → length l < n → (refused (refusal 10 n 0), l) ≡ write g l
-    write_room l f = write_short g (Ok n) l size_is n refl f
-
-    pub write_laid : (l l₁ : List ℕ) → n ≤ length l → l₁ ≡ store 0 (layout (packet_given g)) l → (ok n, l₁) ≡ write g l
-    write_laid l l₁ f e = write_done g (Ok n) l size_is n l₁ refl f e
-
-pub ruleset sizes = (size_is, write_room, write_laid)
+pub ruleset sizes = (size_why, size_is)

@@ -1,5 +1,7 @@
 -- A write of anything that has a size and bytes, and a packet laid as header, content, padding.
 use Rattle.std.specs.Prelude.{Result, Ok, Err}
+use Rattle.std.specs.Result.{IsErrAnd}
+use Rattle.std.proofs.lemmas.Result.{err_from_is_err_and}
 use Rattle.rfc3550.proofs.Prelude.{ℕ, suc, ◌+◌, ◌-◌, ◌/◌, ◌%◌, ◌<◌, ◌≤◌, ◌≡◌, sym, ap, ◌∙◌, List, ◌++◌, Bool, true, arith, length, length-append, leb, eqb, le-leb, lt-leb, leb-true}
 use Rattle.rfc3550.specs.Answer.{Answer, ok, refused, refusal, need, ◌>>◌, ◌>>=◌}
 use Rattle.rfc3550.specs.Bytes.{store}
@@ -33,6 +35,13 @@ module _ (g : Given) (r : Result ℕ RtcpWriteError) (l : List ℕ) (h : written
   pub write_refused : (e : RtcpWriteError) → r ≡ Err e → (written_of r, l) ≡ write g l
   unfolding write
   write_refused e q = refused_written r _ _ l h e q
+
+  -- what the size refuses, handed on by `?`
+  pub write_handed : (s : Result ℕ RtcpWriteError) (e : RtcpWriteError) → r ≡ Err e → IsErrAnd s (λ (x : RtcpWriteError). x ≡ e) → (written_of s, l) ≡ write g l
+  write_handed s e q h =
+      let p = err_from_is_err_and s h in
+      let t : s ≡ r = p.1 ∙ ap Err p.2 ∙ sym q in
+      rw t (write_refused e q)
 
   pub write_short : (n : ℕ) → r ≡ Ok n → length l < n → (refused (refusal 10 n 0), l) ≡ write g l
   unfolding write

@@ -55,10 +55,7 @@ pub trait RtcpPacketWriter: Copy {
     final fn write_into(self, buf: &mut [u8]) -> Result<usize, RtcpWriteError>
         ensures { (written_of result, buf.new) ≡ write (given self) buf.old }
     {
-        let size = self.size_of();
-        if size == 0 {
-            return Err(self.why_size());
-        }
+        let size = self.calculate_size()?;
         if buf.len() < size {
             return Err(RtcpWriteError::OutputTooSmall(size as u64));
         }

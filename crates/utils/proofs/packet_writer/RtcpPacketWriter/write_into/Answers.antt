@@ -1,14 +1,16 @@
-use Rattle.utils.proofs.Sizes.{sizes, size_came, write_why}
+use Rattle.rfc3550.proofs.Prelude.{sym, ap, ◌∙◌}
+use Rattle.utils.specs.Writer.{written_of}
+use Rattle.utils.proofs.WriterPackets.{write_handed, write_short, write_done}
 use Rattle.utils.proofs.packet_writer.RtcpPacketWriter.write_into.Goals as goal
 
-pub returns-then-size-eq0 : goal.returns-then-size-eq0
-returns-then-size-eq0 g c = search (sizes, write_why)
+pub returns-in_err-size : goal.returns-in_err-size
+returns-in_err-size g c = write_handed _ _ _ c.calculate_size.ensures _ _ c.in_err-size.was c.from_residual.ensures.1
 
 pub returns-then-buf-size : goal.returns-then-buf-size
-returns-then-buf-size g c = search sizes
+returns-then-buf-size g c = write_short _ _ _ c.calculate_size.ensures _ c.in_ok-size.was c.if-buf-size.true
 
 pub write_into_unchecked-requires : goal.write_into_unchecked-requires
-write_into_unchecked-requires g c = search (sizes, size_came)
+write_into_unchecked-requires g c = (sym c.calculate_size.ensures ∙ ap written_of c.in_ok-size.was, c.if-buf-size.false)
 
 pub returns : goal.returns
-returns g c = search sizes
+returns g c = write_done _ _ _ c.calculate_size.ensures _ _ c.in_ok-size.was c.if-buf-size.false c.write_into_unchecked.ensures
