@@ -24,6 +24,7 @@ pub struct RtcpApp {
     pub padding_len: u64,
 }
 
+// No From, which can require nothing: the length of the data needs an accepted packet.
 pub fn rtcp_app_parse(s: &[u8]) -> RtcpApp
     ensures { result ≡ app_result (map_ok app_view (read_as APP s.now)) }
 {

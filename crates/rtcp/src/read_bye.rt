@@ -56,6 +56,7 @@ impl From<Result<u32, RtcpParseError>> for RtcpSource {
     }
 }
 
+// No From, which can require nothing: the length of the tail needs an accepted packet.
 pub fn rtcp_bye_parse(s: &[u8]) -> RtcpBye
     ensures { result ≡ bye_result (map_ok bye_view (read_as BYE s.now)) }
 {

@@ -70,7 +70,7 @@ pub struct RtcpStep {
 }
 
 impl RtcpStep {
-    // A refusal by its three numbers, with the walk that went in.
+    // A refusal by its three numbers, with the walk that went in; no From, since it takes two values.
     fn coded(code: Code, at: u64) -> RtcpStep
         ensures { result ≡ step_result at (refused (code_refusal code)) }
     {

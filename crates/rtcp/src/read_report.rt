@@ -105,6 +105,7 @@ impl From<Code> for RtcpRr {
 }
 
 impl RtcpRr {
+    // No From, which can require nothing: the extension's length needs its start.
     fn from_report(rr: ReceiverReport) -> RtcpRr
         requires { rr.extension ≤ rr.body }
         ensures { result ≡ rr_result (ok rr) }
@@ -146,6 +147,7 @@ impl From<Code> for RtcpSr {
 }
 
 impl RtcpSr {
+    // No From, which can require nothing: the extension's length needs its start.
     fn from_report(sr: SenderReport) -> RtcpSr
         requires { sr.extension ≤ sr.body }
         ensures { result ≡ sr_result (ok sr) }

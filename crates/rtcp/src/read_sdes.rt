@@ -241,7 +241,7 @@ pub fn rtcp_sdes_parse(s: &[u8]) -> RtcpSdes
     RtcpSdes::from(Sdes::parse(s))
 }
 
-// A lone item.
+// A lone item. No From, which can require nothing: the parts need an accepted item.
 pub fn rtcp_item_parse(s: &[u8]) -> RtcpItem
     ensures { result ≡ item_result (map_ok item_first (read_item s.now)) }
 {
@@ -305,6 +305,7 @@ pub fn rtcp_chunk_walk_open(s: &[u8]) -> RtcpChunkWalk
     RtcpChunkWalk::from(ChunkWalk::open(s))
 }
 
+// No From: on a refusal the walk that went in is handed on, so it takes three values.
 pub fn rtcp_chunk_walk_step(s: &[u8], at: u64, end: u64) -> RtcpChunkStep
     ensures { result ≡ chunk_step_result at end (map_ok chunk_stepped (sdes_step s.now (record { at = at; end = end }))) }
 {
@@ -341,7 +342,7 @@ pub fn rtcp_item_walk_open(s: &[u8]) -> RtcpItemWalk
     RtcpItemWalk::from(ItemWalk::open(s))
 }
 
-// Offsets are counted from the chunk's start, as the walk's place is.
+// Offsets are counted from the chunk's start, as the walk's place is. No From, which can require nothing: the parts need an accepted item.
 pub fn rtcp_item_walk_step(s: &[u8], at: u64) -> RtcpItemStep
     ensures { result ≡ item_step_result at (map_ok item_stepped (item_step s.now at)) }
 {

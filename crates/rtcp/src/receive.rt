@@ -78,6 +78,7 @@ impl From<RtcpReception> for Reception {
 }
 
 impl RtcpReceptionBlock {
+    // No From, since it takes two values.
     fn from_reported(
         before: RtcpReception,
         reported: Option<(ReportBlock, Reception)>,

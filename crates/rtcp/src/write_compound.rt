@@ -30,6 +30,7 @@ pub struct RtcpCall {
     pub second: u64,
 }
 
+// No From, as in writer_out: neither type is of this crate.
 fn writer_in(state: &[u64; 4]) -> Writer
     ensures { writer_of result ≡ writer_in state.now }
 {
