@@ -5,7 +5,6 @@ ghost use Rattle.reception.specs.Reception.{reception_of, report_of};
 ghost use Rattle.rtcp.specs.Receive.{reception_in, reception_result, update_result, report_result};
 
 use super::read_report::RtcpBlock;
-use super::result::bit;
 use reception::reception::Reception;
 use report::report_block::ReportBlock;
 

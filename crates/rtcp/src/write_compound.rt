@@ -10,7 +10,6 @@ ghost use Rattle.sdes_write.specs.Packets.{lists};
 ghost use Rattle.compound_write.specs.Writer.{writer_of, call_of};
 ghost use Rattle.rtcp.specs.WriteCompound.{writer_in, writer_out, call_result, call_with_state, call_with_buffer};
 
-use super::result::bit;
 use app::write::AppBuilder;
 use bye::write::ByeBuilder;
 use compound_write::writer::{Call, Writer};
@@ -18,7 +17,6 @@ use report_write::receiver::ReceiverReportBuilder;
 use report_write::report_block::BlockLists;
 use report_write::sender::{SenderInfo, SenderReportBuilder};
 use sdes_write::SdesBuilder;
-use report_write::sender::SenderInfo;
 use utils::error::{Code, RtcpWriteError};
 
 // What a call answers: 0, or the refusal and its details, which leaves the writer and the buffer as they were.

@@ -1,6 +1,3 @@
-use Rattle.compound_write.proofs.Names.{Testing}
-use Rattle.compound_write.proofs.cname.has_cname_unchecked.Given as goal
-use Rattle.rfc3550.proofs.Prelude.{◌-◌, length}
 use Rattle.sdes_write.proofs.Names.{Testing}
 use Rattle.sdes_write.proofs.cname.has_cname_unchecked.Given as goal
 
