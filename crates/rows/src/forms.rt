@@ -16,7 +16,6 @@ use sdes::sdes::ChunkWalk;
 use sdes_walk::SdesWalk;
 use std::alloc::{AllocError, Global};
 use std::io;
-use utils::error::{Code, RtcpParseError};
 
 // So many blocks are lent at most.
 const MOST: usize = 33;
