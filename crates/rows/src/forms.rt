@@ -6,8 +6,6 @@ use super::operation::{Walking, Way};
 use super::print::numbers;
 use super::row::Row;
 use super::write::{Blocks, Request};
-use super::print::{four, three, two, written};
-use super::{held, lend, lists};
 use compound_write::writer::{Call, Writer};
 use records::Reporter;
 use report::report_block::ReportBlock;
