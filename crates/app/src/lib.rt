@@ -58,6 +58,7 @@ impl App {
         utils::parser::why_header(s, App::MIN_PACKET_LEN, App::PACKET_TYPE)
     }
 
+    // In each kind by hand, like padding_bytes: a trait with both would ask nine items of a kind (five ghost members, two laws, body, padding_len), which are longer.
     pub fn parse(s: &[u8]) -> Result<App, RtcpParseError>
         ensures { parsed_of result ≡ map_ok app_view (read_as APP s.now) }
     {

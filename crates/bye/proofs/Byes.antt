@@ -4,14 +4,14 @@ use Rattle.rfc3550.specs.Answer.{Refusal, refusal, Answer, ok, refused, refuse, 
 use Rattle.rfc3550.specs.Bytes.{val, get}
 use Rattle.rfc3550.specs.Packet.{Leaving, no_reason, reason, bye, Content, Packet}
 use Rattle.rfc3550.specs.Read.{BYE, low_in, check_packet, read_leaving, read_content, read_as, read_source_at}
-use Rattle.rfc3550.proofs.Answers.{map_ok_inv, refused≢ok}
+use Rattle.rfc3550.proofs.Answers.{refused≢ok, map_ok_inv}
 use Rattle.rfc3550.proofs.Bytes.{length_get, sum_replicate}
 use Rattle.utils.specs.Error.{refusal_in, value_or, or_zero}
 use Rattle.utils.proofs.Headers.{Accepted}
-use Rattle.utils.proofs.Errors.{parse_handed}
 use Rattle.utils.proofs.Values.{value_is, none_is}
-use Rattle.utils.proofs.Reading.{map_ok_refused, packet_of, content_in, got, got_is, none_at_header, why_at_header, body_accepted, body_content}
-use Rattle.utils.proofs.Parts.{drop_take, take_drop_take, length_drop_take, get_take, nth_past, nth_get, split, lent_again}
+use Rattle.utils.proofs.Errors.{parse_handed}
+use Rattle.utils.proofs.Reading.{packet_of, content_in, got, got_is, none_at_header, why_at_header, body_accepted, body_content, map_ok_refused}
+use Rattle.utils.proofs.Parts.{drop_take, take_drop_take, length_drop_take, get_take, nth_past, nth_get, split}
 use Rattle.bye.specs.declared.Bye.{Bye}
 use Rattle.bye.specs.Bye.{leaving, reason_bytes, tail_bytes, bye_view, no_bye}
 
@@ -263,42 +263,38 @@ facts s p e =
 
 -- ---- by what was read
 
-module _ (s : List ℕ) (o : Bye) (h : o ≡ value_or no_bye bye_view (read_as BYE s)) where
-  module _ (k : Refusal) (z : o.body ≡ 0) (q : k ≡ refusal_in (read_as BYE (take (length s - 0) (drop 0 s)))) where
-    why_whole : k ≡ refusal_in (read_as BYE s)
-    why_whole = q ∙ ap (λ (s : List ℕ). refusal_in (read_as BYE s)) (lent_again s)
+module _ (s : List ℕ) (o : Bye) where
+  module _ (h : o ≡ value_or no_bye bye_view (read_as BYE s)) where
+    pub bye_refused : (k : Refusal) → o.body ≡ 0 → k ≡ refusal_in (read_as BYE s) → refused k ≡ map_ok bye_view (read_as BYE s)
+    bye_refused k = none_is no_bye bye_view (λ o. o.body) refl (λ p. omega arith) bye_view (read_as BYE s) o k h
 
-    pub bye_refused : refused k ≡ map_ok bye_view (read_as BYE s)
-    bye_refused = none_is no_bye bye_view (λ o. o.body) refl (λ p. omega arith) bye_view (read_as BYE s) o k h z why_whole
+    pub bye_parsed : (o.body ≡ 0 → ⊥) → ok o ≡ map_ok bye_view (read_as BYE s)
+    bye_parsed = value_is no_bye bye_view (λ o. o.body) refl (read_as BYE s) o h
 
-  pub bye_parsed : (o.body ≡ 0 → ⊥) → ok o ≡ map_ok bye_view (read_as BYE s)
-  bye_parsed y = value_is no_bye bye_view (λ o. o.body) refl (read_as BYE s) o h y
-
--- ---- a source, by what was parsed
-
-module _ (s : List ℕ) (i : ℕ) where
-  pub source_refused : (k : Refusal) → refused k ≡ map_ok bye_view (read_as BYE s) → refused k ≡ read_source_at s i
-  unfolding read_source_at ◌>>=◌
-  source_refused k e = rw (map_ok_refused bye_view (read_as BYE s) (sym e))
-
-  module _ (o : Bye) (e : ok o ≡ map_ok bye_view (read_as BYE s)) where
+  module _ (h : ok o ≡ map_ok bye_view (read_as BYE s)) where
     bye_facts : (p : Packet) × ByeFacts s p o
-    bye_facts = let m = map_ok_inv bye_view (read_as BYE s) (sym e) in (m.0, subst (ByeFacts s m.0) m.2 (facts s m.0 m.1))
+    bye_facts = let m = map_ok_inv bye_view (read_as BYE s) (sym h) in (m.0, subst (ByeFacts s m.0) m.2 (facts s m.0 m.1))
 
-    pub source_none : o.n_sources ≤ i → refuse 25 0 0 ≡ read_source_at s i
-    source_none l = sym (bye_facts.1.none i l)
+    module _ (i : ℕ) where
+      pub source_none : o.n_sources ≤ i → refuse 25 0 0 ≡ read_source_at s i
+      source_none l = sym (bye_facts.1.none i l)
 
-    pub source_there : (x : ℕ) → i < o.n_sources → x ≡ val (take 4 (drop (4 + 4 * i) s)) → ok x ≡ read_source_at s i
-    source_there x l q = ap ok q ∙ sym (bye_facts.1.source i l)
+      pub source_there : (x : ℕ) → i < o.n_sources → x ≡ val (take 4 (drop (4 + 4 * i) s)) → ok x ≡ read_source_at s i
+      source_there x l q = ap ok q ∙ sym (bye_facts.1.source i l)
 
-    pub source_scaled : i < o.n_sources → 4 * i < 2 ^ 64
-    source_scaled l = let w = bye_facts.1 in omega arith
+      pub source_scaled : i < o.n_sources → 4 * i < 2 ^ 64
+      source_scaled l = let w = bye_facts.1 in omega arith
 
-    pub source_fits : i < o.n_sources → 4 + 4 * i < 2 ^ 64
-    source_fits l = let w = bye_facts.1 in omega arith
+      pub source_fits : i < o.n_sources → 4 + 4 * i < 2 ^ 64
+      source_fits l = let w = bye_facts.1 in omega arith
 
-    pub source_within : i < o.n_sources → 4 + 4 * i + 4 ≤ length s
-    source_within l = let w = bye_facts.1 in omega arith
+      pub source_within : i < o.n_sources → 4 + 4 * i + 4 ≤ length s
+      source_within l = let w = bye_facts.1 in omega arith
+
+-- a refusal of the packet, handed on
+pub source_handed : (s : List ℕ) (i : ℕ) (k : Refusal) → refused k ≡ map_ok bye_view (read_as BYE s) → refused k ≡ read_source_at s i
+unfolding read_source_at ◌>>=◌
+source_handed s i k h = rw (map_ok_refused bye_view (read_as BYE s) (sym h))
 
 -- ---- parts
 
@@ -316,4 +312,4 @@ module _ (b r n : ℕ) (s : List ℕ) where
   pub tail_is : (l : List ℕ) → n ≤ b - r → l ≡ take (b - r - n) (drop (r + n) s) → l ≡ take (b - (r + n)) (drop (r + n) s)
   tail_is l h e = let z : b - r - n ≡ b - (r + n) = omega arith in e ∙ rw z
 
-pub ruleset byes = (rules, parse_handed, none_header, why_header, bye_header, bye_body, none_cut, why_cut, reason_none, why_bare, length_there, none_over, why_over, reason_there, why_said, bye_refused, bye_parsed, source_refused, source_none, source_there, source_scaled, source_fits, source_within, tail_before, tail_within, tail_is)
+pub ruleset byes = (rules, none_header, why_header, bye_header, bye_body, none_cut, why_cut, reason_none, why_bare, length_there, none_over, why_over, reason_there, why_said, bye_refused, bye_parsed, parse_handed, source_handed, source_none, source_there, source_scaled, source_fits, source_within, tail_before, tail_within, tail_is)

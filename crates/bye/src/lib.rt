@@ -108,12 +108,13 @@ impl Bye {
         RtcpParseError::NothingLeft
     }
 
+    // In each kind by hand, like padding_bytes: a trait with both would ask nine items of a kind (five ghost members, two laws, body, padding_len), which are longer.
     pub fn parse(s: &[u8]) -> Result<Bye, RtcpParseError>
         ensures { parsed_of result ≡ map_ok bye_view (read_as BYE s.now) }
     {
         let bye = Bye::read(s);
         if bye.body == 0 {
-            return Err(Bye::why(&s[0..]));
+            return Err(Bye::why(s));
         }
         Ok(bye)
     }

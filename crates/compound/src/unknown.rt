@@ -51,6 +51,7 @@ impl Unknown {
         parser::why_header_if(s, Unknown::MIN_PACKET_LEN, is_unknown(s), actual, 0)
     }
 
+    // In each kind by hand, like padding_bytes: a trait with both would ask nine items of a kind (five ghost members, two laws, body, padding_len), which are longer.
     pub fn parse(s: &[u8]) -> Result<Unknown, RtcpParseError>
         ensures { parsed_of result ≡ map_ok unknown_view (read_as UNKNOWN s.now) }
     {

@@ -8,7 +8,7 @@ use Rattle.rfc3550.specs.Bytes.{val, get, sum}
 use Rattle.rfc3550.specs.Loss.{Loss}
 use Rattle.rfc3550.specs.Packet.{Block, Reporter, Content, report, Packet, reporter_fields, block_widths, sender_widths}
 use Rattle.rfc3550.specs.Read.{Kind, SR, RR, least, kind_for, low_in, block_from, read_blocks, sender_from, read_report, type_in, check_header, check_packet, read_as, blocks_of, nth, read_block_at}
-use Rattle.rfc3550.proofs.Answers.{refused≢ok, ok_injective}
+use Rattle.rfc3550.proofs.Answers.{refused≢ok, ok_injective, map_ok_inv}
 use Rattle.utils.specs.Error.{parse_refusal, refusal_in, value_or, or_zero}
 use Rattle.utils.specs.List.{listed_of}
 use Rattle.utils.specs.declared.error.RtcpParseError.{RtcpParseError}
@@ -209,14 +209,9 @@ module _ {k : Kind} {ws : List ℕ} {who : List ℕ → Reporter} (m : ReporterK
 
 -- ---- where the parts lie, of a packet that was accepted
 
-came : {A B : Type 0} (f : A → B) (m : Answer A) (b : B) → map_ok f m ≡ ok b → (a : A) × (m ≡ ok a) × (f a ≡ b)
-unfolding map_ok
-came f (ok a) b h = (a, refl, ok_injective h)
-came f (refused r) b h = absurd (refused≢ok h)
-
 module _ {k : Kind} {ws : List ℕ} {who : List ℕ → Reporter} (m : ReporterKind k ws who) (s : List ℕ) (at : Places) (h : map_ok places_of (read_as k s) ≡ ok at) where
   placed : (p : Packet) × (read_as k s ≡ ok p) × (places_of p ≡ at)
-  placed = came places_of (read_as k s) at h
+  placed = map_ok_inv places_of (read_as k s) h
 
   placed_body : at.body ≡ value_or 0 report_body (read_as k s)
   placed_body = let v = placed in ap (λ (a : Places). a.body) (sym v.2) ∙ sym (ap (value_or 0 report_body) v.1)
@@ -238,7 +233,7 @@ module _ {k : Kind} {min type : ℕ} {R : Type 0} {none : R} {view : Packet → 
   module _ (o : R) (h : ok o ≡ map_ok view (read_as k s)) (at : Places) (e : at ≡ places o) where
     parsed : map_ok places_of (read_as k s) ≡ ok at
     unfolding map_ok
-    parsed = let v = came view (read_as k s) o (sym h) in ap (map_ok places_of) v.1 ∙ ap ok (sym (l.seen v.0) ∙ ap places v.2 ∙ sym e)
+    parsed = let v = map_ok_inv view (read_as k s) (sym h) in ap (map_ok places_of) v.1 ∙ ap ok (sym (l.seen v.0) ∙ ap places v.2 ∙ sym e)
 
     body_in : at.body ≡ value_or 0 report_body (read_as k s)
     body_in = placed_body l.maker s at parsed

@@ -1,4 +1,4 @@
-use Rattle.bye.proofs.Byes.{byes, source_scaled, source_fits, source_within}
+use Rattle.bye.proofs.Byes.{source_scaled, source_fits, source_within, byes}
 use Rattle.bye.proofs.Bye.source.Goals as goal
 
 pub returns-in_err-bye : goal.returns-in_err-bye
@@ -8,13 +8,13 @@ pub returns-then-bye-i : goal.returns-then-bye-i
 returns-then-bye-i c = search byes
 
 pub overflow_mul-i : goal.overflow_mul-i
-overflow_mul-i c = search (byes, source_scaled c.args.s.now c.args.i c.in_ok-bye.bye c.in_ok-bye.ensures)
+overflow_mul-i c = let w = source_scaled c.args.s.now _ c.in_ok-bye.ensures c.args.i c.if-bye-i.false in search byes
 
 pub overflow_add-i : goal.overflow_add-i
-overflow_add-i c = search (byes, source_fits c.args.s.now c.args.i c.in_ok-bye.bye c.in_ok-bye.ensures)
+overflow_add-i c = let w = source_fits c.args.s.now _ c.in_ok-bye.ensures c.args.i c.if-bye-i.false in search byes
 
 pub u32_from_be_bytes-requires : goal.u32_from_be_bytes-requires
-u32_from_be_bytes-requires c = source_within _ _ _ c.in_ok-bye.ensures c.if-bye-i.false
+u32_from_be_bytes-requires c = source_within c.args.s.now _ c.in_ok-bye.ensures c.args.i c.if-bye-i.false
 
 pub returns : goal.returns
 returns c = search byes
