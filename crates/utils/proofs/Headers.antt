@@ -1,23 +1,10 @@
 -- The cases of the header's steps, each from what a reader has tested, in numbers and why, and what an accepted header tells.
 use Rattle.rfc3550.proofs.Prelude.{rules, ◌≡◌, refl, ap, ◌∙◌, sym, Bool, true, false, ◌&&◌, List, [], ◌∷◌, ⊎_elim, ℕ, ◌+◌, ◌-◌, ◌%◌, ◌<◌, ◌≤◌, sub-zero, arith, lt-ltb, le-leb, lt-leb, eq-eqb, ne_eqb, leb-true, not-true, not-false, length, get_or, leb, ltb, eqb}
 use Rattle.rfc3550.specs.Answer.{Refusal, refusal, ok, refuse, need, ◌>>◌}
-use Rattle.rfc3550.specs.Read.{version_in, padded, low_in, type_in, stated, padding_count, padding_fits, check_header}
+use Rattle.rfc3550.specs.Read.{version_in, padded, type_in, stated, padding_count, padding_fits, check_header}
 use Rattle.rfc3550.proofs.Answers.{need_inv, ok_injective, and_inv, or_inv}
 use Rattle.utils.specs.Error.{refusal_in, or_zero}
 use Rattle.utils.specs.Parser.{check_padding}
-
--- ---- bytes that are not there
-
-pub no_type : (s : List ℕ) → length s < 2 → 0 ≡ type_in s
-unfolding type_in
-no_type [] h = refl
-no_type (x ∷ []) h = refl
-no_type (x ∷ y ∷ s) h = absurd (omega arith)
-
-pub no_low : (s : List ℕ) → length s ≡ 0 → 0 ≡ low_in s
-unfolding low_in
-no_low [] h = refl
-no_low (x ∷ s) h = absurd (omega arith)
 
 -- ---- the padding's step
 

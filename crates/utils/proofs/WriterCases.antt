@@ -79,42 +79,6 @@ swapped v f =
     let e : v / 16777216 % 256 ≡ v / 16777216 = omega arith in
     four (v / 16777216) (v / 65536 % 256) (v / 256 % 256) (v % 256) (omega arith) (omega arith) (omega arith) (omega arith) ∙ sym (rw (div-one, e) at (be_digits 4 v f))
 
--- the number of four bytes, least significant first, and with its bytes swapped
-next : (s : List ℕ) (at : ℕ) → at < length s → drop at s ≡ get_or s at 0 ∷ drop (at + 1) s
-next s at h = rw (add-one, drop-cons s at 0)
-
-pub four_read : (s : List ℕ) (at a b c d : ℕ) → at + 4 ≤ length s → a ≡ get_or s at 0 → a < 256 → b ≡ get_or s (at + 1) 0 → b < 256 → c ≡ get_or s (at + 2) 0 → c < 256 → d ≡ get_or s (at + 3) 0 → d < 256
-    → reversed (a + b * 256 + c * 65536 + d * 16777216) ≡ take 4 (drop at s)
-four_read s at a b c d l p₀ h₀ p₁ h₁ p₂ h₂ p₃ h₃ =
-    let e₁ : at + 1 + 1 ≡ at + 2 = omega arith in
-    let e₂ : at + 2 + 1 ≡ at + 3 = omega arith in
-    four a b c d h₀ h₁ h₂ h₃ ∙ rw (next s at (omega arith), next s (at + 1) (omega arith), e₁, next s (at + 2) (omega arith), e₂, next s (at + 3) (omega arith), p₀, p₁, p₂, p₃)
-
-second : (r : ℕ) → r / 256 ≡ r / 65536 * 256 + r / 256 % 256
-second r = omega arith
-
-third : (r : ℕ) → r / 65536 ≡ r / 16777216 * 256 + r / 65536 % 256
-third r = omega arith
-
-four_digits : (r : ℕ) → r < 2 ^ 32 → r ≡ r % 256 + r / 256 % 256 * 256 + r / 65536 % 256 * 65536 + r / 16777216 % 256 * 16777216
-four_digits r h =
-    let d₀ : r ≡ r / 256 * 256 + r % 256 = omega arith in
-    let d₁ : r / 256 ≡ r / 65536 * 256 + r / 256 % 256 = second r in
-    let d₂ : r / 65536 ≡ r / 16777216 * 256 + r / 65536 % 256 = third r in
-    let d₃ : r / 16777216 % 256 ≡ r / 16777216 = omega arith in
-    omega (arith)
-
-pub swapped_read : (bs : List ℕ) (v r : ℕ) → v < 2 ^ 32 → r < 2 ^ 32 → reversed v ≡ bs → reversed r ≡ be 4 v → r ≡ val bs
-unfolding val
-swapped_read bs v r f g p q =
-    let e : reversed r ≡ v / 16777216 % 256 ∷ v / 65536 % 256 ∷ v / 256 % 256 ∷ v % 256 ∷ [] = q ∙ (rw div-one at (be_digits 4 v f)) in
-    let e₀ : r % 256 ≡ v / 16777216 % 256 = ap (λ (l : List ℕ). get_or l 0 0) e in
-    let e₁ : r / 256 % 256 ≡ v / 65536 % 256 = ap (λ (l : List ℕ). get_or l 1 0) e in
-    let e₂ : r / 65536 % 256 ≡ v / 256 % 256 = ap (λ (l : List ℕ). get_or l 2 0) e in
-    let e₃ : r / 16777216 % 256 ≡ v % 256 = ap (λ (l : List ℕ). get_or l 3 0) e in
-    let w : val (reversed v) ≡ v % 256 * 16777216 + (v / 256 % 256 * 65536 + (v / 65536 % 256 * 256 + (v / 16777216 % 256 * 1 + 0))) = refl in
-    rw (← p, w) (four_digits r g ∙ rw (e₀, e₁, e₂, e₃) (omega arith))
-
 pub eight_read : (s : List ℕ) (at low high : ℕ) → reversed low ≡ take 4 (drop at s) → reversed high ≡ take 4 (drop (at + 4) s) → low < 4294967296 → reversed_eight (low + high * 4294967296) ≡ take 8 (drop at s)
 eight_read s at low high e f h =
     let p : (low + high * 4294967296) % 4294967296 ≡ low = omega arith in
@@ -227,6 +191,6 @@ copying_again w at src l l₁ k l₂ c h s e =
     let v = group_more at l w k src l₁ l₂ h s e c.laid in
     record { within = omega arith; long = v.long; laid = v }
 
-pub ruleset writer = (rules, padding_odd, padding_even, first_plain, first_padded, padding_none, padding_laid, header_laid, u16_laid, reversed_laid, same_laid, swapped, four_read, swapped_read, eight_read, eight_laid, u64_laid, laid_none, zeros_more, zeros_done, group_more, group_last, byte_alone, bytes_none)
+pub ruleset writer = (rules, padding_odd, padding_even, first_plain, first_padded, padding_none, padding_laid, header_laid, u16_laid, reversed_laid, same_laid, swapped, eight_read, eight_laid, u64_laid, laid_none, zeros_more, zeros_done, group_more, group_last, byte_alone, bytes_none)
 
 pub ruleset fills = (writer, fill_four, fill_two, fill_three, fill_one)

@@ -19,19 +19,22 @@ pub fn wide(b: u8) -> usize
 pub fn either(a: bool, b: bool) -> bool
     ensures { result ≡ (a || b) }
 {
-    if a {
-        return true;
-    }
-    b
+    a || b
+}
+
+// The bytes from a place on, as many as the array has.
+pub(crate) fn bytes_at<const N: usize>(s: &[u8], at: usize) -> [u8; N]
+    requires { at + N ≤ length s.now }
+    ensures { result ≡ take N (drop at s.now) }
+{
+    *s[at..at + N].as_array().unwrap()
 }
 
 pub fn u16_from_be_bytes(s: &[u8], at: usize) -> u16
     requires { at + 2 ≤ length s.now }
     ensures { result ≡ val (take 2 (drop at s.now)) }
 {
-    let high = wide(s[at]);
-    let low = wide(s[at + 1]);
-    (high * 256 + low) as u16
+    u16::from_be_bytes(bytes_at(s, at))
 }
 
 // The number whose bytes, least significant first, stand at a place.
@@ -39,40 +42,31 @@ pub fn u32_from_le_unchecked(s: &[u8], at: usize) -> u32
     requires { at + 4 ≤ length s.now }
     ensures { reversed result ≡ take 4 (drop at s.now) }
 {
-    let a = wide(s[at]) as u32;
-    let b = wide(s[at + 1]) as u32;
-    let c = wide(s[at + 2]) as u32;
-    let d = wide(s[at + 3]) as u32;
-    a + b * 256 + c * 65536 + d * 16777216
+    u32::from_le_bytes(bytes_at(s, at))
 }
 
 // The number of the same four bytes in the other order.
 pub fn swap_bytes(v: u32) -> u32
     ensures { reversed result ≡ be 4 v }
 {
-    v / 16777216 + v / 65536 % 256 * 256 + v / 256 % 256 * 65536 + v % 256 * 16777216
+    v.swap_bytes()
 }
 
-// By a load of the bytes in the machine's order and a swap: so it is compiled to these two wherever it stands.
 pub fn u32_from_be_bytes(s: &[u8], at: usize) -> u32
     requires { at + 4 ≤ length s.now }
     ensures { result ≡ val (take 4 (drop at s.now)) }
 {
-    swap_bytes(u32_from_le_unchecked(s, at))
+    u32::from_be_bytes(bytes_at(s, at))
 }
 
-// In halves of halves: that way it is compiled to one load and a byte swap.
 pub fn u64_from_be_bytes(s: &[u8], at: usize) -> u64
     requires { at + 8 ≤ length s.now }
     ensures { result ≡ val (take 8 (drop at s.now)) }
 {
-    let a = u16_from_be_bytes(s, at) as u64;
-    let b = u16_from_be_bytes(s, at + 2) as u64;
-    let c = u16_from_be_bytes(s, at + 4) as u64;
-    let d = u16_from_be_bytes(s, at + 6) as u64;
-    ((a * 65536 + b) * 65536 + c) * 65536 + d
+    u64::from_be_bytes(bytes_at(s, at))
 }
 
+#[tactic(auto, unfolding(rfc3550::specs::Read::version_in))]
 pub fn parse_version(s: &[u8]) -> u8
     requires { 4 ≤ length s.now }
     ensures { result ≡ version_in s.now }
@@ -80,6 +74,7 @@ pub fn parse_version(s: &[u8]) -> u8
     s[0] / 64
 }
 
+#[tactic(auto, unfolding(rfc3550::specs::Read::padded))]
 pub fn parse_padding_bit(s: &[u8]) -> bool
     requires { 4 ≤ length s.now }
     ensures { result ≡ padded s.now }
@@ -88,26 +83,23 @@ pub fn parse_padding_bit(s: &[u8]) -> bool
 }
 
 // The low 5 bits of the first byte; 0 where there is no byte.
+#[tactic(auto, unfolding(rfc3550::specs::Read::low_in))]
 pub fn parse_count(s: &[u8]) -> u8
     ensures { (result ≡ low_in s.now) × (result < 32) }
 {
-    if s.len() == 0 {
-        return 0;
-    }
-    s[0] % 32
+    s.first().copied().unwrap_or(0) % 32
 }
 
 // The second byte; 0 where there is none.
+#[tactic(auto, unfolding(rfc3550::specs::Read::type_in))]
 pub fn parse_packet_type(s: &[u8]) -> u8
     ensures { result ≡ type_in s.now }
 {
-    if s.len() < 2 {
-        return 0;
-    }
-    s[1]
+    s.get(1).copied().unwrap_or(0)
 }
 
 // The length that the header states, in bytes.
+#[tactic(auto, unfolding(rfc3550::specs::Read::stated))]
 pub fn parse_length(s: &[u8]) -> usize
     requires { 4 ≤ length s.now }
     ensures { result ≡ stated s.now }
@@ -123,6 +115,7 @@ pub fn parse_ssrc(s: &[u8]) -> u32
 }
 
 // The length of the body by the padding's step; 0 where it is refused.
+#[tactic(auto, using(crate::proofs::Headers::bodies))]
 fn padded_body(s: &[u8], min_packet_len: usize) -> usize
     requires { (4 ≤ min_packet_len) × (min_packet_len ≤ length s.now) }
     ensures { result ≡ or_zero (check_padding min_packet_len s.now) }
@@ -144,6 +137,7 @@ fn padded_body(s: &[u8], min_packet_len: usize) -> usize
 }
 
 // The length of a packet's body, which is its length less the padding, by the steps common to every kind; 0 where one refuses.
+#[tactic(auto, using(crate::proofs::Headers::headers))]
 pub fn body_if(s: &[u8], min_packet_len: usize, wanted: bool) -> usize
     requires { 4 ≤ min_packet_len }
     ensures { result ≡ or_zero (check_header min_packet_len wanted (0, 0) s.now) }
@@ -169,6 +163,7 @@ pub fn body_if(s: &[u8], min_packet_len: usize, wanted: bool) -> usize
 
 // Why body_if is 0; NothingLeft where it is not.
 #[cold]
+#[tactic(auto, using(crate::proofs::Headers::headers))]
 pub fn why_header_if(
     s: &[u8],
     min_packet_len: usize,
@@ -212,6 +207,7 @@ pub fn why_header_if(
 }
 
 // The same of a kind that its type alone names: the length of the body, or 0.
+#[tactic(auto, using(crate::proofs::Headers::types))]
 pub fn body_of(s: &[u8], min_packet_len: usize, packet_type: u8) -> usize
     requires { 4 ≤ min_packet_len }
     ensures { result ≡ or_zero (check_header min_packet_len (eqb (type_in s.now) packet_type) (type_in s.now, packet_type) s.now) }
@@ -240,22 +236,13 @@ pub fn why_header(s: &[u8], min_packet_len: usize, packet_type: u8) -> RtcpParse
 pub fn part(s: &[u8], at: usize, len: usize) -> &[u8]
     ensures { result.now ≡ take len (drop at s.now) }
 {
-    if s.len() <= at {
-        return &s[..0];
-    }
-    if s.len() - at <= len {
-        return &s[at..];
-    }
-    let end = at + len;
-    &s[at..end]
+    let rest = &s[at.min(s.len())..];
+    &rest[..len.min(rest.len())]
 }
 
 // The part of the bytes from one place to another; none where the second comes first.
 pub fn between(s: &[u8], from: usize, to: usize) -> &[u8]
     ensures { result.now ≡ take (to - from) (drop from s.now) }
 {
-    if to < from {
-        return part(s, from, 0);
-    }
-    part(s, from, to - from)
+    part(s, from, to.saturating_sub(from))
 }

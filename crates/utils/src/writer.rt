@@ -56,6 +56,7 @@ pub fn write_u64_unchecked(buf: &mut [u8], at: usize, v: u64)
     buf[at + 7] = (v % 256) as u8;
 }
 
+// By hand: `fill` takes an instruction more.
 pub fn write_zeros_unchecked(buf: &mut [u8], at: usize, n: usize)
     requires { at + n ≤ length buf.old }
     ensures { buf.new ≡ store at (replicate n 0) buf.old }
@@ -67,7 +68,9 @@ pub fn write_zeros_unchecked(buf: &mut [u8], at: usize, n: usize)
     }
 }
 
-// The zeros from an index up to the word boundary after it, one to four. Without a loop: a loop over so few is compiled to a call.
+// The zeros from an index up to the word boundary after it, one to four. Without a loop: a loop over so few is compiled to a call. By hand: a `match` of
+// the remainder takes up to 2 instructions more.
+#[tactic(auto, using(crate::proofs::WriterCases::fills))]
 pub fn write_fill_unchecked(buf: &mut [u8], at: usize)
     requires { at + fill at ≤ length buf.old }
     ensures { buf.new ≡ store at (replicate (fill at) 0) buf.old }
@@ -104,7 +107,8 @@ fn write_reversed_eight(buf: &mut [u8], at: usize, v: u64)
     write_reversed(buf, at + 4, (v / 4294967296) as u32);
 }
 
-// The two bytes of src from index k on, each laid as far behind index at as it stands in src.
+// The two bytes of src from index k on, each laid as far behind index at as it stands in src. By hand, as all the copies below: as one function over
+// arrays of N bytes, laid by `copy_from_slice`, they take 9 instructions more a chunk of an SDES; one `copy_from_slice` of a text takes 41 more.
 fn copy_two(buf: &mut [u8], at: usize, src: &[u8], k: usize)
     requires { (k + 2 ≤ length src.now) × (at + length src.now ≤ length buf.old) }
     ensures { buf.new ≡ store (at + k) (take 2 (drop k src.now)) buf.old }
@@ -216,6 +220,7 @@ fn first_byte(padding: u64, count: u8) -> u8
 }
 
 // The header of a packet of so many bytes, at the start of buf.
+#[tactic(auto, using(crate::proofs::WriterCases::writer))]
 pub fn write_header_unchecked(buf: &mut [u8], padding: u64, count: u8, packet_type: u8, size: usize)
     requires { (count < 32) × (4 ≤ size) × (size ≤ 262144) × (4 ≤ length buf.old) }
     ensures { buf.new ≡ store 0 (header padding count packet_type size) buf.old }
@@ -227,6 +232,7 @@ pub fn write_header_unchecked(buf: &mut [u8], padding: u64, count: u8, packet_ty
 }
 
 // Zeros, and the count last.
+#[tactic(auto, using(crate::proofs::WriterCases::writer))]
 pub fn write_padding_unchecked(buf: &mut [u8], at: usize, padding: u64)
     requires { (padding ≤ 252) × (at + padding ≤ length buf.old) }
     ensures { buf.new ≡ store at (padding_bytes padding) buf.old }

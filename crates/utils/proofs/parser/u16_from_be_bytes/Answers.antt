@@ -1,6 +1,6 @@
-use Rattle.utils.proofs.Numbers.{val_byte, val_join}
+use Rattle.utils.proofs.Numbers.{number_read}
 use borrow.Author.Rules.{rules}
 use Rattle.utils.proofs.parser.u16_from_be_bytes.Goals as goal
 
 pub returns : goal.returns
-returns c = search (rules, val_join 1 1, val_byte)
+returns c = search (rules, number_read 1)

@@ -1,5 +1,6 @@
-use Rattle.utils.proofs.WriterCases.{writer}
+use Rattle.utils.proofs.Numbers.{number_read}
+use borrow.Author.Rules.{rules}
 use Rattle.utils.proofs.parser.u32_from_be_bytes.Goals as goal
 
 pub returns : goal.returns
-returns c = search writer
+returns c = search (rules, number_read 3)

@@ -1,6 +1,6 @@
-use Rattle.utils.proofs.Numbers.{val_join}
+use Rattle.utils.proofs.Numbers.{number_read}
 use borrow.Author.Rules.{rules}
 use Rattle.utils.proofs.parser.u64_from_be_bytes.Goals as goal
 
 pub returns : goal.returns
-returns c = search (rules, val_join 2 2, val_join 4 2, val_join 6 2)
+returns c = search (rules, number_read 7)
