@@ -1,9 +1,7 @@
 -- The cases of an APP's size and bytes, each from what the code has tested or called.
 use Rattle.rfc3550.proofs.Prelude.{ℕ, zero, suc, ◌+◌, ◌-◌, ◌%◌, ◌<◌, ◌≤◌, ◌≡◌, refl, sym, ap, ◌∙◌, Bool, true, false, ◌&&◌, List, [], ◌∷◌, ◌++◌, arith, le-leb, lt-leb, leb-true, eq-eqb, ne_eqb, not-true, not-false, length, take, drop, get_or, replicate, length-append, length-replicate, leb, add-one, drop_of_length-le, drop-cons}
-use Rattle.std.specs.Bool.{MatchBool}
-use Rattle.std.specs.Str.{IsAscii, IsNotAscii}
 use Rattle.std.specs.List.{list_all}
-use Rattle.rfc3550.specs.Answer.{Refusal, refusal, ok, refused, need, ◌>>◌}
+use Rattle.rfc3550.specs.Answer.{refusal, ok, refused, need, ◌>>◌}
 use Rattle.rfc3550.specs.Bytes.{be, store}
 use Rattle.rfc3550.specs.Packet.{app, content_bytes, layout}
 use Rattle.rfc3550.specs.Write.{Given, give_app, name_given, ascii, packet_given, padding_bytes, padding_ok, own_tests, calculate_size}

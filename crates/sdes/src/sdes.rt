@@ -90,6 +90,7 @@ impl Sdes {
     }
 
     // In each kind by hand, like padding_bytes: a trait with both would ask nine items of a kind (five ghost members, two laws, body, padding_len), which are longer.
+    #[inline(always)]
     pub fn parse(s: &[u8]) -> Result<Sdes, RtcpParseError>
         ensures { parsed_of result ≡ map_ok sdes_view (read_as SDES s.now) }
     {
