@@ -10,6 +10,7 @@ ghost use Rattle.utils.specs.Writer.{written_of, size_refusal};
 
 use crate::error::RtcpWriteError;
 
+// Each kind inlines size_of, why_size and write_into_unchecked: a call of one of them keeps the whole struct in memory.
 pub trait RtcpPacketWriter: Copy {
     // What a packet of these values is given.
     ghost given: { Self → Given };
