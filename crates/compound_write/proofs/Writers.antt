@@ -5,7 +5,7 @@ use Rattle.rfc3550.specs.Bytes.{store}
 use Rattle.rfc3550.specs.Packet.{type, layout, is_report}
 use Rattle.rfc3550.specs.Write.{Given, packet_given, content_given, padding_given, size_given, tests, own_tests, calculate_size}
 use Rattle.rfc3550.specs.Writer.{Writer, add, close, gives_cname, add_tests, close_tests, after_close, call}
-use Rattle.rfc3550.proofs.Answers.{true≢false, and_inv, need_inv}
+use Rattle.rfc3550.proofs.Answers.{true≢false, and_inv}
 use Rattle.utils.specs.Error.{or_zero}
 use Rattle.utils.specs.Writer.{size_refusal}
 use Rattle.utils.proofs.WriterStores.{store_part}

@@ -1,6 +1,6 @@
 -- The cases of a report of lent records, over whoever reports: its size, what stands around its blocks, and the whole written.
 use Rattle.std.specs.Prelude.{Result, Ok, Err}
-use Rattle.rfc3550.proofs.Prelude.{ℕ, ◌+◌, ◌-◌, ◌*◌, ◌<◌, ◌≤◌, ◌≡◌, refl, sym, ap, ◌∙◌, List, [], arith, add-one, leb-true, length, take, drop, get_or, length-map, drop_of_length-le, drop-cons, take-length, ◌∷◌, ◌++◌}
+use Rattle.rfc3550.proofs.Prelude.{ℕ, ◌+◌, ◌-◌, ◌*◌, ◌<◌, ◌≤◌, ◌≡◌, refl, sym, ap, ◌∙◌, List, [], arith, leb-true, length, take, length-map, take-length, ◌∷◌, ◌++◌}
 use lib.Signed.{mag}
 use mir.Syntax.{w32}
 use mir.Val.{to_z, of_z}

@@ -1,6 +1,4 @@
 // Rows of reports whose blocks are lent as records, and of the walk over chunks that holds its bytes.
-use sdes_chunk::chunk::SdesChunk;
-use utils::error::{Code, RtcpParseError};
 use super::answer::Answer;
 use super::operation::{Walking, Way};
 use super::print::numbers;
@@ -11,9 +9,11 @@ use records::Reporter;
 use report::report_block::ReportBlock;
 use rtcp::write_result::RtcpWritten;
 use sdes::sdes::ChunkWalk;
+use sdes_chunk::chunk::SdesChunk;
 use sdes_walk::SdesWalk;
 use std::alloc::{AllocError, Global};
 use std::io;
+use utils::error::{Code, RtcpParseError};
 
 // So many blocks are lent at most.
 const MOST: usize = 33;
@@ -108,7 +108,12 @@ fn opened(to: &mut Vec<u8>, answer: Result<ChunkWalk, RtcpParseError>) -> io::Re
 }
 
 // On a refusal the walk is as it was.
-fn stepped(to: &mut Vec<u8>, answer: Result<(SdesChunk, ChunkWalk), RtcpParseError>, at: u64, end: u64) -> io::Result<()> {
+fn stepped(
+    to: &mut Vec<u8>,
+    answer: Result<(SdesChunk, ChunkWalk), RtcpParseError>,
+    at: u64,
+    end: u64,
+) -> io::Result<()> {
     match answer {
         Ok((chunk, next)) => {
             numbers(to, &[0, 0, 0, chunk.ssrc])?;

@@ -15,11 +15,9 @@ use Rattle.report.specs.Block.{lay_blocks}
 use Rattle.report.specs.Report.{report_blocks, report_body, receiver_view, no_receiver, sender_view, no_sender}
 use Rattle.report.specs.declared.receiver.ReceiverReport.{ReceiverReport}
 use Rattle.report.specs.declared.sender.SenderReport.{SenderReport}
-use Rattle.report.specs.declared.report_block.ReportBlock.{ReportBlock}
-use Rattle.report.proofs.Losses.{bits_back}
-use Rattle.report.proofs.Reports.{value_refused, value_blocks, value_within, ReporterKind, receiver_maker, sender_maker}
+use Rattle.report.proofs.Reports.{value_refused, value_blocks, value_within}
 use Rattle.report.specs.Reporter.{ReporterKind, receiver_maker, sender_maker}
-use Rattle.rtcp.specs.Report.{block_result, rr_result, sr_result, blocks_out, read_out, read_both}
+use Rattle.rtcp.specs.Report.{rr_result, sr_result, blocks_out, read_out, read_both}
 use Rattle.rtcp.specs.WriteResult.{written_result}
 use Rattle.rtcp.proofs.Results.{coded}
 use Rattle.rtcp.specs.declared.read_report.RtcpRr.{RtcpRr}

@@ -5,6 +5,7 @@ ghost use Rattle.utils.specs.Error.{parsed_of};
 ghost use Rattle.rtcp.specs.Lookup.{lookup_result, lookup_with_answers};
 
 use utils::error::{Code, RtcpParseError};
+
 #[repr(C)]
 #[derive(Clone, Copy, Default)]
 pub struct RtcpLookup {
