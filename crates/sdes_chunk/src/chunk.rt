@@ -249,6 +249,7 @@ impl SdesChunk {
     }
 
     // The chunk at the start of the rest of a body.
+    #[inline(always)]
     pub fn parse(rest: &[u8]) -> Result<SdesChunk, RtcpParseError>
         ensures { parsed_of result ≡ map_ok chunk_first (read_chunk rest.now) }
     {
