@@ -99,17 +99,24 @@ write_refusal_back write.AlreadyPadded = refl
 pub write_refusal_injective : (e f : RtcpWriteError) → write_refusal e ≡ write_refusal f → e ≡ f
 write_refusal_injective = injective write_refusal write_error write_refusal_back
 
--- what a function says, from the answer that it stands for: where that gives it back, nothing is lost
-abbrev pub from_answer : {A E : Type 0} → (Refusal → E) → Answer A → Result A E
-from_answer errorOf (ok a) = Ok a
-from_answer errorOf (refused r) = Err (errorOf r)
+-- what holds a value or a refusal, from the answer that it stands for: where that gives it back, nothing is lost
+abbrev pub from_answer : {A E O : Type 0} → (Refusal → E) → (A → O) → (E → O) → Answer A → O
+from_answer errorOf value refusing (ok a) = value a
+from_answer errorOf value refusing (refused r) = refusing (errorOf r)
+
+module _ {A O : Type 0} (of : O → Answer A) (value : A → O) where
+  pub parsed_injective : (refusing : RtcpParseError → O) → ((o : O) → from_answer parse_error value refusing (of o) ≡ o) → (o p : O) → of o ≡ of p → o ≡ p
+  parsed_injective refusing back = injective of (from_answer parse_error value refusing) back
+
+  pub written_injective : (refusing : RtcpWriteError → O) → ((o : O) → from_answer write_error value refusing (of o) ≡ o) → (o p : O) → of o ≡ of p → o ≡ p
+  written_injective refusing back = injective of (from_answer write_error value refusing) back
 
 module _ {A : Type 0} where
   pub parsed_of_injective : (r s : Result A RtcpParseError) → parsed_of r ≡ parsed_of s → r ≡ s
-  parsed_of_injective = injective parsed_of (from_answer parse_error) (elim [ Ok a ↦ refl | Err e ↦ ap Err (parse_refusal_back e) ])
+  parsed_of_injective = parsed_injective parsed_of Ok Err (elim [ Ok a ↦ refl | Err e ↦ ap Err (parse_refusal_back e) ])
 
   pub written_of_injective : (r s : Result A RtcpWriteError) → written_of r ≡ written_of s → r ≡ s
-  written_of_injective = injective written_of (from_answer write_error) (elim [ Ok a ↦ refl | Err e ↦ ap Err (write_refusal_back e) ])
+  written_of_injective = written_injective written_of Ok Err (elim [ Ok a ↦ refl | Err e ↦ ap Err (write_refusal_back e) ])
 
 abbrev code_for : Refusal → Code
 code_for (refusal n a b) = record { number = n; first = a; second = b }

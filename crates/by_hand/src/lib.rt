@@ -1,0 +1,2 @@
+// What the proofs by hand share: laws in proofs/. No code.
+#![tactic(auto)]
