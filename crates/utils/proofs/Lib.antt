@@ -9,5 +9,4 @@ pub mod Lists
 pub mod WriterStores
 pub mod WriterCases
 pub mod WriterPackets
-pub mod Sizes
 pub mod Filled

@@ -1,13 +1,14 @@
 -- A packet of a kind, from its header on: the header's answer first, then the content's, over the kind.
-use Rattle.rfc3550.proofs.Prelude.{◌≡◌, refl, ap, ◌∙◌, sym, List, [], ℕ, ◌-◌, ◌<◌, ◌≤◌, arith, length, take, drop, length-drop, take_all}
+use Rattle.std.specs.Prelude.{None, Some}
+use Rattle.rfc3550.proofs.Prelude.{◌≡◌, refl, ap, ◌∙◌, sym, List, [], ℕ, ◌-◌, ◌≤◌, arith, length, take, drop, length-drop, take_all}
 use Rattle.rfc3550.specs.Answer.{Refusal, Answer, ok, refused, ◌>>=◌, map_ok}
 use Rattle.rfc3550.specs.Packet.{Content, Packet}
 use Rattle.rfc3550.specs.Read.{Kind, SR, RR, SDES, BYE, APP, UNKNOWN, least, low_in, type_in, check_packet, read_content, read_as}
 use Rattle.rfc3550.proofs.Answers.{bind_elim, ok_injective, refused≢ok}
-use Rattle.utils.specs.Error.{refusal_in, value_or, or_zero}
+use Rattle.utils.specs.Error.{value_in}
 use Rattle.utils.specs.Parts.{part_in}
 use Rattle.utils.proofs.Headers.{Accepted, accepted}
-use Rattle.utils.proofs.Values.{number_came, value_is, none_is}
+use Rattle.utils.proofs.Values.{value_is, none_refused, none_viewed}
 
 -- the packet of a content, in a packet with this body
 abbrev pub packet_of : List ℕ → ℕ → Content → Packet
@@ -64,55 +65,39 @@ module _ (k : Kind) (s : List ℕ) where
       let f : c ≡ p.content = ok_injective (sym q ∙ g.content) in
       ap (packet_of s g.body) f ∙ ap (λ (l : List ℕ). record { content = p.content; padding = l }) g.padding
 
-  -- by the number of the header
-  module _ (b : ℕ) (h : b ≡ or_zero (check_packet k s)) where
-    refused_at_header : b ≡ 0 → read_as k s ≡ refused (refusal_in (check_packet k s))
-    unfolding read_as ◌>>=◌
-    refused_at_header z = go (check_packet k s) refl
-      where
-        go : (m : Answer ℕ) → check_packet k s ≡ m → read_as k s ≡ refused (refusal_in m)
-        go (ok n) q = absurd (omega (arith, (accepted _ _ _ s n q).enough, least_four k, h ∙ ap or_zero q))
-        go (refused r) q = rw q
+  -- where the header refuses
+  pub none_at_header : value_in (check_packet k s) ≡ None → value_in (read_as k s) ≡ None
+  unfolding read_as ◌>>=◌
+  none_at_header z = let x = none_refused (check_packet k s) z in rw (x.1)
 
-    pub none_at_header : {B : Type 0} (none : B) (view : Packet → B) → b ≡ 0 → none ≡ value_or none view (read_as k s)
-    none_at_header none view z = sym (ap (value_or none view) (refused_at_header z))
+  pub none_viewed_at_header : {B : Type 0} (view : Packet → B) → None ≡ value_in (check_packet k s) → None ≡ value_in (map_ok view (read_as k s))
+  none_viewed_at_header view z = none_viewed view (read_as k s) (none_at_header (sym z))
 
-    pub why_at_header : (r : Refusal) → b ≡ 0 → r ≡ refusal_in (check_packet k s) → r ≡ refusal_in (read_as k s)
-    why_at_header r z q = q ∙ sym (ap refusal_in (refused_at_header z))
+  pub why_at_header : (r : Refusal) → refused r ≡ check_packet k s → refused r ≡ read_as k s
+  unfolding read_as ◌>>=◌
+  why_at_header r e = rw (sym e)
 
-    pub refused_header : {B : Type 0} (view : Packet → B) (r : Refusal) → b ≡ 0 → r ≡ refusal_in (check_packet k s) → refused r ≡ map_ok view (read_as k s)
-    unfolding map_ok
-    refused_header view r z q = rw (refused_at_header z, q)
+  -- where it has a body
+  module _ (b : ℕ) (h : Some b ≡ value_in (check_packet k s)) where
+    pub body_accepted : Accepted (least k) s b
+    body_accepted = accepted _ _ _ s b (sym (value_is (check_packet k s) b h))
 
-    module _ (z : b ≡ 0 → ⊥) where
-      pub body_accepted : Accepted (least k) s b
-      body_accepted = accepted _ _ _ s b (number_came (check_packet k s) b h z)
-
-      pub body_content : read_as k s ≡ map_ok (packet_of s b) (content_in k s b)
-      body_content = read_content_lem b (number_came (check_packet k s) b h z)
+    pub body_content : read_as k s ≡ map_ok (packet_of s b) (content_in k s b)
+    body_content = read_content_lem b (sym (value_is (check_packet k s) b h))
 
   -- a kind whose content refuses nothing is refused by its header alone
-  pub why_read : ((b : ℕ) → Accepted (least k) s b → (c : Content) × (content_in k s b ≡ ok c)) → refusal_in (check_packet k s) ≡ refusal_in (read_as k s)
+  pub none_read : ((b : ℕ) → Accepted (least k) s b → (c : Content) × (content_in k s b ≡ ok c)) → value_in (read_as k s) ≡ None → value_in (check_packet k s) ≡ None
   unfolding read_as ◌>>=◌
-  why_read f = go (check_packet k s) refl
+  none_read f z = go (check_packet k s) refl
     where
-      go : (m : Answer ℕ) → check_packet k s ≡ m → refusal_in (check_packet k s) ≡ refusal_in (read_as k s)
-      go (ok b) e = rw (e, (f b (accepted _ _ _ s b e)).1)
-      go (refused r) e = rw e
+      go : (m : Answer ℕ) → check_packet k s ≡ m → value_in m ≡ None
+      go (ok b) e = let x : value_in (read_as k s) ≡ Some (packet_of s b (f b (accepted _ _ _ s b e)).0) = rw (e, (f b (accepted _ _ _ s b e)).1) in let y = sym x ∙ z in cc
+      go (refused r) e = refl
 
 pub map_ok_refused : {A B : Type 0} (f : A → B) (m : Answer A) {r : Refusal} → map_ok f m ≡ refused r → m ≡ refused r
 unfolding map_ok
 map_ok_refused f (ok a) h = absurd (refused≢ok (sym h))
 map_ok_refused f (refused x) h = cc
-
--- what parse answers, from the value that was read and from why there is none
-module _ (k : Kind) (s : List ℕ) {B : Type 0} (none : B) (view : Packet → B) (g : B → ℕ) (z : g none ≡ 0) (o : B) (h : o ≡ value_or none view (read_as k s)) where
-  pub parse_read : (g o ≡ 0 → ⊥) → ok o ≡ map_ok view (read_as k s)
-  parse_read n = value_is none view g z (read_as k s) o h n
-
-  pub parse_none : ((p : Packet) → 0 < g (view p)) → (r : Refusal) → g o ≡ 0 → r ≡ refusal_in (read_as k (take (length s - 0) (drop 0 s))) → refused r ≡ map_ok view (read_as k s)
-  parse_none p r e q =
-      none_is none view g z p view (read_as k s) o r h e (q ∙ ap (λ (s : List ℕ). refusal_in (read_as k s)) (take_all (length s - 0) s (omega arith)))
 
 -- a reading that refuses has no part
 pub part_refused : {R : Type 0} (view : Packet → R) (a : Answer R) (r : Refusal) (part : Packet → List ℕ) (m : Answer Packet) → a ≡ refused r → a ≡ map_ok view m → [] ≡ part_in part m

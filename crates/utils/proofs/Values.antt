@@ -1,28 +1,40 @@
--- Numbers first: what a value or none says of the answer, where a number of it is 0 exactly for none.
-use Rattle.rfc3550.proofs.Prelude.{ℕ, ◌<◌, ◌≡◌, refl, sym, ap, ◌∙◌, arith}
+-- What a value, or none, says of the answer that it is in.
+use Rattle.std.specs.Prelude.{None, Some}
+use Rattle.rfc3550.proofs.Prelude.{◌≡◌, refl, sym, ap}
 use Rattle.rfc3550.specs.Answer.{Refusal, Answer, ok, refused, map_ok}
-use Rattle.utils.specs.Error.{refusal_in, value_or, or_zero}
+use Rattle.utils.specs.Error.{value_in}
 
-module _ {A B : Type 0} (none : B) (view : A → B) (g : B → ℕ) (z : g none ≡ 0) where
-  pub value_came : (m : Answer A) (b : B) → b ≡ value_or none view m → (g b ≡ 0 → ⊥) → (a : A) × (m ≡ ok a) × (view a ≡ b)
-  value_came (ok a) b e h = (a, refl, sym e)
-  value_came (refused r) b e h = absurd (h (ap g e ∙ z))
+module _ {A : Type 0} where
+  -- a value came, and so it is the answer
+  pub value_is : (m : Answer A) (a : A) → Some a ≡ value_in m → ok a ≡ m
+  value_is (ok b) a e = cc
+  value_is (refused r) a e = cc
 
-  pub value_is : (m : Answer A) (b : B) → b ≡ value_or none view m → (g b ≡ 0 → ⊥) → ok b ≡ map_ok view m
-  unfolding map_ok
-  value_is (ok a) b e h = ap ok e
-  value_is (refused r) b e h = absurd (h (ap g e ∙ z))
+  -- none came, and so there is a refusal
+  pub none_refused : (m : Answer A) → value_in m ≡ None → (r : Refusal) × (m ≡ refused r)
+  none_refused (ok a) e = cc
+  none_refused (refused r) e = (r, refl)
 
-  module _ (p : (a : A) → 0 < g (view a)) where
-    pub none_came : (m : Answer A) (b : B) → b ≡ value_or none view m → g b ≡ 0 → m ≡ refused (refusal_in m)
-    none_came (ok a) b e h = absurd (omega (arith, p a, ap g e))
-    none_came (refused r) b e h = refl
+  pub value_found : (m : Answer A) (a : A) → ok a ≡ m → Some a ≡ value_in m
+  value_found m a e = ap value_in e
 
-    pub none_is : {C : Type 0} (f : A → C) (m : Answer A) (b : B) (k : Refusal) → b ≡ value_or none view m → g b ≡ 0 → k ≡ refusal_in m → refused k ≡ map_ok f m
+  pub none_found : (m : Answer A) (r : Refusal) → refused r ≡ m → None ≡ value_in m
+  none_found m r e = ap value_in e
+
+  module _ {B : Type 0} (f : A → B) where
+    -- a view changes no refusal
+    pub none_viewed : (m : Answer A) → value_in m ≡ None → None ≡ value_in (map_ok f m)
     unfolding map_ok
-    none_is f (ok a) b k e h q = absurd (omega (arith, p a, ap g e))
-    none_is f (refused r) b k e h q = ap refused q
+    none_viewed (ok a) e = cc
+    none_viewed (refused r) e = refl
 
-pub number_came : (m : Answer ℕ) (n : ℕ) → n ≡ or_zero m → (n ≡ 0 → ⊥) → m ≡ ok n
-number_came (ok a) n e h = ap ok (sym e)
-number_came (refused r) n e h = absurd (h e)
+    pub none_below : (m : Answer A) → None ≡ value_in (map_ok f m) → value_in m ≡ None
+    unfolding map_ok
+    none_below (ok a) e = cc
+    none_below (refused r) e = refl
+
+    pub refused_viewed : (m : Answer A) (r : Refusal) → refused r ≡ m → refused r ≡ map_ok f m
+    unfolding map_ok
+    refused_viewed m r e = rw (sym e)
+
+pub ruleset values = (value_is, value_found, none_found, none_viewed, none_below, refused_viewed)

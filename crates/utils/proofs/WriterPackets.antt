@@ -1,16 +1,17 @@
 -- A write of anything that has a size and bytes, and a packet laid as header, content, padding.
-use Rattle.std.specs.Prelude.{Result, Ok, Err}
+use Rattle.std.specs.Prelude.{None, Some, Result, Ok, Err}
 use Rattle.std.specs.Result.{IsErrAnd}
 use Rattle.std.proofs.lemmas.Result.{err_from_is_err_and}
-use Rattle.rfc3550.proofs.Prelude.{ℕ, suc, ◌+◌, ◌-◌, ◌/◌, ◌%◌, ◌<◌, ◌≤◌, ◌≡◌, sym, ap, ◌∙◌, List, ◌++◌, Bool, true, arith, length, length-append, leb, eqb, le-leb, lt-leb, leb-true}
+use Rattle.rfc3550.proofs.Prelude.{ℕ, suc, ◌+◌, ◌-◌, ◌/◌, ◌%◌, ◌<◌, ◌≤◌, ◌≡◌, sym, ap, ◌∙◌, List, ◌++◌, Bool, true, false, refl, arith, length, length-append, leb, eqb, le-leb, lt-leb, leb-true}
 use Rattle.rfc3550.specs.Answer.{Answer, ok, refused, refusal, need, ◌>>◌, ◌>>=◌}
 use Rattle.rfc3550.specs.Bytes.{store}
 use Rattle.rfc3550.specs.Packet.{Content, content_bytes, low_bits, type, layout}
-use Rattle.rfc3550.specs.Write.{Given, padding_bytes, packet_given, content_given, padding_given, padding_ok, tests, own_tests, calculate_size, room, written, write}
+use Rattle.rfc3550.specs.Write.{Given, padding_bytes, packet_given, content_given, padding_given, padding_ok, size_given, tests, own_tests, calculate_size, room, written, write}
 use Rattle.rfc3550.proofs.Answers.{and_inv, need_ok, then_inv, ok_injective}
 use Rattle.rfc3550.proofs.Bytes.{length_be, length_store}
 use Rattle.rfc3550.proofs.Packets.{length_layout}
 use Rattle.rfc3550.proofs.Writes.{length_padding_bytes}
+use Rattle.utils.specs.Error.{value_in}
 use Rattle.utils.specs.Writer.{written_of, header}
 use Rattle.utils.specs.declared.error.RtcpWriteError.{RtcpWriteError}
 use Rattle.utils.proofs.WriterStores.{store_store, store_before}
@@ -82,6 +83,15 @@ unfolding calculate_size tests ◌>>◌ need
 size_over g n e q f =
     let m : length (layout (packet_given g)) ≡ n = omega (arith, length_layout (packet_given g), length_padding_bytes (padding_given g)) in
     simp (e, m, lt-leb _ _ f)
+
+-- own tests passed, and no size: 22 is what is left
+pub why_last : (g : Given) → own_tests g ≡ ok tt → value_in (calculate_size g) ≡ None → refused (refusal 22 0 0) ≡ calculate_size g
+unfolding calculate_size tests ◌>>◌ need
+why_last g e z = go (leb (size_given g) 262144) refl
+  where
+    go : (b : Bool) → leb (size_given g) 262144 ≡ b → refused (refusal 22 0 0) ≡ calculate_size g
+    go true q = let x : value_in (calculate_size g) ≡ Some (size_given g) = rw (e, q) in let y = sym x ∙ z in cc
+    go false q = rw (e, q)
 
 -- own tests refused
 pub size_refused : (g : Given) {x : _} → own_tests g ≡ refused x → refused x ≡ calculate_size g

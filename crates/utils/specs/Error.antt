@@ -1,5 +1,5 @@
 -- The number and the details that document 01 gives each refusal of the code.
-use Rattle.std.specs.Prelude.{ℕ, Result, Ok, Err}
+use Rattle.std.specs.Prelude.{ℕ, Option, None, Some, Result, Ok, Err}
 use Rattle.rfc3550.specs.Answer.{Refusal, refusal, Answer, ok, refused}
 use Rattle.utils.specs.declared.error.RtcpParseError.{RtcpParseError}
 use Rattle.utils.specs.declared.error.RtcpParseError.TheVariants as parse
@@ -53,17 +53,7 @@ code_refusal c = refusal c.number c.first c.second
 abbrev pub number_in : Refusal → ℕ
 number_in (refusal number first second) = number
 
--- the refusal that an answer is; of a value, 25, which no caller asks for
-abbrev pub refusal_in : {A : Type 0} → Answer A → Refusal
-refusal_in (ok a) = refusal 25 0 0
-refusal_in (refused r) = r
-
--- what is seen of an answer's value; of a refusal, what stands for none
-abbrev pub value_or : {A B : Type 0} → B → (A → B) → Answer A → B
-value_or none view (ok a) = view a
-value_or none view (refused r) = none
-
--- the same of a number that is itself the answer: no value is 0
-abbrev pub or_zero : Answer ℕ → ℕ
-or_zero (ok n) = n
-or_zero (refused r) = 0
+-- the value that an answer has, where it is no refusal
+abbrev pub value_in : {A : Type 0} → Answer A → Option A
+value_in (ok a) = Some a
+value_in (refused r) = None

@@ -1,6 +1,6 @@
 -- What a write answers, and the first four bytes of a packet.
 use Rattle.std.specs.Prelude.{ℕ, ◌+◌, ◌-◌, ◌/◌, ◌%◌, List, [], ◌∷◌, ◌++◌, Result, Ok, Err}
-use Rattle.rfc3550.specs.Answer.{Refusal, refusal, Answer, ok, refused}
+use Rattle.rfc3550.specs.Answer.{Answer, ok, refused}
 use Rattle.rfc3550.specs.Bytes.{be}
 use Rattle.rfc3550.specs.Packet.{padding_bit}
 use Rattle.rfc3550.specs.Write.{padding_bytes}
@@ -11,11 +11,6 @@ use Rattle.utils.specs.declared.error.RtcpWriteError.{RtcpWriteError}
 abbrev pub written_of : {A : Type 0} → Result A RtcpWriteError → Answer A
 written_of (Ok a) = ok a
 written_of (Err e) = refused (write_refusal e)
-
--- why there is no size; where there is one, 22, which no caller asks for
-abbrev pub size_refusal : Answer ℕ → Refusal
-size_refusal (ok n) = refusal 22 0 0
-size_refusal (refused r) = r
 
 -- version 2, P, the low 5 bits
 abbrev pub first_byte : ℕ → ℕ → ℕ

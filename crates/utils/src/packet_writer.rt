@@ -1,16 +1,16 @@
 // One packet to be written, of any kind (lib.rs, `RtcpPacketWriter`).
-ghost use Rattle.std.specs.Prelude.{◌≡◌, ◌≤◌, length};
-ghost use Rattle.rfc3550.specs.Answer.{ok};
+ghost use Rattle.std.specs.Prelude.{◌≡◌, ◌≤◌, None, length};
+ghost use Rattle.rfc3550.specs.Answer.{ok, refused};
 ghost use Rattle.rfc3550.specs.Bytes.{store};
 ghost use Rattle.rfc3550.specs.Packet.{type, layout};
 ghost use Rattle.rfc3550.specs.Write.{Given, packet_given, content_given, padding_given, own_tests, calculate_size, write};
 ghost use Rattle.rfc3550.specs.Writer.{gives_cname};
-ghost use Rattle.utils.specs.Error.{or_zero, write_refusal};
-ghost use Rattle.utils.specs.Writer.{written_of, size_refusal};
+ghost use Rattle.utils.specs.Error.{value_in, write_refusal};
+ghost use Rattle.utils.specs.Writer.{written_of};
 
 use crate::error::RtcpWriteError;
 
-// Each kind inlines size_of, why_size and write_into_unchecked: a call of one of them keeps the whole struct in memory.
+// Each kind inlines size_of, why_size_unchecked and write_into_unchecked: a call of one of them keeps the whole struct in memory.
 pub trait RtcpPacketWriter: Copy {
     // What a packet of these values is given.
     ghost given: { Self → Given };
@@ -21,13 +21,14 @@ pub trait RtcpPacketWriter: Copy {
     fn padding(self) -> u64
         ensures { result ≡ padding_given (given self) };
 
-    // The size of the packet; 0 where it is refused.
-    fn size_of(self) -> usize
-        ensures { result ≡ or_zero (calculate_size (given self)) };
+    // The size of the packet; None where it is refused.
+    fn size_of(self) -> Option<usize>
+        ensures { result ≡ value_in (calculate_size (given self)) };
 
-    // Why there is no size; PacketTooLarge where there is one.
-    fn why_size(self) -> RtcpWriteError
-        ensures { write_refusal result ≡ size_refusal (calculate_size (given self)) };
+    // Why a packet that has no size is refused.
+    fn why_size_unchecked(self) -> RtcpWriteError
+        requires { value_in (calculate_size (given self)) ≡ None }
+        ensures { refused (write_refusal result) ≡ calculate_size (given self) };
 
     // Lays a packet that has this size at the start of buf.
     fn write_into_unchecked(self, buf: &mut [u8], size: usize)
@@ -40,15 +41,15 @@ pub trait RtcpPacketWriter: Copy {
         ensures { result ≡ gives_cname (given self) };
 
     // The size of the packet, or why it is refused.
+    #[tactic(auto, using(crate::proofs::Values::values))]
     #[inline(always)]
     final fn calculate_size(self) -> Result<usize, RtcpWriteError>
         ensures { written_of result ≡ calculate_size (given self) }
     {
-        let size = self.size_of();
-        if size == 0 {
-            return Err(self.why_size());
+        match self.size_of() {
+            Some(size) => Ok(size),
+            None => Err(self.why_size_unchecked()),
         }
-        Ok(size)
     }
 
     // Writes the packet at the start of buf.

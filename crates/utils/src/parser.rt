@@ -1,8 +1,9 @@
 // Numbers, most significant byte first, and the header of a packet.
-ghost use Rattle.std.specs.Prelude.{◌≡◌, ◌||◌, ◌+◌, ◌-◌, ◌≤◌, ◌<◌, length, take, drop, eqb};
+ghost use Rattle.std.specs.Prelude.{◌≡◌, ◌||◌, None, ◌+◌, ◌-◌, ◌≤◌, ◌<◌, length, take, drop, eqb};
+ghost use Rattle.rfc3550.specs.Answer.{refused};
 ghost use Rattle.rfc3550.specs.Bytes.{val, be};
 ghost use Rattle.rfc3550.specs.Read.{version_in, padded, low_in, type_in, stated, check_header};
-ghost use Rattle.utils.specs.Error.{parse_refusal, refusal_in, or_zero};
+ghost use Rattle.utils.specs.Error.{parse_refusal, value_in};
 ghost use Rattle.utils.specs.Parser.{check_padding};
 ghost use Rattle.utils.specs.Writer.{reversed};
 
@@ -114,65 +115,65 @@ pub fn parse_ssrc(s: &[u8]) -> u32
     u32_from_be_bytes(s, 4)
 }
 
-// The length of the body by the padding's step; 0 where it is refused.
+// The length of the body by the padding's step; None where it is refused.
 #[tactic(auto, using(crate::proofs::Headers::bodies))]
-fn padded_body(s: &[u8], min_packet_len: usize) -> usize
+fn padded_body(s: &[u8], min_packet_len: usize) -> Option<usize>
     requires { (4 ≤ min_packet_len) × (min_packet_len ≤ length s.now) }
-    ensures { result ≡ or_zero (check_padding min_packet_len s.now) }
+    ensures { result ≡ value_in (check_padding min_packet_len s.now) }
 {
     if !parse_padding_bit(s) {
-        return s.len();
+        return Some(s.len());
     }
-    let padding = wide(s[s.len() - 1]);
+    let padding = usize::from(s[s.len() - 1]);
     if padding == 0 {
-        return 0;
+        return None;
     }
     if padding % 4 != 0 {
-        return 0;
+        return None;
     }
     if s.len() - min_packet_len < padding {
-        return 0;
+        return None;
     }
-    s.len() - padding
+    Some(s.len() - padding)
 }
 
-// The length of a packet's body, which is its length less the padding, by the steps common to every kind; 0 where one refuses.
+// The length of a packet's body, which is its length less the padding, by the steps common to every kind; None where one refuses.
 #[tactic(auto, using(crate::proofs::Headers::headers))]
-pub fn body_if(s: &[u8], min_packet_len: usize, wanted: bool) -> usize
+pub fn body_if(s: &[u8], min_packet_len: usize, wanted: bool) -> Option<usize>
     requires { 4 ≤ min_packet_len }
-    ensures { result ≡ or_zero (check_header min_packet_len wanted (0, 0) s.now) }
+    ensures { result ≡ value_in (check_header min_packet_len wanted (0, 0) s.now) }
 {
     if s.len() < min_packet_len {
-        return 0;
+        return None;
     }
     if parse_version(s) != 2 {
-        return 0;
+        return None;
     }
     if !wanted {
-        return 0;
+        return None;
     }
     let length = parse_length(s);
     if s.len() < length {
-        return 0;
+        return None;
     }
     if length < s.len() {
-        return 0;
+        return None;
     }
     padded_body(s, min_packet_len)
 }
 
-// Why body_if is 0; NothingLeft where it is not.
+// Why a packet that these steps refuse is refused.
 #[cold]
 #[tactic(auto, using(crate::proofs::Headers::headers))]
-pub fn why_header_if(
+pub fn why_header_if_unchecked(
     s: &[u8],
     min_packet_len: usize,
     wanted: bool,
     actual: u8,
     requested: u8,
 ) -> RtcpParseError
-    requires { 4 ≤ min_packet_len }
-    ensures { parse_refusal result ≡ refusal_in (check_header min_packet_len wanted (actual, requested) s.now) }
+    requires { (4 ≤ min_packet_len) × (value_in (check_header min_packet_len wanted (actual, requested) s.now) ≡ None) }
+    ensures { refused (parse_refusal result) ≡ check_header min_packet_len wanted (actual, requested) s.now }
 {
     if s.len() < min_packet_len {
         return RtcpParseError::Truncated {
@@ -200,30 +201,28 @@ pub fn why_header_if(
             actual: s.len(),
         };
     }
-    if padded_body(s, min_packet_len) == 0 {
-        return RtcpParseError::InvalidPadding;
-    }
-    RtcpParseError::NothingLeft
+    RtcpParseError::InvalidPadding
 }
 
-// The same of a kind that its type alone names: the length of the body, or 0.
+// The same of a kind that its type alone names: the length of the body, or None.
 #[tactic(auto, using(crate::proofs::Headers::types))]
-pub fn body_of(s: &[u8], min_packet_len: usize, packet_type: u8) -> usize
+pub fn body_of(s: &[u8], min_packet_len: usize, packet_type: u8) -> Option<usize>
     requires { 4 ≤ min_packet_len }
-    ensures { result ≡ or_zero (check_header min_packet_len (eqb (type_in s.now) packet_type) (type_in s.now, packet_type) s.now) }
+    ensures { result ≡ value_in (check_header min_packet_len (eqb (type_in s.now) packet_type) (type_in s.now, packet_type) s.now) }
 {
     let wanted = parse_packet_type(s) == packet_type;
     body_if(s, min_packet_len, wanted)
 }
 
-// Why body_of is 0; NothingLeft where it is not.
+// Why a packet of which body_of finds no body is refused.
 #[cold]
-pub fn why_header(s: &[u8], min_packet_len: usize, packet_type: u8) -> RtcpParseError
-    requires { 4 ≤ min_packet_len }
-    ensures { parse_refusal result ≡ refusal_in (check_header min_packet_len (eqb (type_in s.now) packet_type) (type_in s.now, packet_type) s.now) }
+#[tactic(auto, using(crate::proofs::Headers::types))]
+pub fn why_header_unchecked(s: &[u8], min_packet_len: usize, packet_type: u8) -> RtcpParseError
+    requires { (4 ≤ min_packet_len) × (value_in (check_header min_packet_len (eqb (type_in s.now) packet_type) (type_in s.now, packet_type) s.now) ≡ None) }
+    ensures { refused (parse_refusal result) ≡ check_header min_packet_len (eqb (type_in s.now) packet_type) (type_in s.now, packet_type) s.now }
 {
     let actual = parse_packet_type(s);
-    why_header_if(
+    why_header_if_unchecked(
         s,
         min_packet_len,
         actual == packet_type,
