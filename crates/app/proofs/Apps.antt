@@ -1,17 +1,17 @@
 -- Reading an APP packet, from what a reader has tested, and its parts by place.
+use Rattle.std.specs.Prelude.{None, Some}
 use Rattle.rfc3550.proofs.Prelude.{rules, ◌≡◌, refl, ap, ◌∙◌, sym, List, ℕ, ◌+◌, ◌-◌, ◌<◌, ◌≤◌, arith, length, take, drop, length-drop, drop-drop, length-take-le}
 use Rattle.rfc3550.specs.Answer.{Refusal, ok, refused, map_ok}
 use Rattle.rfc3550.specs.Bytes.{val}
 use Rattle.rfc3550.specs.Packet.{Content, app, Packet}
 use Rattle.rfc3550.specs.Read.{APP, low_in, check_packet, read_content, read_as}
 use Rattle.rfc3550.proofs.Answers.{ok_injective}
-use Rattle.utils.specs.Error.{refusal_in, value_or, or_zero}
+use Rattle.utils.specs.Error.{value_in}
 use Rattle.utils.proofs.Headers.{Accepted}
-use Rattle.utils.proofs.Values.{value_is, none_is}
-use Rattle.utils.proofs.Reading.{content_in, got, none_at_header, why_read, body_accepted, body_content, padding_is}
-use Rattle.utils.proofs.Parts.{drop_take, take_drop_take, lent_again}
+use Rattle.utils.proofs.Reading.{content_in, got, none_viewed_at_header, why_at_header, none_read, body_accepted, body_content, padding_is}
+use Rattle.utils.proofs.Parts.{drop_take, take_drop_take}
 use Rattle.app.specs.declared.App.{App}
-use Rattle.app.specs.App.{app_view, no_app, name_of, data_of}
+use Rattle.app.specs.App.{app_view, name_of, data_of}
 
 -- the content by places in the packet
 abbrev placed : List ℕ → ℕ → Content
@@ -25,46 +25,34 @@ content s b h =
 length_data : (s : List ℕ) (b : ℕ) → b ≤ length s → length (take (b - 12) (drop 12 s)) ≡ b - 12
 length_data s b l = length-take-le (b - 12) (drop 12 s) (rw length-drop (omega arith))
 
--- ---- by the number of the header
+-- ---- by the body of the header
 
-module _ (s : List ℕ) (b : ℕ) (h : b ≡ or_zero (check_packet APP s)) where
-  pub app_none : b ≡ 0 → no_app ≡ value_or no_app app_view (read_as APP s)
-  app_none z = none_at_header APP s b h no_app app_view z
+pub app_none : (s : List ℕ) → None ≡ value_in (check_packet APP s) → None ≡ value_in (map_ok app_view (read_as APP s))
+app_none s z = none_viewed_at_header APP s app_view z
 
-  module _ (y : b ≡ 0 → ⊥) where
-    body : Accepted 12 s b
-    body = body_accepted APP s b h y
+module _ (s : List ℕ) (b : ℕ) (h : Some b ≡ value_in (check_packet APP s)) where
+  body : Accepted 12 s b
+  body = body_accepted APP s b h
 
-    pub app_header : (n : ℕ) → n ≤ 12 → n ≤ length s
-    app_header n l = let a = body in omega arith
+  pub app_header : (n : ℕ) → n ≤ 12 → n ≤ length s
+  app_header n l = let a = body in omega arith
 
-    pub app_enough : 12 ≤ b
-    app_enough = body.enough
+  pub app_within : b ≤ length s
+  app_within = body.within
 
-    pub app_within : b ≤ length s
-    app_within = body.within
-
-    pub app_read : (x n : ℕ) → x ≡ val (take 4 (drop 4 s)) → n ≡ low_in s
-        → record { ssrc = x; subtype = n; body = b; padding_len = length s - b } ≡ value_or no_app app_view (read_as APP s)
-    unfolding map_ok
-    app_read x n p q =
-        let e : 12 + (b - 12) ≡ b = omega (arith, app_enough) in
-        rw (body_content APP s b h y, content s b body.enough, length_data s b body.within, length-drop b s, e, p, q)
+  pub app_read : (x n : ℕ) → x ≡ val (take 4 (drop 4 s)) → n ≡ low_in s
+      → Some (record { ssrc = x; subtype = n; body = b; padding_len = length s - b }) ≡ value_in (map_ok app_view (read_as APP s))
+  unfolding map_ok
+  app_read x n p q =
+      let e : 12 + (b - 12) ≡ b = omega (arith, body.enough) in
+      rw (body_content APP s b h, content s b body.enough, length_data s b body.within, length-drop b s, e, p, q)
 
 -- the content refuses nothing
-pub app_why : (s : List ℕ) (k : Refusal) → k ≡ refusal_in (check_packet APP s) → k ≡ refusal_in (read_as APP s)
-app_why s k q = q ∙ why_read APP s (λ b a. (placed s b, content s b a.enough))
+pub app_header_refuses : (s : List ℕ) → value_in (read_as APP s) ≡ None → value_in (check_packet APP s) ≡ None
+app_header_refuses s z = none_read APP s (λ b a. (placed s b, content s b a.enough)) z
 
--- ---- by what was read
-
-module _ (s : List ℕ) (o : App) (h : o ≡ value_or no_app app_view (read_as APP s)) where
-  pub app_refused : (k : Refusal) → o.body ≡ 0 → k ≡ refusal_in (read_as APP (take (length s - 0) (drop 0 s))) → refused k ≡ map_ok app_view (read_as APP s)
-  app_refused k z q =
-      none_is no_app app_view (λ o. o.body) refl (λ p. omega arith) app_view (read_as APP s) o k h z
-      (q ∙ ap (λ (s : List ℕ). refusal_in (read_as APP s)) (lent_again s))
-
-  pub app_parsed : (o.body ≡ 0 → ⊥) → ok o ≡ map_ok app_view (read_as APP s)
-  app_parsed z = value_is no_app app_view (λ o. o.body) refl (read_as APP s) o h z
+pub app_why : (s : List ℕ) (r : Refusal) → refused r ≡ check_packet APP s → refused r ≡ read_as APP s
+app_why s r e = why_at_header APP s r e
 
 -- ---- the parts of the bytes that were read are the packet's fields
 
@@ -90,4 +78,4 @@ parts s p e =
 pub data_none : (b : ℕ) (s : List ℕ) → b < 12 → take 0 s ≡ take (b - 12) (drop 12 s)
 data_none b s h = let z : b - 12 ≡ 0 = omega arith in rw z
 
-pub ruleset apps = (rules, app_none, app_header, app_enough, app_within, app_read, app_why, app_refused, app_parsed, data_none)
+pub ruleset apps = (rules, app_none, app_header, app_within, app_read, app_header_refuses, app_why, data_none)

@@ -33,7 +33,3 @@ app_view p =
       body = 12 + length (data_of p.content);
       padding_len = length p.padding;
     }
-
--- what stands for a packet that is refused
-abbrev pub no_app : App
-no_app = record { ssrc = 0; subtype = 0; body = 0; padding_len = 0 }

@@ -3,11 +3,11 @@
 
 pub mod write;
 
-ghost use Rattle.std.specs.Prelude.{◌≡◌, ◌-◌, take, drop};
-ghost use Rattle.rfc3550.specs.Answer.{map_ok};
+ghost use Rattle.std.specs.Prelude.{◌≡◌, None, ◌-◌, take, drop};
+ghost use Rattle.rfc3550.specs.Answer.{refused, map_ok};
 ghost use Rattle.rfc3550.specs.Read.{APP, read_as};
-ghost use Rattle.utils.specs.Error.{parse_refusal, refusal_in, value_or, parsed_of};
-ghost use Rattle.app.specs.App.{app_view, no_app};
+ghost use Rattle.utils.specs.Error.{parse_refusal, value_in, parsed_of};
+ghost use Rattle.app.specs.App.{app_view};
 
 use utils::error::RtcpParseError;
 
@@ -29,44 +29,39 @@ impl App {
 
     pub const NAME_LEN: usize = 4;
 
-    // All 0, where the packet is refused.
-    pub fn read(s: &[u8]) -> App
-        ensures { result ≡ value_or no_app app_view (read_as APP s.now) }
+    // None where the packet is refused.
+    #[tactic(auto, using(crate::proofs::Apps::apps))]
+    pub fn read(s: &[u8]) -> Option<App>
+        ensures { result ≡ value_in (map_ok app_view (read_as APP s.now)) }
     {
-        let body = utils::parser::body_of(s, App::MIN_PACKET_LEN, App::PACKET_TYPE);
-        if body == 0 {
-            return App {
-                ssrc: 0,
-                subtype: 0,
-                body: 0,
-                padding_len: 0,
-            };
-        }
-        App {
+        let body = utils::parser::body_of(s, App::MIN_PACKET_LEN, App::PACKET_TYPE)?;
+        Some(App {
             ssrc: utils::parser::parse_ssrc(s),
             subtype: utils::parser::parse_count(s),
             body,
             padding_len: s.len() - body,
-        }
+        })
     }
 
-    // Why it is refused; NothingLeft where it is not.
+    // Why a packet that is refused is.
     #[cold]
-    pub fn why(s: &[u8]) -> RtcpParseError
-        ensures { parse_refusal result ≡ refusal_in (read_as APP s.now) }
+    #[tactic(auto, using(crate::proofs::Apps::apps))]
+    pub fn why_unchecked(s: &[u8]) -> RtcpParseError
+        requires { value_in (read_as APP s.now) ≡ None }
+        ensures { refused (parse_refusal result) ≡ read_as APP s.now }
     {
-        utils::parser::why_header(s, App::MIN_PACKET_LEN, App::PACKET_TYPE)
+        utils::parser::why_header_unchecked(s, App::MIN_PACKET_LEN, App::PACKET_TYPE)
     }
 
     // In each kind by hand, like padding_bytes: a trait with both would ask nine items of a kind (five ghost members, two laws, body, padding_len), which are longer.
+    #[tactic(auto, using(utils::proofs::Values::values))]
     pub fn parse(s: &[u8]) -> Result<App, RtcpParseError>
         ensures { parsed_of result ≡ map_ok app_view (read_as APP s.now) }
     {
-        let app = App::read(s);
-        if app.body == 0 {
-            return Err(App::why(&s[0..]));
+        match App::read(s) {
+            Some(app) => Ok(app),
+            None => Err(App::why_unchecked(s)),
         }
-        Ok(app)
     }
 
     pub fn name(self, s: &[u8]) -> &[u8]

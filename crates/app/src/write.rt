@@ -45,30 +45,32 @@ impl<'a> RtcpPacketWriter for AppBuilder<'a> {
         false
     }
 
+    #[tactic(auto, using(crate::proofs::Writes::writes))]
     #[inline(always)]
-    fn size_of(self) -> usize {
+    fn size_of(self) -> Option<usize> {
         if (writer::MAX_COUNT as u64) < self.subtype {
-            return 0;
+            return None;
         }
         if !check_name(self.name) {
-            return 0;
+            return None;
         }
         let len = self.data.len();
         if len % 4 != 0 {
-            return 0;
+            return None;
         }
         if !writer::check_padding(self.padding) {
-            return 0;
+            return None;
         }
         let size = App::MIN_PACKET_LEN + len + self.padding as usize;
         if writer::MAX_PACKET_LEN < size {
-            return 0;
+            return None;
         }
-        size
+        Some(size)
     }
 
+    #[tactic(auto, using(crate::proofs::Writes::writes))]
     #[inline(always)]
-    fn why_size(self) -> RtcpWriteError {
+    fn why_size_unchecked(self) -> RtcpWriteError {
         if (writer::MAX_COUNT as u64) < self.subtype {
             return RtcpWriteError::AppSubtypeOutOfRange {
                 subtype: self.subtype,
