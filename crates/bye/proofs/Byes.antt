@@ -1,4 +1,5 @@
 -- Reading a BYE packet, from what a reader has tested, its sources, and its parts by place.
+use Rattle.std.specs.Prelude.{None, Some}
 use Rattle.rfc3550.proofs.Prelude.{rules, ◌≡◌, refl, ap, ◌∙◌, sym, subst, true, false, List, [], ◌∷◌, ⊎_elim, ℕ, ◌+◌, ◌-◌, ◌*◌, ◌<◌, ◌≤◌, ◌^◌, mod-lt, add-zero, add-one, arith, le-leb, lt-leb, length, get_or, take, drop, replicate, length-drop, length-replicate, drop-drop, length-take-le, take_all, slice_empty, slice-cons}
 use Rattle.rfc3550.specs.Answer.{Refusal, refusal, Answer, ok, refused, refuse, need, ◌>>◌, ◌>>=◌, map_ok}
 use Rattle.rfc3550.specs.Bytes.{val, get}
@@ -6,14 +7,13 @@ use Rattle.rfc3550.specs.Packet.{Leaving, no_reason, reason, bye, Content, Packe
 use Rattle.rfc3550.specs.Read.{BYE, low_in, check_packet, read_leaving, read_content, read_as, read_source_at}
 use Rattle.rfc3550.proofs.Answers.{refused≢ok, map_ok_inv}
 use Rattle.rfc3550.proofs.Bytes.{length_get, sum_replicate}
-use Rattle.utils.specs.Error.{refusal_in, value_or, or_zero}
+use Rattle.utils.specs.Error.{value_in}
 use Rattle.utils.proofs.Headers.{Accepted}
-use Rattle.utils.proofs.Values.{value_is, none_is}
 use Rattle.utils.proofs.Errors.{parse_handed}
-use Rattle.utils.proofs.Reading.{packet_of, content_in, got, got_is, none_at_header, why_at_header, body_accepted, body_content, map_ok_refused}
+use Rattle.utils.proofs.Reading.{packet_of, content_in, got, got_is, none_viewed_at_header, why_at_header, body_accepted, body_content, map_ok_refused}
 use Rattle.utils.proofs.Parts.{drop_take, take_drop_take, length_drop_take, get_take, nth_past, nth_get, split}
 use Rattle.bye.specs.declared.Bye.{Bye}
-use Rattle.bye.specs.Bye.{leaving, reason_bytes, tail_bytes, bye_view, no_bye}
+use Rattle.bye.specs.Bye.{leaving, reason_bytes, tail_bytes, bye_view}
 
 -- ---- the content by places in the packet
 
@@ -101,21 +101,30 @@ view_there_lem s b l q =
       m,
     )
 
-answer_none : (m : Answer Packet) (k : Refusal) → m ≡ refused k → (no_bye ≡ value_or no_bye bye_view m) × (k ≡ refusal_in m)
-answer_none m k e = (sym (ap (value_or no_bye bye_view) e), sym (ap refusal_in e))
+pub none_header : (s : List ℕ) → None ≡ value_in (check_packet BYE s) → None ≡ value_in (map_ok bye_view (read_as BYE s))
+none_header s z = none_viewed_at_header BYE s bye_view z
 
-answer_read : (m : Answer Packet) (p : Packet) (b : Bye) → m ≡ ok p → bye_view p ≡ b → (b ≡ value_or no_bye bye_view m) × (refusal 25 0 0 ≡ refusal_in m)
-answer_read m p b e v = (sym (ap (value_or no_bye bye_view) e ∙ v), sym (ap refusal_in e))
+pub why_header : (s : List ℕ) (r : Refusal) → refused r ≡ check_packet BYE s → refused r ≡ read_as BYE s
+why_header s r e = why_at_header BYE s r e
 
-pub none_header : (s : List ℕ) (b : ℕ) (r : Bye) → b ≡ or_zero (check_packet BYE s) → b ≡ 0 → r ≡ no_bye → r ≡ value_or no_bye bye_view (read_as BYE s)
-none_header s b r h z q = q ∙ none_at_header BYE s b h no_bye bye_view z
+answer_none : (m : Answer Packet) (r : Refusal) → m ≡ refused r → None ≡ value_in (map_ok bye_view m)
+unfolding map_ok
+answer_none m r e = rw e
 
-pub why_header : (s : List ℕ) (b : ℕ) (r : Refusal) → b ≡ or_zero (check_packet BYE s) → b ≡ 0 → r ≡ refusal_in (check_packet BYE s) → r ≡ refusal_in (read_as BYE s)
-why_header s b r h z q = why_at_header BYE s b h r z q
+answer_read : (m : Answer Packet) (p : Packet) (b : Bye) → m ≡ ok p → bye_view p ≡ b → Some b ≡ value_in (map_ok bye_view m)
+unfolding map_ok
+answer_read m p b e v = rw (e, v)
 
-module _ (s : List ℕ) (b : ℕ) (h : b ≡ or_zero (check_packet BYE s)) (y : b ≡ 0 → ⊥) where
+answer_some : (m : Answer Packet) (p : Packet) → m ≡ ok p → value_in m ≡ None → ⊥
+answer_some m p e z = let x : value_in m ≡ Some p = ap value_in e in let y = sym x ∙ z in cc
+
+-- no body, and so the header refuses
+pub header_refuses : (s : List ℕ) → None ≡ value_in (check_packet BYE s) → value_in (check_packet BYE s) ≡ None
+header_refuses s z = sym z
+
+module _ (s : List ℕ) (b : ℕ) (h : Some b ≡ value_in (check_packet BYE s)) where
   body : Accepted 4 s b
-  body = body_accepted BYE s b h y
+  body = body_accepted BYE s b h
 
   pub bye_header : (n : ℕ) → n ≤ 4 → n ≤ length s
   bye_header n l = let a = body in omega arith
@@ -125,36 +134,38 @@ module _ (s : List ℕ) (b : ℕ) (h : b ≡ or_zero (check_packet BYE s)) (y : 
 
   content_refused : (k : Refusal) → content_in BYE s b ≡ refused k → read_as BYE s ≡ refused k
   unfolding map_ok
-  content_refused k e = body_content BYE s b h y ∙ rw e
+  content_refused k e = body_content BYE s b h ∙ rw e
 
   content_read : (c : Content) → content_in BYE s b ≡ ok c → read_as BYE s ≡ ok (packet_of s b c)
   unfolding map_ok
-  content_read c e = body_content BYE s b h y ∙ rw e
+  content_read c e = body_content BYE s b h ∙ rw e
 
   module _ (n : ℕ) (c : n ≡ low_in s) where
     cut : b < 4 + 4 * n → read_as BYE s ≡ refuse 2 (4 + 4 * n) b
     cut q = content_refused _ (rw c (short s b body.enough body.within (omega arith)))
 
-    pub none_cut : (r : Bye) → r ≡ no_bye → b < 4 + 4 * n → r ≡ value_or no_bye bye_view (read_as BYE s)
-    none_cut r e q = e ∙ (answer_none (read_as BYE s) _ (cut q)).0
+    pub none_cut : b < 4 + 4 * n → None ≡ value_in (map_ok bye_view (read_as BYE s))
+    none_cut q = answer_none (read_as BYE s) _ (cut q)
 
-    pub why_cut : b < 4 + 4 * n → refusal 2 (4 + 4 * n) b ≡ refusal_in (read_as BYE s)
-    why_cut q = (answer_none (read_as BYE s) _ (cut q)).1
+    pub why_cut : b < 4 + 4 * n → refused (refusal 2 (4 + 4 * n) b) ≡ read_as BYE s
+    why_cut q = sym (cut q)
 
-    bare : b ≡ 4 + 4 * n → (view_none s b ≡ value_or no_bye bye_view (read_as BYE s)) × (refusal 25 0 0 ≡ refusal_in (read_as BYE s))
-    bare q =
-        let f : b ≡ end s = omega arith in
-        answer_read (read_as BYE s) _ _ (content_read _ (none s b body.enough body.within f)) (view_none_lem s b f)
+    bare : b ≡ 4 + 4 * n → read_as BYE s ≡ ok (packet_of s b (bye (sources s) no_reason))
+    bare q = content_read _ (none s b body.enough body.within (omega arith))
 
-    pub reason_none : b ≡ 4 + 4 * n → record { n_sources = n; has_reason = false; reason = 4 + 4 * n; reason_len = 0; body = b; padding_len = length s - b } ≡ value_or no_bye bye_view (read_as BYE s)
-    reason_none q = rw c (bare q).0
-
-    pub why_bare : b ≡ 4 + 4 * n → refusal 25 0 0 ≡ refusal_in (read_as BYE s)
-    why_bare q = (bare q).1
+    pub reason_none : b ≡ 4 + 4 * n → Some (record { n_sources = n; has_reason = false; reason = 4 + 4 * n; reason_len = 0; body = b; padding_len = length s - b }) ≡ value_in (map_ok bye_view (read_as BYE s))
+    reason_none q = rw c (answer_read (read_as BYE s) _ _ (bare q) (view_none_lem s b (omega arith)))
 
     -- the place of the reason's length
     pub length_there : 4 + 4 * n ≤ b → (b ≡ 4 + 4 * n → ⊥) → 4 + 4 * n < length s
     length_there q m = let a = body in omega arith
+
+    -- of a packet that is refused, the body does not end with the sources
+    refused_past : value_in (read_as BYE s) ≡ None → b ≡ 4 + 4 * n → ⊥
+    refused_past z q = answer_some _ _ (bare q) z
+
+    pub length_refused : value_in (read_as BYE s) ≡ None → 4 + 4 * n ≤ b → 4 + 4 * n < length s
+    length_refused z q = length_there q (refused_past z)
 
     module _ (x : ℕ) (q : 4 + 4 * n ≤ b) (m : b ≡ 4 + 4 * n → ⊥) (f : x ≡ get_or s (4 + 4 * n) 0) where
       len_is : x ≡ len s
@@ -163,24 +174,25 @@ module _ (s : List ℕ) (b : ℕ) (h : b ≡ or_zero (check_packet BYE s)) (y : 
       over : b < 4 + 4 * n + 1 + x → read_as BYE s ≡ refuse 2 (4 + 4 * n + 1 + x) b
       over z = let w = len_is in content_refused _ (rw (w, c) (past s b body.enough body.within (omega arith) (omega arith)))
 
-      pub none_over : (r : Bye) → r ≡ no_bye → b < 4 + 4 * n + 1 + x → r ≡ value_or no_bye bye_view (read_as BYE s)
-      none_over r e z = e ∙ (answer_none (read_as BYE s) _ (over z)).0
+      pub none_over : b < 4 + 4 * n + 1 + x → None ≡ value_in (map_ok bye_view (read_as BYE s))
+      none_over z = answer_none (read_as BYE s) _ (over z)
 
-      pub why_over : b < 4 + 4 * n + 1 + x → refusal 2 (4 + 4 * n + 1 + x) b ≡ refusal_in (read_as BYE s)
-      why_over z = (answer_none (read_as BYE s) _ (over z)).1
-
-      said : 4 + 4 * n + 1 + x ≤ b → (view_there s b ≡ value_or no_bye bye_view (read_as BYE s)) × (refusal 25 0 0 ≡ refusal_in (read_as BYE s))
-      said z =
-          let w = len_is in
-          let r : end s + 1 + len s ≤ b = omega arith in
-          answer_read (read_as BYE s) _ _ (content_read _ (there s b body.enough body.within (omega arith) r)) (view_there_lem s b body.within r)
+      said : 4 + 4 * n + 1 + x ≤ b → read_as BYE s ≡ ok (packet_of s b (bye (sources s) (left s b)))
+      said z = let w = len_is in content_read _ (there s b body.enough body.within (omega arith) (omega arith))
 
       pub reason_there : 4 + 4 * n + 1 + x ≤ b
-          → record { n_sources = n; has_reason = true; reason = 4 + 4 * n + 1; reason_len = x; body = b; padding_len = length s - b } ≡ value_or no_bye bye_view (read_as BYE s)
-      reason_there z = let w = len_is in rw (w, c) (said z).0
+          → Some (record { n_sources = n; has_reason = true; reason = 4 + 4 * n + 1; reason_len = x; body = b; padding_len = length s - b }) ≡ value_in (map_ok bye_view (read_as BYE s))
+      reason_there z =
+          let w = len_is in
+          rw (w, c) (answer_read (read_as BYE s) _ _ (said z) (view_there_lem s b body.within (omega arith)))
 
-      pub why_said : 4 + 4 * n + 1 + x ≤ b → refusal 25 0 0 ≡ refusal_in (read_as BYE s)
-      why_said z = (said z).1
+    -- and what is left is a reason past it
+    pub why_over : value_in (read_as BYE s) ≡ None → 4 + 4 * n ≤ b → (x : ℕ) → x ≡ get_or s (4 + 4 * n) 0 → refused (refusal 2 (4 + 4 * n + 1 + x) b) ≡ read_as BYE s
+    why_over z q x f =
+        ⊎_elim
+        (λ l. sym (over x q (refused_past z) f l))
+        (λ l. absurd (answer_some _ _ (said x q (refused_past z) f l) z))
+        (split b (4 + 4 * n + 1 + x))
 
 -- ---- what an accepted packet tells
 
@@ -264,13 +276,6 @@ facts s p e =
 -- ---- by what was read
 
 module _ (s : List ℕ) (o : Bye) where
-  module _ (h : o ≡ value_or no_bye bye_view (read_as BYE s)) where
-    pub bye_refused : (k : Refusal) → o.body ≡ 0 → k ≡ refusal_in (read_as BYE s) → refused k ≡ map_ok bye_view (read_as BYE s)
-    bye_refused k = none_is no_bye bye_view (λ o. o.body) refl (λ p. omega arith) bye_view (read_as BYE s) o k h
-
-    pub bye_parsed : (o.body ≡ 0 → ⊥) → ok o ≡ map_ok bye_view (read_as BYE s)
-    bye_parsed = value_is no_bye bye_view (λ o. o.body) refl (read_as BYE s) o h
-
   module _ (h : ok o ≡ map_ok bye_view (read_as BYE s)) where
     bye_facts : (p : Packet) × ByeFacts s p o
     bye_facts = let m = map_ok_inv bye_view (read_as BYE s) (sym h) in (m.0, subst (ByeFacts s m.0) m.2 (facts s m.0 m.1))
@@ -312,4 +317,6 @@ module _ (b r n : ℕ) (s : List ℕ) where
   pub tail_is : (l : List ℕ) → n ≤ b - r → l ≡ take (b - r - n) (drop (r + n) s) → l ≡ take (b - (r + n)) (drop (r + n) s)
   tail_is l h e = let z : b - r - n ≡ b - (r + n) = omega arith in e ∙ rw z
 
-pub ruleset byes = (rules, none_header, why_header, bye_header, bye_body, none_cut, why_cut, reason_none, why_bare, length_there, none_over, why_over, reason_there, why_said, bye_refused, bye_parsed, parse_handed, source_handed, source_none, source_there, source_scaled, source_fits, source_within, tail_before, tail_within, tail_is)
+pub ruleset readings = (rules, none_header, why_header, header_refuses, bye_header, bye_body, none_cut, why_cut, reason_none, length_there, length_refused, none_over, reason_there, why_over)
+
+pub ruleset byes = (rules, parse_handed, source_handed, source_none, source_there, tail_before, tail_within, tail_is)

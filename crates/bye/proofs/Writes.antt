@@ -1,4 +1,5 @@
 -- The cases of a BYE's size and bytes, each from what the code has tested or called.
+use Rattle.std.specs.Prelude.{None, Some}
 use Rattle.rfc3550.proofs.Prelude.{ℕ, suc, ◌+◌, ◌-◌, ◌*◌, ◌/◌, ◌%◌, ◌<◌, ◌≤◌, ◌≡◌, refl, sym, ap, ◌∙◌, Bool, true, false, List, [], ◌∷◌, ◌++◌, add-zero, add-one, arith, le-leb, lt-leb, leb-true, not-true, not-false, length, take, drop, set, get_or, replicate, length-append, length-drop, length-replicate, drop_of_length-le, drop-cons}
 use Rattle.rfc3550.specs.Answer.{refusal, ok, refused, need, ◌>>◌}
 use Rattle.rfc3550.specs.Bytes.{be, put, store}
@@ -6,12 +7,12 @@ use Rattle.rfc3550.specs.Packet.{bye, content_bytes, layout, leaving_bytes}
 use Rattle.rfc3550.specs.Write.{Given, give_bye, leaving_of, packet_given, padding_bytes, padding_ok, own_tests, calculate_size}
 use Rattle.rfc3550.proofs.Answers.{need_inv, need_ok}
 use Rattle.rfc3550.proofs.Bytes.{length_be, length_store}
-use Rattle.utils.specs.Error.{or_zero}
-use Rattle.utils.specs.Writer.{size_refusal, header}
+use Rattle.utils.specs.Error.{value_in}
+use Rattle.utils.specs.Writer.{header}
+use Rattle.utils.proofs.Values.{none_found}
 use Rattle.utils.proofs.WriterStores.{store_nil, store_store, store_puts}
 use Rattle.utils.proofs.WriterCases.{writer}
-use Rattle.utils.proofs.Sizes.{none_of, why_of, why_last}
-use Rattle.utils.proofs.WriterPackets.{padding_most, sized, size_ok, size_refused, parts_laid, header_long, packet_laid}
+use Rattle.utils.proofs.WriterPackets.{padding_most, sized, size_ok, why_last, size_refused, parts_laid, header_long, packet_laid}
 use Rattle.bye.specs.Write.{sources_bytes, ByeFits}
 
 -- ---- sources
@@ -92,8 +93,8 @@ module _ (ss r : List ℕ) (k : ℕ) where
   unfolding own_tests need ◌>>◌
   too_many h = size_refused given (simp (lt-leb _ _ h))
 
-  pub none_sources : 31 < length ss → 0 ≡ or_zero (calculate_size given)
-  none_sources h = none_of _ (too_many h)
+  pub none_sources : 31 < length ss → None ≡ value_in (calculate_size given)
+  none_sources h = none_found _ _ (too_many h)
 
   content_length : length (content_bytes (bye ss (leaving_of r))) ≡ length ss * 4 + length (leaving_bytes (leaving_of r))
   unfolding content_bytes sources_bytes
@@ -104,29 +105,29 @@ module _ (ss r : List ℕ) (k : ℕ) where
     unfolding own_tests need ◌>>◌
     bad_padding_lem q = size_refused given (simp (le-leb _ _ h, ← e, q))
 
-    pub none_padding : t ≡ false → 0 ≡ or_zero (calculate_size given)
-    none_padding q = none_of _ (bad_padding_lem q)
+    pub none_padding : t ≡ false → None ≡ value_in (calculate_size given)
+    none_padding q = none_found _ _ (bad_padding_lem q)
 
     module _ (q : t ≡ true) where
       pub too_long : 255 < length r → refused (refusal 16 (length r) 255) ≡ calculate_size given
       unfolding own_tests need ◌>>◌
       too_long f = size_refused given (simp (le-leb _ _ h, ← e, q, lt-leb _ _ f))
 
-      pub none_reason : 255 < length r → 0 ≡ or_zero (calculate_size given)
-      none_reason f = none_of _ (too_long f)
+      pub none_reason : 255 < length r → None ≡ value_in (calculate_size given)
+      none_reason f = none_found _ _ (too_long f)
 
       module _ (f : length r ≤ 255) where
         own_passed : own_tests given ≡ ok tt
         unfolding own_tests need ◌>>◌
         own_passed = simp (le-leb _ _ h, ← e, q, le-leb _ _ f)
 
-        pub why_none : refusal 22 0 0 ≡ size_refusal (calculate_size given)
-        why_none = why_last given own_passed
+        pub why_none : value_in (calculate_size given) ≡ None → refused (refusal 22 0 0) ≡ calculate_size given
+        why_none z = why_last given own_passed z
 
-        pub bye_size : (m : ℕ) → m ≡ length (leaving_bytes (leaving_of r)) → 4 + length ss * 4 + m + k ≡ or_zero (calculate_size given)
+        pub bye_size : (m : ℕ) → m ≡ length (leaving_bytes (leaving_of r)) → Some (4 + length ss * 4 + m + k) ≡ value_in (calculate_size given)
         bye_size m g =
             let p : k ≤ 252 = padding_most t k e q in
-            ap or_zero (size_ok given (4 + length ss * 4 + m + k) own_passed (omega (arith, content_length)) (omega (arith, reason_le r f)))
+            ap value_in (size_ok given (4 + length ss * 4 + m + k) own_passed (omega (arith, content_length)) (omega (arith, reason_le r f)))
 
   pub bye_fits : (n room : ℕ) → calculate_size given ≡ ok n → n ≤ room → ByeFits ss r k n room
   unfolding own_tests
@@ -157,4 +158,4 @@ module _ (ss r : List ℕ) (k : ℕ) where
       let p = parts_laid 4 (4 + length ss * 4) (sources_bytes ss) (leaving_bytes (leaving_of r)) l₁ l₂ l₃ e₂ e₃ (omega arith) (omega arith) in
       packet_laid (bye ss (leaving_of r)) k size (size - k) l l₁ l₃ l₄ (omega arith) m (omega arith) e₁ p e₄
 
-pub ruleset writes = (writer, not-true, not-false, why_of, too_many, bad_padding_lem, too_long, sources_start, sources_again, sources_done, reason_none, reason_long, reason_not_laid, reason_laid, none_sources, none_padding, none_reason, why_none, bye_size, bye_laid)
+pub ruleset writes = (writer, not-true, not-false, too_many, bad_padding_lem, too_long, sources_start, sources_again, sources_done, reason_none, reason_long, reason_not_laid, reason_laid, none_sources, none_padding, none_reason, why_none, bye_size, bye_laid)

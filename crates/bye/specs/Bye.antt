@@ -43,7 +43,3 @@ bye_view p =
       body = reason_at p.content + length (reason_bytes (leaving p.content)) + length (tail_bytes (leaving p.content));
       padding_len = length p.padding;
     }
-
--- what stands for a packet that is refused
-abbrev pub no_bye : Bye
-no_bye = record { n_sources = 0; has_reason = false; reason = 0; reason_len = 0; body = 0; padding_len = 0 }

@@ -3,16 +3,16 @@
 
 pub mod write;
 
-ghost use Rattle.std.specs.Prelude.{◌≡◌, ◌+◌, ◌-◌, take, drop};
-ghost use Rattle.rfc3550.specs.Answer.{map_ok};
+ghost use Rattle.std.specs.Prelude.{◌≡◌, None, ◌+◌, ◌-◌, take, drop};
+ghost use Rattle.rfc3550.specs.Answer.{refused, map_ok};
 ghost use Rattle.rfc3550.specs.Read.{BYE, read_as, read_source_at};
-ghost use Rattle.utils.specs.Error.{parse_refusal, refusal_in, value_or, parsed_of};
-ghost use Rattle.bye.specs.Bye.{bye_view, no_bye};
+ghost use Rattle.utils.specs.Error.{parse_refusal, value_in, parsed_of};
+ghost use Rattle.bye.specs.Bye.{bye_view};
 
 use utils::error::RtcpParseError;
 
 // reason is the place of the reason's first byte or, where there is none, the end of the sources; the tail lies between the reason's end
-// and body, where the padding starts.
+// and body, where the padding starts. has_reason stands beside them, and they are no Option: where there is no reason, the tail starts at the place all the same.
 #[derive(Clone, Copy)]
 pub struct Bye {
     pub n_sources: usize,
@@ -28,67 +28,53 @@ impl Bye {
 
     pub const PACKET_TYPE: u8 = 203;
 
-    // All 0, where the packet is refused.
-    pub fn read(s: &[u8]) -> Bye
-        ensures { result ≡ value_or no_bye bye_view (read_as BYE s.now) }
+    // None where the packet is refused.
+    #[tactic(auto, using(crate::proofs::Byes::readings))]
+    pub fn read(s: &[u8]) -> Option<Bye>
+        ensures { result ≡ value_in (map_ok bye_view (read_as BYE s.now)) }
     {
-        let body = utils::parser::body_of(s, Bye::MIN_PACKET_LEN, Bye::PACKET_TYPE);
-        if body == 0 {
-            return Bye::none();
-        }
+        let body = utils::parser::body_of(s, Bye::MIN_PACKET_LEN, Bye::PACKET_TYPE)?;
         let n_sources = utils::parser::parse_count(s) as usize;
         let end = Bye::MIN_PACKET_LEN + 4 * n_sources;
         if body < end {
-            return Bye::none();
+            return None;
         }
         let padding_len = s.len() - body;
         if body == end {
-            return Bye {
+            return Some(Bye {
                 n_sources,
                 has_reason: false,
                 reason: end,
                 reason_len: 0,
                 body,
                 padding_len,
-            };
+            });
         }
-        let reason_len = utils::parser::wide(s[end]);
+        let reason_len = usize::from(s[end]);
         let reason = end + 1;
         if body < reason + reason_len {
-            return Bye::none();
+            return None;
         }
-        Bye {
+        Some(Bye {
             n_sources,
             has_reason: true,
             reason,
             reason_len,
             body,
             padding_len,
-        }
+        })
     }
 
-    fn none() -> Bye
-        ensures { result ≡ no_bye }
-    {
-        Bye {
-            n_sources: 0,
-            has_reason: false,
-            reason: 0,
-            reason_len: 0,
-            body: 0,
-            padding_len: 0,
-        }
-    }
-
-    // Why it is refused; NothingLeft where it is not.
+    // Why a packet that is refused is.
     #[cold]
-    pub fn why(s: &[u8]) -> RtcpParseError
-        ensures { parse_refusal result ≡ refusal_in (read_as BYE s.now) }
+    #[tactic(auto, using(crate::proofs::Byes::readings))]
+    pub fn why_unchecked(s: &[u8]) -> RtcpParseError
+        requires { value_in (read_as BYE s.now) ≡ None }
+        ensures { refused (parse_refusal result) ≡ read_as BYE s.now }
     {
-        let actual = utils::parser::body_of(s, Bye::MIN_PACKET_LEN, Bye::PACKET_TYPE);
-        if actual == 0 {
-            return utils::parser::why_header(s, Bye::MIN_PACKET_LEN, Bye::PACKET_TYPE);
-        }
+        let Some(actual) = utils::parser::body_of(s, Bye::MIN_PACKET_LEN, Bye::PACKET_TYPE) else {
+            return utils::parser::why_header_unchecked(s, Bye::MIN_PACKET_LEN, Bye::PACKET_TYPE);
+        };
         let n_sources = utils::parser::parse_count(s) as usize;
         let end = Bye::MIN_PACKET_LEN + 4 * n_sources;
         if actual < end {
@@ -97,29 +83,23 @@ impl Bye {
                 actual,
             };
         }
-        if actual == end {
-            return RtcpParseError::NothingLeft;
-        }
-        let reason_len = utils::parser::wide(s[end]);
-        let expected = end + 1 + reason_len;
-        if actual < expected {
-            return RtcpParseError::Truncated { expected, actual };
-        }
-        RtcpParseError::NothingLeft
+        let expected = end + 1 + usize::from(s[end]);
+        RtcpParseError::Truncated { expected, actual }
     }
 
-    // In each kind by hand, like padding_bytes: a trait with both would ask nine items of a kind (five ghost members, two laws, body, padding_len), which are longer.
+    // By hand in each kind: the line beside `parse` in app says why.
+    #[tactic(auto, using(utils::proofs::Values::values))]
     pub fn parse(s: &[u8]) -> Result<Bye, RtcpParseError>
         ensures { parsed_of result ≡ map_ok bye_view (read_as BYE s.now) }
     {
-        let bye = Bye::read(s);
-        if bye.body == 0 {
-            return Err(Bye::why(s));
+        match Bye::read(s) {
+            Some(bye) => Ok(bye),
+            None => Err(Bye::why_unchecked(s)),
         }
-        Ok(bye)
     }
 
     // The source with an index, from 0.
+    #[tactic(auto, using(crate::proofs::Byes::byes))]
     pub fn source(s: &[u8], i: usize) -> Result<u32, RtcpParseError>
         ensures { parsed_of result ≡ read_source_at s.now i }
     {

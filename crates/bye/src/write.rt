@@ -1,4 +1,6 @@
 // BYE packets, written (bye.rs, `ByeBuilder`).
+#![tactic(auto, using(crate::proofs::Writes::writes))]
+
 ghost use Rattle.std.specs.Prelude.{◌≡◌, ◌+◌, ◌*◌, ◌≤◌, length};
 ghost use Rattle.rfc3550.specs.Bytes.{store};
 ghost use Rattle.rfc3550.specs.Packet.{layout, leaving_bytes};
@@ -70,22 +72,23 @@ impl<'a> RtcpPacketWriter for ByeBuilder<'a> {
     }
 
     #[inline(always)]
-    fn size_of(self) -> usize {
+    fn size_of(self) -> Option<usize> {
         let count = self.sources.len();
         if writer::MAX_COUNT < count {
-            return 0;
+            return None;
         }
         if !writer::check_padding(self.padding) {
-            return 0;
+            return None;
         }
         if MAX_REASON_LEN < self.reason.len() {
-            return 0;
+            return None;
         }
-        Bye::MIN_PACKET_LEN + count * 4 + reason_size(self.reason) + self.padding as usize
+        let size = Bye::MIN_PACKET_LEN + count * 4 + reason_size(self.reason);
+        Some(size + self.padding as usize)
     }
 
     #[inline(always)]
-    fn why_size(self) -> RtcpWriteError {
+    fn why_size_unchecked(self) -> RtcpWriteError {
         let count = self.sources.len();
         if writer::MAX_COUNT < count {
             return RtcpWriteError::TooManySources {

@@ -1,9 +1,6 @@
 use Rattle.rfc3550.proofs.Prelude.{length-set, arith}
-use Rattle.bye.proofs.Writes.{writes, reason_some}
+use Rattle.bye.proofs.Writes.{reason_some}
 use Rattle.bye.proofs.write.write_reason.Goals as goal
-
-pub returns-then-len-eq0 : goal.returns-then-len-eq0
-returns-then-len-eq0 c = search writes
 
 pub bounds-buf-at : goal.bounds-buf-at
 bounds-buf-at c = let m = reason_some c.args.reason.now c.if-len-eq0.false in omega arith
@@ -15,6 +12,3 @@ pub write_zeros_unchecked-requires : goal.write_zeros_unchecked-requires
 write_zeros_unchecked-requires c = let m = reason_some c.args.reason.now c.if-len-eq0.false in
     let k = simp length-set at c.write_bytes_unchecked.auto.buf in
     omega arith
-
-pub returns : goal.returns
-returns c = search writes
