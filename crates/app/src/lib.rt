@@ -3,13 +3,12 @@
 
 pub mod write;
 
-ghost use Rattle.std.specs.Prelude.{◌≡◌, None, ◌-◌, take, drop};
-ghost use Rattle.rfc3550.specs.Answer.{refused, map_ok};
-ghost use Rattle.rfc3550.specs.Read.{APP, read_as};
-ghost use Rattle.utils.specs.Error.{parse_refusal, value_in, parsed_of};
+ghost use Rattle.std.specs.Prelude.{◌≡◌, ◌-◌, take, drop};
+ghost use Rattle.rfc3550.specs.Read.{APP};
 ghost use Rattle.app.specs.App.{app_view};
 
 use utils::error::RtcpParseError;
+use utils::packet_parser::RtcpPacketParser;
 
 // The data follow the name; body is their end, where the padding starts.
 #[derive(Clone, Copy)]
@@ -29,41 +28,6 @@ impl App {
 
     pub const NAME_LEN: usize = 4;
 
-    // None where the packet is refused.
-    #[tactic(auto, using(crate::proofs::Apps::apps))]
-    pub fn read(s: &[u8]) -> Option<App>
-        ensures { result ≡ value_in (map_ok app_view (read_as APP s.now)) }
-    {
-        let body = utils::parser::body_of(s, App::MIN_PACKET_LEN, App::PACKET_TYPE)?;
-        Some(App {
-            ssrc: utils::parser::parse_ssrc(s),
-            subtype: utils::parser::parse_count(s),
-            body,
-            padding_len: s.len() - body,
-        })
-    }
-
-    // Why a packet that is refused is.
-    #[cold]
-    #[tactic(auto, using(crate::proofs::Apps::apps))]
-    pub fn why_unchecked(s: &[u8]) -> RtcpParseError
-        requires { value_in (read_as APP s.now) ≡ None }
-        ensures { refused (parse_refusal result) ≡ read_as APP s.now }
-    {
-        utils::parser::why_header_unchecked(s, App::MIN_PACKET_LEN, App::PACKET_TYPE)
-    }
-
-    // In each kind by hand, like padding_bytes: a trait with both would ask nine items of a kind (five ghost members, two laws, body, padding_len), which are longer.
-    #[tactic(auto, using(utils::proofs::Values::values))]
-    pub fn parse(s: &[u8]) -> Result<App, RtcpParseError>
-        ensures { parsed_of result ≡ map_ok app_view (read_as APP s.now) }
-    {
-        match App::read(s) {
-            Some(app) => Ok(app),
-            None => Err(App::why_unchecked(s)),
-        }
-    }
-
     pub fn name(self, s: &[u8]) -> &[u8]
         ensures { result.now ≡ take 4 (drop 8 s.now) }
     {
@@ -79,9 +43,33 @@ impl App {
         utils::parser::part(s, App::MIN_PACKET_LEN, self.body - App::MIN_PACKET_LEN)
     }
 
+    // By hand in each kind, one line: a trait would ask the body and the padding's length of each.
     pub fn padding_bytes(self, s: &[u8]) -> &[u8]
         ensures { result.now ≡ take self.padding_len (drop self.body s.now) }
     {
         utils::parser::part(s, self.body, self.padding_len)
+    }
+}
+
+impl RtcpPacketParser for App {
+    ghost kind = { APP };
+
+    ghost view = { app_view };
+
+    #[tactic(auto, using(crate::proofs::Apps::apps))]
+    fn read(s: &[u8]) -> Option<App> {
+        let body = utils::parser::body_of(s, App::MIN_PACKET_LEN, App::PACKET_TYPE)?;
+        Some(App {
+            ssrc: utils::parser::parse_ssrc(s),
+            subtype: utils::parser::parse_count(s),
+            body,
+            padding_len: s.len() - body,
+        })
+    }
+
+    #[cold]
+    #[tactic(auto, using(crate::proofs::Apps::apps))]
+    fn why_unchecked(s: &[u8]) -> RtcpParseError {
+        utils::parser::why_header_unchecked(s, App::MIN_PACKET_LEN, App::PACKET_TYPE)
     }
 }

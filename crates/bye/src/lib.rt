@@ -3,13 +3,13 @@
 
 pub mod write;
 
-ghost use Rattle.std.specs.Prelude.{◌≡◌, None, ◌+◌, ◌-◌, take, drop};
-ghost use Rattle.rfc3550.specs.Answer.{refused, map_ok};
-ghost use Rattle.rfc3550.specs.Read.{BYE, read_as, read_source_at};
-ghost use Rattle.utils.specs.Error.{parse_refusal, value_in, parsed_of};
+ghost use Rattle.std.specs.Prelude.{◌≡◌, ◌+◌, ◌-◌, take, drop};
+ghost use Rattle.rfc3550.specs.Read.{BYE, read_source_at};
+ghost use Rattle.utils.specs.Error.{parsed_of};
 ghost use Rattle.bye.specs.Bye.{bye_view};
 
 use utils::error::RtcpParseError;
+use utils::packet_parser::RtcpPacketParser;
 
 // reason is the place of the reason's first byte or, where there is none, the end of the sources; the tail lies between the reason's end
 // and body, where the padding starts. has_reason stands beside them, and they are no Option: where there is no reason, the tail starts at the place all the same.
@@ -27,76 +27,6 @@ impl Bye {
     pub const MIN_PACKET_LEN: usize = 4;
 
     pub const PACKET_TYPE: u8 = 203;
-
-    // None where the packet is refused.
-    #[tactic(auto, using(crate::proofs::Byes::readings))]
-    pub fn read(s: &[u8]) -> Option<Bye>
-        ensures { result ≡ value_in (map_ok bye_view (read_as BYE s.now)) }
-    {
-        let body = utils::parser::body_of(s, Bye::MIN_PACKET_LEN, Bye::PACKET_TYPE)?;
-        let n_sources = utils::parser::parse_count(s) as usize;
-        let end = Bye::MIN_PACKET_LEN + 4 * n_sources;
-        if body < end {
-            return None;
-        }
-        let padding_len = s.len() - body;
-        if body == end {
-            return Some(Bye {
-                n_sources,
-                has_reason: false,
-                reason: end,
-                reason_len: 0,
-                body,
-                padding_len,
-            });
-        }
-        let reason_len = usize::from(s[end]);
-        let reason = end + 1;
-        if body < reason + reason_len {
-            return None;
-        }
-        Some(Bye {
-            n_sources,
-            has_reason: true,
-            reason,
-            reason_len,
-            body,
-            padding_len,
-        })
-    }
-
-    // Why a packet that is refused is.
-    #[cold]
-    #[tactic(auto, using(crate::proofs::Byes::readings))]
-    pub fn why_unchecked(s: &[u8]) -> RtcpParseError
-        requires { value_in (read_as BYE s.now) ≡ None }
-        ensures { refused (parse_refusal result) ≡ read_as BYE s.now }
-    {
-        let Some(actual) = utils::parser::body_of(s, Bye::MIN_PACKET_LEN, Bye::PACKET_TYPE) else {
-            return utils::parser::why_header_unchecked(s, Bye::MIN_PACKET_LEN, Bye::PACKET_TYPE);
-        };
-        let n_sources = utils::parser::parse_count(s) as usize;
-        let end = Bye::MIN_PACKET_LEN + 4 * n_sources;
-        if actual < end {
-            return RtcpParseError::Truncated {
-                expected: end,
-                actual,
-            };
-        }
-        let expected = end + 1 + usize::from(s[end]);
-        RtcpParseError::Truncated { expected, actual }
-    }
-
-    // By hand in each kind: the line beside `parse` in app says why.
-    #[tactic(auto, using(utils::proofs::Values::values))]
-    pub fn parse(s: &[u8]) -> Result<Bye, RtcpParseError>
-        ensures { parsed_of result ≡ map_ok bye_view (read_as BYE s.now) }
-    {
-        match Bye::read(s) {
-            Some(bye) => Ok(bye),
-            None => Err(Bye::why_unchecked(s)),
-        }
-    }
 
     // The source with an index, from 0.
     #[tactic(auto, using(crate::proofs::Byes::byes))]
@@ -134,5 +64,63 @@ impl Bye {
         ensures { result.now ≡ take self.padding_len (drop self.body s.now) }
     {
         utils::parser::part(s, self.body, self.padding_len)
+    }
+}
+
+impl RtcpPacketParser for Bye {
+    ghost kind = { BYE };
+
+    ghost view = { bye_view };
+
+    #[tactic(auto, using(crate::proofs::Byes::readings))]
+    fn read(s: &[u8]) -> Option<Bye> {
+        let body = utils::parser::body_of(s, Bye::MIN_PACKET_LEN, Bye::PACKET_TYPE)?;
+        let n_sources = utils::parser::parse_count(s) as usize;
+        let end = Bye::MIN_PACKET_LEN + 4 * n_sources;
+        if body < end {
+            return None;
+        }
+        let padding_len = s.len() - body;
+        if body == end {
+            return Some(Bye {
+                n_sources,
+                has_reason: false,
+                reason: end,
+                reason_len: 0,
+                body,
+                padding_len,
+            });
+        }
+        let reason_len = usize::from(s[end]);
+        let reason = end + 1;
+        if body < reason + reason_len {
+            return None;
+        }
+        Some(Bye {
+            n_sources,
+            has_reason: true,
+            reason,
+            reason_len,
+            body,
+            padding_len,
+        })
+    }
+
+    #[cold]
+    #[tactic(auto, using(crate::proofs::Byes::readings))]
+    fn why_unchecked(s: &[u8]) -> RtcpParseError {
+        let Some(actual) = utils::parser::body_of(s, Bye::MIN_PACKET_LEN, Bye::PACKET_TYPE) else {
+            return utils::parser::why_header_unchecked(s, Bye::MIN_PACKET_LEN, Bye::PACKET_TYPE);
+        };
+        let n_sources = utils::parser::parse_count(s) as usize;
+        let end = Bye::MIN_PACKET_LEN + 4 * n_sources;
+        if actual < end {
+            return RtcpParseError::Truncated {
+                expected: end,
+                actual,
+            };
+        }
+        let expected = end + 1 + usize::from(s[end]);
+        RtcpParseError::Truncated { expected, actual }
     }
 }

@@ -3,6 +3,7 @@
 
 pub mod error;
 pub mod list;
+pub mod packet_parser;
 pub mod packet_writer;
 pub mod parser;
 pub mod writer;
