@@ -1,6 +1,6 @@
 -- The cases of a BYE's size and bytes, each from what the code has tested or called.
 use Rattle.std.specs.Prelude.{None, Some}
-use Rattle.rfc3550.proofs.Prelude.{ℕ, suc, ◌+◌, ◌-◌, ◌*◌, ◌/◌, ◌%◌, ◌<◌, ◌≤◌, ◌≡◌, refl, sym, ap, ◌∙◌, Bool, true, false, List, [], ◌∷◌, ◌++◌, add-zero, add-one, arith, le-leb, lt-leb, leb-true, not-true, not-false, length, take, drop, set, get_or, replicate, length-append, length-drop, length-replicate, drop_of_length-le, drop-cons}
+use Rattle.rfc3550.proofs.Prelude.{ℕ, suc, ◌+◌, ◌-◌, ◌*◌, ◌/◌, ◌%◌, ◌<◌, ◌≤◌, ◌≡◌, refl, sym, ap, ◌∙◌, Bool, true, false, List, [], ◌∷◌, ◌++◌, ⊎_elim, add-zero, add-one, arith, le-leb, lt-leb, leb-true, not-true, not-false, length, take, drop, set, get_or, replicate, length-append, length-drop, length-replicate, drop_of_length-le, drop-cons}
 use Rattle.rfc3550.specs.Answer.{refusal, ok, refused, need, ◌>>◌}
 use Rattle.rfc3550.specs.Bytes.{be, put, store}
 use Rattle.rfc3550.specs.Packet.{bye, content_bytes, layout, leaving_bytes}
@@ -9,10 +9,11 @@ use Rattle.rfc3550.proofs.Answers.{need_inv, need_ok}
 use Rattle.rfc3550.proofs.Bytes.{length_be, length_store}
 use Rattle.utils.specs.Error.{value_in}
 use Rattle.utils.specs.Writer.{header}
+use Rattle.utils.proofs.Parts.{split}
 use Rattle.utils.proofs.Values.{none_found}
 use Rattle.utils.proofs.WriterStores.{store_nil, store_store, store_puts}
 use Rattle.utils.proofs.WriterCases.{writer}
-use Rattle.utils.proofs.WriterPackets.{padding_most, sized, size_ok, why_last, size_refused, parts_laid, header_long, packet_laid}
+use Rattle.utils.proofs.WriterPackets.{padding_most, sized, size_ok, size_refused, parts_laid, header_long, packet_laid}
 use Rattle.bye.specs.Write.{sources_bytes, ByeFits}
 
 -- ---- sources
@@ -121,13 +122,14 @@ module _ (ss r : List ℕ) (k : ℕ) where
         unfolding own_tests need ◌>>◌
         own_passed = simp (le-leb _ _ h, ← e, q, le-leb _ _ f)
 
-        pub why_none : value_in (calculate_size given) ≡ None → refused (refusal 22 0 0) ≡ calculate_size given
-        why_none z = why_last given own_passed z
-
         pub bye_size : (m : ℕ) → m ≡ length (leaving_bytes (leaving_of r)) → Some (4 + length ss * 4 + m + k) ≡ value_in (calculate_size given)
         bye_size m g =
             let p : k ≤ 252 = padding_most t k e q in
             ap value_in (size_ok given (4 + length ss * 4 + m + k) own_passed (omega (arith, content_length)) (omega (arith, reason_le r f)))
+
+      -- a BYE is never too large, so the reason is what is left
+      pub reason_left : value_in (calculate_size given) ≡ None → refused (refusal 16 (length r) 255) ≡ calculate_size given
+      reason_left z = ⊎_elim too_long (λ (f : length r ≤ 255). let x = bye_size f _ refl ∙ z in cc) (split 255 (length r))
 
   pub bye_fits : (n room : ℕ) → calculate_size given ≡ ok n → n ≤ room → ByeFits ss r k n room
   unfolding own_tests
@@ -158,4 +160,4 @@ module _ (ss r : List ℕ) (k : ℕ) where
       let p = parts_laid 4 (4 + length ss * 4) (sources_bytes ss) (leaving_bytes (leaving_of r)) l₁ l₂ l₃ e₂ e₃ (omega arith) (omega arith) in
       packet_laid (bye ss (leaving_of r)) k size (size - k) l l₁ l₃ l₄ (omega arith) m (omega arith) e₁ p e₄
 
-pub ruleset writes = (writer, not-true, not-false, too_many, bad_padding_lem, too_long, sources_start, sources_again, sources_done, reason_none, reason_long, reason_not_laid, reason_laid, none_sources, none_padding, none_reason, why_none, bye_size, bye_laid)
+pub ruleset writes = (writer, not-true, not-false, too_many, bad_padding_lem, too_long, sources_start, sources_again, sources_done, reason_none, reason_long, reason_not_laid, reason_laid, none_sources, none_padding, none_reason, reason_left, bye_size, bye_laid)

@@ -101,14 +101,10 @@ impl<'a> RtcpPacketWriter for ByeBuilder<'a> {
                 padding: self.padding,
             };
         }
-        let len = self.reason.len();
-        if MAX_REASON_LEN < len {
-            return RtcpWriteError::ReasonLenTooLarge {
-                len,
-                max: MAX_REASON_LEN as u8,
-            };
+        RtcpWriteError::ReasonLenTooLarge {
+            len: self.reason.len(),
+            max: MAX_REASON_LEN as u8,
         }
-        RtcpWriteError::PacketTooLarge
     }
 
     #[inline(always)]
