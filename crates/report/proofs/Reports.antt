@@ -1,5 +1,5 @@
 -- Reading a report, over the kind: from what a reader has tested, what an accepted one tells, and its parts.
-use Rattle.std.specs.Prelude.{Result, eqb}
+use Rattle.std.specs.Prelude.{None, Some, Result, eqb}
 use Rattle.std.specs.Result.{IsErrAnd}
 use Rattle.std.proofs.lemmas.Result.{err_from_is_err_and}
 use Rattle.rfc3550.proofs.Prelude.{rules, ◌≡◌, refl, ap, ◌∙◌, sym, subst, List, [], ◌∷◌, ⊎_elim, ℕ, zero, suc, ◌+◌, ◌-◌, ◌*◌, ◌<◌, ◌≤◌, arith, le-leb, lt-leb, length, take, drop, length-drop, drop-drop, length-take-le, take_all, get_or}
@@ -7,17 +7,17 @@ use Rattle.rfc3550.specs.Answer.{Refusal, refusal, Answer, ok, refused, refuse, 
 use Rattle.rfc3550.specs.Bytes.{val, get, sum}
 use Rattle.rfc3550.specs.Loss.{Loss}
 use Rattle.rfc3550.specs.Packet.{Block, Reporter, Content, report, Packet, reporter_fields, block_widths, sender_widths}
-use Rattle.rfc3550.specs.Read.{Kind, SR, RR, least, kind_for, low_in, block_from, read_blocks, sender_from, read_report, type_in, check_header, check_packet, read_as, blocks_of, nth, read_block_at}
+use Rattle.rfc3550.specs.Read.{Kind, SR, RR, least, low_in, block_from, read_blocks, sender_from, read_report, type_in, check_header, check_packet, read_as, blocks_of, nth, read_block_at}
 use Rattle.rfc3550.proofs.Answers.{refused≢ok, ok_injective, map_ok_inv}
-use Rattle.utils.specs.Error.{parse_refusal, refusal_in, value_or, or_zero}
+use Rattle.utils.specs.Error.{parse_refusal, value_in}
 use Rattle.utils.specs.List.{listed_of}
 use Rattle.utils.specs.declared.error.RtcpParseError.{RtcpParseError}
 use Rattle.utils.specs.declared.list.ListError.{ListError}
 use Rattle.utils.specs.declared.list.ListError.TheVariants as list
 use Rattle.utils.proofs.Errors.{parse_handed}
-use Rattle.utils.proofs.Reading.{packet_of, content_in, got, got_is, least_four, none_at_header, why_at_header, body_accepted, body_content, map_ok_refused}
+use Rattle.utils.proofs.Reading.{packet_of, content_in, got, got_is, none_viewed_at_header, why_at_header, body_accepted, body_content, map_ok_refused}
 use Rattle.utils.proofs.Headers.{Accepted}
-use Rattle.utils.proofs.Values.{value_came, value_is, none_came, none_is}
+use Rattle.utils.proofs.Values.{value_is, none_viewed, none_below, values}
 use Rattle.utils.proofs.Parts.{drop_take, length_drop_take, get_take, nth_past, nth_read_blocks, length_read_blocks, split}
 use Rattle.report.specs.Block.{block_view, lay_blocks}
 use Rattle.report.specs.declared.report_block.ReportBlock.{ReportBlock}
@@ -79,55 +79,59 @@ module _ {k : Kind} {ws : List ℕ} {who : List ℕ → Reporter} (m : ReporterK
   pub body_is : end k s ≤ b → extension_at (content_at k ws who s b) + length (extension_of (content_at k ws who s b)) ≡ b
   body_is q = rw at_is (length_rest q)
 
--- ---- by the number of the header
+-- ---- by the body of the header
 
-module _ {k : Kind} {min type : ℕ} {R : Type 0} {none : R} {view : Packet → R} {places : R → Places} (l : ReportLaws k min type none view places) (s : List ℕ) (x t b : ℕ) (e : x ≡ min) (f : t ≡ type)
-    (h : b ≡ or_zero (check_header x (eqb (type_in s) t) (type_in s, t) s)) where
+module _ {k : Kind} {min type : ℕ} {R : Type 0} {view : Packet → R} {places : R → Places} (l : ReportLaws k min type view places) (s : List ℕ) (x t : ℕ) (e : x ≡ min) (f : t ≡ type) where
   same : check_header x (eqb (type_in s) t) (type_in s, t) s ≡ check_packet k s
   same = rw (e, f) (l.checked s)
 
-  checked : b ≡ or_zero (check_packet k s)
-  checked = h ∙ ap or_zero same
+  pub none_header : None ≡ value_in (check_header x (eqb (type_in s) t) (type_in s, t) s) → None ≡ value_in (map_ok report_body (read_as k s))
+  none_header z = none_viewed_at_header k s report_body (z ∙ ap value_in same)
 
-  pub none_header : b ≡ 0 → 0 ≡ value_or 0 report_body (read_as k s)
-  none_header z = none_at_header k s b checked 0 report_body z
+  pub why_header : (r : Refusal) → refused r ≡ check_header x (eqb (type_in s) t) (type_in s, t) s → refused r ≡ read_as k s
+  why_header r q = why_at_header k s r (q ∙ same)
 
-  pub why_header : (y u : ℕ) → y ≡ min → u ≡ type → (r : Refusal) → b ≡ 0 → r ≡ refusal_in (check_header y (eqb (type_in s) u) (type_in s, u) s) → r ≡ refusal_in (read_as k s)
-  why_header y u d c r z q = why_at_header k s b checked r z (q ∙ rw (d, c) (ap refusal_in (l.checked s)))
+  -- no body, and so the header refuses, whichever numbers name the kind's
+  pub header_refuses : None ≡ value_in (check_header x (eqb (type_in s) t) (type_in s, t) s) → (y u : ℕ) → y ≡ min → u ≡ type → value_in (check_header y (eqb (type_in s) u) (type_in s, u) s) ≡ None
+  header_refuses z y u d c = sym (z ∙ ap value_in (same ∙ sym (rw (d, c) (l.checked s))))
 
-  module _ (z : b ≡ 0 → ⊥) (n : ℕ) (c : n ≡ low_in s) (y : ℕ) (d : y ≡ min) where
+  module _ (b : ℕ) (h : Some b ≡ value_in (check_header x (eqb (type_in s) t) (type_in s, t) s)) (n : ℕ) (c : n ≡ low_in s) (y : ℕ) (d : y ≡ min) where
+    checked : Some b ≡ value_in (check_packet k s)
+    checked = h ∙ ap value_in same
+
     body : Accepted (least k) s b
-    body = body_accepted k s b checked z
+    body = body_accepted k s b checked
 
     least_is : y ≡ least k
     least_is = d ∙ l.least_len
 
     cut : b < y + 24 * n → read_as k s ≡ refuse 2 (y + 24 * n) b
     unfolding map_ok
-    cut q = rw (least_is, c) (body_content k s b checked z ∙ rw (short l.maker s b body.enough body.within (rw (← c, ← least_is) q)))
+    cut q = rw (least_is, c) (body_content k s b checked ∙ rw (short l.maker s b body.enough body.within (rw (← c, ← least_is) q)))
 
     whole : y + 24 * n ≤ b → read_as k s ≡ ok (packet_of s b (content_at k l.widths l.who s b))
     unfolding map_ok
-    whole q = body_content k s b checked z ∙ rw (long l.maker s b body.enough body.within (rw (← c, ← least_is) q))
+    whole q = body_content k s b checked ∙ rw (long l.maker s b body.enough body.within (rw (← c, ← least_is) q))
 
-    pub none_short : b < y + 24 * n → 0 ≡ value_or 0 report_body (read_as k s)
-    none_short q = sym (ap (value_or 0 report_body) (cut q))
+    pub none_short : b < y + 24 * n → None ≡ value_in (map_ok report_body (read_as k s))
+    unfolding map_ok
+    none_short q = rw (cut q)
 
-    pub why_short : b < y + 24 * n → refusal 2 (y + 24 * n) b ≡ refusal_in (read_as k s)
-    why_short q = sym (ap refusal_in (cut q))
+    pub body_long : y + 24 * n ≤ b → Some b ≡ value_in (map_ok report_body (read_as k s))
+    unfolding map_ok
+    body_long q = sym (ap (λ (m : Answer Packet). value_in (map_ok report_body m)) (whole q) ∙ ap Some (body_is l.maker s b body.enough body.within (rw (← c, ← least_is) q)))
 
-    pub body_long : y + 24 * n ≤ b → b ≡ value_or 0 report_body (read_as k s)
-    body_long q = sym (ap (value_or 0 report_body) (whole q) ∙ body_is l.maker s b body.enough body.within (rw (← c, ← least_is) q))
+    -- what is left are blocks past the body
+    pub why_short : value_in (read_as k s) ≡ None → refused (refusal 2 (y + 24 * n) b) ≡ read_as k s
+    why_short z =
+        ⊎_elim
+        (λ q. sym (cut q))
+        (λ q. let v = sym (ap value_in (whole q)) ∙ z in cc)
+        (split b (y + 24 * n))
 
-    pub why_long : y + 24 * n ≤ b → refusal 25 0 0 ≡ refusal_in (read_as k s)
-    why_long q = sym (ap refusal_in (whole q))
+pub ruleset headers = (rules, none_header, why_header, header_refuses, none_short, why_short, body_long)
 
-pub ruleset headers = (rules, none_header, why_header, none_short, why_short, body_long, why_long)
-
--- ---- what the number of the packet tells
-
-pub body_some : (p : Packet) → 0 < report_body p
-body_some p = omega (arith, least_four (kind_for p.content))
+-- ---- what the body of the packet tells
 
 pub record Whole (k : Kind) (ws : List ℕ) (who : List ℕ → Reporter) (s : List ℕ) (b : ℕ) : Type 0 where
   pub enough : least k ≤ b
@@ -153,59 +157,53 @@ read_blocks_take zero b s h = refl
 read_blocks_take (suc n) b s h =
     rw (get_take block_widths 0 b s (omega arith), drop_take 24 b s, read_blocks_take n (b - 24) (drop 24 s) (omega arith))
 
-module _ {k : Kind} {ws : List ℕ} {who : List ℕ → Reporter} (m : ReporterKind k ws who) (s : List ℕ) (b : ℕ) (h : b ≡ value_or 0 report_body (read_as k s)) where
-  -- where it is refused
-  module _ (z : b ≡ 0) where
-    gone : read_as k s ≡ refused (refusal_in (read_as k s))
-    gone = none_came 0 report_body (λ n. n) refl body_some (read_as k s) b h z
+-- none came of the body, and so none of any view
+pub report_none : (k : Kind) (s : List ℕ) {B : Type 0} (view : Packet → B) → None ≡ value_in (map_ok report_body (read_as k s)) → None ≡ value_in (map_ok view (read_as k s))
+report_none k s view z = none_viewed view (read_as k s) (none_below report_body (read_as k s) z)
 
-    pub report_none : {B : Type 0} (none : B) (view : Packet → B) (x : B) → x ≡ none → x ≡ value_or none view (read_as k s)
-    report_none none view x e = e ∙ sym (ap (value_or none view) gone)
+module _ {k : Kind} {ws : List ℕ} {who : List ℕ → Reporter} (m : ReporterKind k ws who) (s : List ℕ) (b : ℕ) (h : Some b ≡ value_in (map_ok report_body (read_as k s))) where
+  is_whole : Whole k ws who s b
+  is_whole = let v = map_ok_inv report_body (read_as k s) (sym (value_is (map_ok report_body (read_as k s)) b h)) in subst (Whole k ws who s) v.2 (whole_is m s v.0 v.1)
 
-  -- where it is not
-  module _ (z : b ≡ 0 → ⊥) where
-    is_whole : Whole k ws who s b
-    is_whole = let v = value_came 0 report_body (λ n. n) refl (read_as k s) b h z in subst (Whole k ws who s) v.2 (whole_is m s v.0 v.1)
+  pub report_within : b ≤ length s
+  report_within = is_whole.within
 
-    pub report_within : b ≤ length s
-    report_within = is_whole.within
+  module _ (n : ℕ) (c : n ≡ low_in s) where
+    -- what the numbers say is where the packet's parts lie
+    pub report_placed : (x : ℕ) → x ≡ least k → map_ok places_of (read_as k s) ≡ ok (record { n_reports = n; extension = x + 24 * n; body = b })
+    unfolding map_ok
+    report_placed x e =
+        let a = is_whole in
+        rw (a.packet, body_is m s b a.enough a.within a.room, at_is m s b a.enough a.within, count_is m s b a.enough a.within, c, e)
 
-    module _ (n : ℕ) (c : n ≡ low_in s) where
-      -- what the numbers say is where the packet's parts lie
-      pub report_placed : (x : ℕ) → x ≡ least k → map_ok places_of (read_as k s) ≡ ok (record { n_reports = n; extension = x + 24 * n; body = b })
-      unfolding map_ok
-      report_placed x e =
-          let a = is_whole in
-          rw (a.packet, body_is m s b a.enough a.within a.room, at_is m s b a.enough a.within, count_is m s b a.enough a.within, c, e)
+    pub blocks_within : (x : ℕ) → x ≡ least k → x + n * 24 ≤ length s
+    blocks_within x e = let a = is_whole in omega arith
 
-      pub blocks_within : (x : ℕ) → x ≡ least k → x + n * 24 ≤ length s
-      blocks_within x e = let a = is_whole in omega arith
+    pub lists_all : (f : List ℕ) (l : List Loss) (w : List ℕ) (x : Answer ℕ × List ℕ × List Loss × List ℕ) → x ≡ lay_blocks (ok (read_blocks n (drop (least k) s))) f l w → x ≡ lay_blocks (map_ok report_blocks (read_as k s)) f l w
+    unfolding map_ok
+    lists_all f l w x q =
+        let a = is_whole in
+        let e : read_blocks n (drop (least k) s) ≡ blocks_at k s b =
+        sym (rw (drop_take (least k) b s, read_blocks_take (low_in s) (b - least k) (drop (least k) s) (omega arith)) (ap (λ (n : ℕ). read_blocks n (drop (least k) s)) (sym c))) in
+        q ∙ ap (λ (bs : List Block). lay_blocks (ok bs) f l w) e ∙ sym (ap (λ (m : Answer Packet). lay_blocks (map_ok report_blocks m) f l w) a.packet)
 
-      pub lists_all : (f : List ℕ) (l : List Loss) (w : List ℕ) (x : Answer ℕ × List ℕ × List Loss × List ℕ) → x ≡ lay_blocks (ok (read_blocks n (drop (least k) s))) f l w → x ≡ lay_blocks (map_ok report_blocks (read_as k s)) f l w
-      unfolding map_ok
-      lists_all f l w x q =
-          let a = is_whole in
-          let e : read_blocks n (drop (least k) s) ≡ blocks_at k s b =
-          sym (rw (drop_take (least k) b s, read_blocks_take (low_in s) (b - least k) (drop (least k) s) (omega arith)) (ap (λ (n : ℕ). read_blocks n (drop (least k) s)) (sym c))) in
-          q ∙ ap (λ (bs : List Block). lay_blocks (ok bs) f l w) e ∙ sym (ap (λ (m : Answer Packet). lay_blocks (map_ok report_blocks m) f l w) a.packet)
+    module _ (i : ℕ) where
+      pub index_past : n ≤ i → refuse 25 0 0 ≡ map_ok block_view (read_block_at k s i)
+      unfolding read_block_at ◌>>=◌ map_ok
+      index_past l = rw (is_whole.packet, nth_past i (blocks_at k s b) (rw (length_read_blocks (low_in s) (drop (least k) (take b s)), ← c) l))
 
-      module _ (i : ℕ) where
-        pub index_past : n ≤ i → refuse 25 0 0 ≡ map_ok block_view (read_block_at k s i)
-        unfolding read_block_at ◌>>=◌ map_ok
-        index_past l = rw (is_whole.packet, nth_past i (blocks_at k s b) (rw (length_read_blocks (low_in s) (drop (least k) (take b s)), ← c) l))
+      module _ (l : i < n) where
+        pub index_there : (x : ReportBlock) → x ≡ block_view (block_from (get block_widths (drop (least k + 24 * i) s))) → ok x ≡ map_ok block_view (read_block_at k s i)
+        unfolding read_block_at ◌>>=◌ map_ok sum
+        index_there x q =
+            let a = is_whole in
+            let e : nth i (blocks_at k s b) ≡ ok (block_from (get block_widths (drop (least k + 24 * i) s))) =
+            nth_read_blocks (low_in s) i (drop (least k) (take b s)) (omega arith)
+            ∙ rw (drop-drop (24 * i) (least k) (take b s), get_take block_widths (least k + 24 * i) b s (omega arith)) in
+            rw (a.packet, e, q)
 
-        module _ (l : i < n) where
-          pub index_there : (x : ReportBlock) → x ≡ block_view (block_from (get block_widths (drop (least k + 24 * i) s))) → ok x ≡ map_ok block_view (read_block_at k s i)
-          unfolding read_block_at ◌>>=◌ map_ok sum
-          index_there x q =
-              let a = is_whole in
-              let e : nth i (blocks_at k s b) ≡ ok (block_from (get block_widths (drop (least k + 24 * i) s))) =
-              nth_read_blocks (low_in s) i (drop (least k) (take b s)) (omega arith)
-              ∙ rw (drop-drop (24 * i) (least k) (take b s), get_take block_widths (least k + 24 * i) b s (omega arith)) in
-              rw (a.packet, e, q)
-
-          pub index_within : (x : ℕ) → x ≡ least k + 24 * i → x + 24 ≤ length s
-          index_within x e = let a = is_whole in omega arith
+        pub index_within : (x : ℕ) → x ≡ least k + 24 * i → x + 24 ≤ length s
+        index_within x e = let a = is_whole in omega arith
 
 -- ---- where the parts lie, of a packet that was accepted
 
@@ -213,69 +211,51 @@ module _ {k : Kind} {ws : List ℕ} {who : List ℕ → Reporter} (m : ReporterK
   placed : (p : Packet) × (read_as k s ≡ ok p) × (places_of p ≡ at)
   placed = map_ok_inv places_of (read_as k s) h
 
-  placed_body : at.body ≡ value_or 0 report_body (read_as k s)
-  placed_body = let v = placed in ap (λ (a : Places). a.body) (sym v.2) ∙ sym (ap (value_or 0 report_body) v.1)
-
-  placed_some : at.body ≡ 0 → ⊥
-  placed_some z = let v = placed in omega (arith, body_some v.0, ap (λ (a : Places). a.body) v.2)
+  placed_body : Some at.body ≡ value_in (map_ok report_body (read_as k s))
+  unfolding map_ok
+  placed_body = let v = placed in ap (λ (a : Places). Some a.body) (sym v.2) ∙ sym (ap (λ (m : Answer Packet). value_in (map_ok report_body m)) v.1)
 
   placed_count : at.n_reports ≡ low_in s
   placed_count =
-      let w = is_whole m s at.body placed_body placed_some in
+      let w = is_whole m s at.body placed_body in
       let v = placed in
       ap (λ (a : Places). a.n_reports) (sym v.2) ∙ ap (λ (p : Packet). length (report_blocks p)) (ok_injective (sym v.1 ∙ w.packet)) ∙ count_is m s at.body w.enough w.within
 
   pub placed_long : (n : ℕ) → n ≤ least k → n ≤ length s
-  placed_long n l = let w = is_whole m s at.body placed_body placed_some in omega (arith, w.enough, w.within)
+  placed_long n l = let w = is_whole m s at.body placed_body in omega (arith, w.enough, w.within)
 
 -- a report that was read tells where the parts lie
-module _ {k : Kind} {min type : ℕ} {R : Type 0} {none : R} {view : Packet → R} {places : R → Places} (l : ReportLaws k min type none view places) (s : List ℕ) where
+module _ {k : Kind} {min type : ℕ} {R : Type 0} {view : Packet → R} {places : R → Places} (l : ReportLaws k min type view places) (s : List ℕ) where
   module _ (o : R) (h : ok o ≡ map_ok view (read_as k s)) (at : Places) (e : at ≡ places o) where
     parsed : map_ok places_of (read_as k s) ≡ ok at
     unfolding map_ok
     parsed = let v = map_ok_inv view (read_as k s) (sym h) in ap (map_ok places_of) v.1 ∙ ap ok (sym (l.seen v.0) ∙ ap places v.2 ∙ sym e)
 
-    body_in : at.body ≡ value_or 0 report_body (read_as k s)
+    body_in : Some at.body ≡ value_in (map_ok report_body (read_as k s))
     body_in = placed_body l.maker s at parsed
-
-    some : at.body ≡ 0 → ⊥
-    some = placed_some l.maker s at parsed
 
     count : at.n_reports ≡ low_in s
     count = placed_count l.maker s at parsed
 
     pub parsed_past : (i : ℕ) → at.n_reports ≤ i → refuse 25 0 0 ≡ map_ok block_view (read_block_at k s i)
-    parsed_past = index_past l.maker s at.body body_in some at.n_reports count
+    parsed_past = index_past l.maker s at.body body_in at.n_reports count
 
     module _ (x : ℕ) (f : x ≡ min) where
       min_is : x ≡ least k
       min_is = f ∙ l.least_len
 
       pub parsed_within : x + at.n_reports * 24 ≤ length s
-      parsed_within = blocks_within l.maker s at.body body_in some at.n_reports count x min_is
+      parsed_within = blocks_within l.maker s at.body body_in at.n_reports count x min_is
 
       pub parsed_blocks : (fs : List ℕ) (ls : List Loss) (ws : List ℕ) (a : Answer ℕ × List ℕ × List Loss × List ℕ) → a ≡ lay_blocks (ok (read_blocks at.n_reports (drop x s))) fs ls ws → a ≡ lay_blocks (map_ok report_blocks (read_as k s)) fs ls ws
-      parsed_blocks fs ls ws a q = lists_all l.maker s at.body body_in some at.n_reports count fs ls ws a (rw min_is at q)
+      parsed_blocks fs ls ws a q = lists_all l.maker s at.body body_in at.n_reports count fs ls ws a (rw min_is at q)
 
       module _ (i : ℕ) (n : i < at.n_reports) where
         pub parsed_at : x + 24 * i + 24 ≤ length s
-        parsed_at = index_within l.maker s at.body body_in some at.n_reports count i n (x + 24 * i) (ap (λ (x : ℕ). x + 24 * i) min_is)
+        parsed_at = index_within l.maker s at.body body_in at.n_reports count i n (x + 24 * i) (ap (λ (x : ℕ). x + 24 * i) min_is)
 
         pub parsed_block : (b : ReportBlock) → b ≡ block_view (block_from (get block_widths (drop (x + 24 * i) s))) → ok b ≡ map_ok block_view (read_block_at k s i)
-        parsed_block b q = index_there l.maker s at.body body_in some at.n_reports count i n b (rw min_is at q)
-
-  module _ (o : R) (h : o ≡ value_or none view (read_as k s)) (at : Places) (e : at ≡ places o) where
-    pub parsed_none : at.body ≡ 0 → (r : Refusal) → r ≡ refusal_in (read_as k s) → refused r ≡ map_ok view (read_as k s)
-    parsed_none z r q =
-        none_is none view (λ (o : R). (places o).body) l.no_body (λ p. rw (l.seen p) (body_some p)) view (read_as k s) o r h (ap (λ (a : Places). a.body) (sym e) ∙ z) q
-
-    pub parsed_some : (at.body ≡ 0 → ⊥) → ok o ≡ map_ok view (read_as k s)
-    parsed_some n = value_is none view (λ (o : R). (places o).body) l.no_body (read_as k s) o h (λ z. n (ap (λ (a : Places). a.body) e ∙ z))
-
-pub seen_value : {B : Type 0} (none : B) (view : Packet → B) (m : Answer Packet) (b : B) → ok b ≡ map_ok view m → b ≡ value_or none view m
-unfolding map_ok
-seen_value none view (ok p) b h = ok_injective h
-seen_value none view (refused r) b h = absurd (refused≢ok (sym h))
+        parsed_block b q = index_there l.maker s at.body body_in at.n_reports count i n b (rw min_is at q)
 
 -- a refusal of the packet, handed on
 pub index_handed : {B : Type 0} (view : Packet → B) (k : Kind) (s : List ℕ) (i : ℕ) (r : Refusal) → refused r ≡ map_ok view (read_as k s) → refused r ≡ map_ok block_view (read_block_at k s i)
@@ -287,37 +267,31 @@ pub lists_handed : {B : Type 0} (view : Packet → B) (k : Kind) (s : List ℕ) 
 unfolding lay_blocks map_ok
 lists_handed view k s q e f l w h r = let p = err_from_is_err_and q h in rw (p.1, p.2, map_ok_refused view (read_as k s) (sym r))
 
-pub ruleset reports = (rules, parse_handed, report_none, report_within, report_placed, seen_value, parsed_none, parsed_some, index_handed, lists_handed)
+pub ruleset reports = (rules, values, parse_handed, report_none, report_within, report_placed, index_handed, lists_handed)
 
 -- ---- what the value that was read tells of the blocks, over the kind and its view
 
-module _ {k : Kind} {ws : List ℕ} {who : List ℕ → Reporter} (m : ReporterKind k ws who) {O : Type 0} (none : O) (view : Packet → O) (bodyIn countIn : O → ℕ) (z : bodyIn none ≡ 0)
-    (b : (p : Packet) → bodyIn (view p) ≡ report_body p) (c : (p : Packet) → countIn (view p) ≡ length (report_blocks p)) (s : List ℕ) (o : O) (h : o ≡ value_or none view (read_as k s)) where
-  pub value_refused : bodyIn o ≡ 0 → (r : Refusal) → r ≡ refusal_in (read_as k (take (length s - 0) (drop 0 s))) → read_as k s ≡ refused r
-  value_refused n r q =
-      none_came none view bodyIn z (λ p. rw (b p) (body_some p)) (read_as k s) o h n
-      ∙ ap refused (sym (q ∙ ap (λ (s : List ℕ). refusal_in (read_as k s)) (take_all (length s - 0) s (omega arith))))
+module _ {k : Kind} {ws : List ℕ} {who : List ℕ → Reporter} (m : ReporterKind k ws who) {O : Type 0} (view : Packet → O) (countIn : O → ℕ) (c : (p : Packet) → countIn (view p) ≡ length (report_blocks p))
+    (s : List ℕ) (o : O) (h : Some o ≡ value_in (map_ok view (read_as k s))) where
+  counted : (p : Packet) × (read_as k s ≡ ok p) × (length (report_blocks p) ≡ countIn o)
+  counted = let v = map_ok_inv view (read_as k s) (sym (value_is (map_ok view (read_as k s)) o h)) in (v.0, v.1, sym (c v.0) ∙ ap countIn v.2)
 
-  module _ (n : bodyIn o ≡ 0 → ⊥) where
-    counted : (p : Packet) × (read_as k s ≡ ok p) × (length (report_blocks p) ≡ countIn o)
-    counted = let v = value_came none view bodyIn z (read_as k s) o h n in (v.0, v.1, sym (c v.0) ∙ ap countIn v.2)
+  pub value_blocks : map_ok report_blocks (read_as k s) ≡ ok (read_blocks (countIn o) (drop (least k) s))
+  unfolding map_ok
+  value_blocks =
+      let v = counted in
+      let w = whole_is m s v.0 v.1 in
+      let l : length (blocks_at k s (report_body v.0)) ≡ countIn o = ap (λ (a : Packet). length (report_blocks a)) (ok_injective (sym w.packet ∙ v.1)) ∙ v.2 in
+      let e : countIn o ≡ low_in s = sym l ∙ length_read_blocks (low_in s) (drop (least k) (take (report_body v.0) s)) in
+      rw (w.packet, e, drop_take (least k) (report_body v.0) s, read_blocks_take (low_in s) (report_body v.0 - least k) (drop (least k) s) (omega arith))
 
-    pub value_blocks : map_ok report_blocks (read_as k s) ≡ ok (read_blocks (countIn o) (drop (least k) s))
-    unfolding map_ok
-    value_blocks =
-        let v = counted in
-        let w = whole_is m s v.0 v.1 in
-        let l : length (blocks_at k s (report_body v.0)) ≡ countIn o = ap (λ (a : Packet). length (report_blocks a)) (ok_injective (sym w.packet ∙ v.1)) ∙ v.2 in
-        let e : countIn o ≡ low_in s = sym l ∙ length_read_blocks (low_in s) (drop (least k) (take (report_body v.0) s)) in
-        rw (w.packet, e, drop_take (least k) (report_body v.0) s, read_blocks_take (low_in s) (report_body v.0 - least k) (drop (least k) s) (omega arith))
-
-    pub value_within : least k + countIn o * 24 ≤ length s
-    value_within =
-        let v = counted in
-        let w = whole_is m s v.0 v.1 in
-        let l : length (blocks_at k s (report_body v.0)) ≡ countIn o = ap (λ (a : Packet). length (report_blocks a)) (ok_injective (sym w.packet ∙ v.1)) ∙ v.2 in
-        let e : countIn o ≡ low_in s = sym l ∙ length_read_blocks (low_in s) (drop (least k) (take (report_body v.0) s)) in
-        omega (arith, w.room, w.within)
+  pub value_within : least k + countIn o * 24 ≤ length s
+  value_within =
+      let v = counted in
+      let w = whole_is m s v.0 v.1 in
+      let l : length (blocks_at k s (report_body v.0)) ≡ countIn o = ap (λ (a : Packet). length (report_blocks a)) (ok_injective (sym w.packet ∙ v.1)) ∙ v.2 in
+      let e : countIn o ≡ low_in s = sym l ∙ length_read_blocks (low_in s) (drop (least k) (take (report_body v.0) s)) in
+      omega (arith, w.room, w.within)
 
 -- ---- the parts of an accepted report, by the places of its numbers
 
@@ -364,7 +338,7 @@ module _ {k : Kind} {ws : List ℕ} {who : List ℕ → Reporter} (m : ReporterK
       sym (ap (λ (p : Packet). length p.padding) (sym (is_packet m s v.0 v.1)) ∙ length-drop (report_body v.0) s ∙ ap (λ (a : Places). length s - a.body) v.2)
 
   pub placed_inside : at.body ≤ length s
-  placed_inside = let w = is_whole m s at.body (placed_body m s at h) (placed_some m s at h) in w.within
+  placed_inside = let w = is_whole m s at.body (placed_body m s at h) in w.within
 
 module _ (s : List ℕ) (at : Places) where
   pub receiver_fields : map_ok places_of (read_as RR s) ≡ ok at → (x : ℕ) → x ≡ val (take 4 (drop 4 s))

@@ -57,11 +57,3 @@ sender_view p =
       body = extension_at p.content + length (extension_of p.content);
       padding_len = padding_length p;
     }
-
--- ---- what stands for a report that is refused
-
-abbrev pub no_receiver : ReceiverReport
-no_receiver = record { ssrc = 0; n_reports = 0; extension = 0; body = 0; padding_len = 0 }
-
-abbrev pub no_sender : SenderReport
-no_sender = record { ssrc = 0; ntp_timestamp = 0; rtp_timestamp = 0; packet_count = 0; octet_count = 0; n_reports = 0; extension = 0; body = 0; padding_len = 0 }

@@ -3,7 +3,7 @@ use Rattle.std.specs.Prelude.{ℕ, ◌+◌, ◌≡◌, refl, List, length, eqb}
 use Rattle.rfc3550.specs.Bytes.{sum}
 use Rattle.rfc3550.specs.Packet.{Block, Reporter, Packet, report, receiver_widths, sender_widths}
 use Rattle.rfc3550.specs.Read.{Kind, SR, RR, least, kind_for, type_in, receiver_from, sender_from, read_report, read_content, check_header, check_packet}
-use Rattle.report.specs.Report.{report_body, report_blocks, extension_at, receiver_view, sender_view, no_receiver, no_sender}
+use Rattle.report.specs.Report.{report_body, report_blocks, extension_at, receiver_view, sender_view}
 use Rattle.report.specs.declared.report.Places.{Places}
 use Rattle.report.specs.declared.receiver.ReceiverReport.{ReceiverReport}
 use Rattle.report.specs.declared.sender.SenderReport.{SenderReport}
@@ -31,18 +31,17 @@ receiver_places r = record { n_reports = r.n_reports; extension = r.extension; b
 abbrev pub sender_places : SenderReport → Places
 sender_places r = record { n_reports = r.n_reports; extension = r.extension; body = r.body }
 
--- what a type that is read as a report keeps: its least length and its type are those of the kind, and its places those of the packet; of none the body is 0
-pub record ReportLaws (k : Kind) (min type : ℕ) {R : Type 0} (none : R) (view : Packet → R) (places : R → Places) : Type 0 where
+-- what a type that is read as a report keeps: its least length and its type are those of the kind, and its places those of the packet
+pub record ReportLaws (k : Kind) (min type : ℕ) {R : Type 0} (view : Packet → R) (places : R → Places) : Type 0 where
   pub widths : List ℕ
   pub who : List ℕ → Reporter
   pub maker : ReporterKind k widths who
   pub least_len : min ≡ least k
   pub checked : (s : List ℕ) → check_header min (eqb (type_in s) type) (type_in s, type) s ≡ check_packet k s
-  pub no_body : (places none).body ≡ 0
   pub seen : (p : Packet) → places (view p) ≡ places_of p
 
-pub receiver_laws : ReportLaws RR 8 201 no_receiver receiver_view receiver_places
-receiver_laws = record { widths = receiver_widths; who = receiver_from; maker = receiver_maker; least_len = refl; checked = λ s. refl; no_body = refl; seen = λ p. refl }
+pub receiver_laws : ReportLaws RR 8 201 receiver_view receiver_places
+receiver_laws = record { widths = receiver_widths; who = receiver_from; maker = receiver_maker; least_len = refl; checked = λ s. refl; seen = λ p. refl }
 
-pub sender_laws : ReportLaws SR 28 200 no_sender sender_view sender_places
-sender_laws = record { widths = sender_widths; who = sender_from; maker = sender_maker; least_len = refl; checked = λ s. refl; no_body = refl; seen = λ p. refl }
+pub sender_laws : ReportLaws SR 28 200 sender_view sender_places
+sender_laws = record { widths = sender_widths; who = sender_from; maker = sender_maker; least_len = refl; checked = λ s. refl; seen = λ p. refl }

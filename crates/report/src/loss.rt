@@ -1,4 +1,6 @@
 // Cumulative lost: its limits, its 24 bits, and the number that they are read as.
+#![tactic(auto, using(crate::proofs::Losses::losses))]
+
 ghost use Rattle.std.specs.Prelude.{◌≡◌, ◌%◌, ◌<◌};
 ghost use Rattle.std.specs.Int.Signed.{mag};
 ghost use Rattle.rfc3550.specs.Loss.{loss_bits, loss_of, loss_in, loss_shown};

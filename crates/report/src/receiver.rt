@@ -1,13 +1,12 @@
 // Receiver reports.
-ghost use Rattle.std.proofs.Common.{rules};
 ghost use Rattle.rfc3550.specs.Read.{RR};
-ghost use Rattle.report.specs.Report.{receiver_view, no_receiver};
+ghost use Rattle.report.specs.Report.{receiver_view};
 ghost use Rattle.report.specs.Reporter.{receiver_places, receiver_laws};
 
 use super::report::{Places, Report};
 
 // The extension lies between the places extension and body, where the padding starts.
-#[derive(Clone, Copy, Default)]
+#[derive(Clone, Copy)]
 pub struct ReceiverReport {
     pub ssrc: u32,
     pub n_reports: usize,
@@ -29,16 +28,13 @@ impl Report for ReceiverReport {
 
     ghost view = { receiver_view };
 
-    ghost none = { no_receiver };
-
     ghost places = { receiver_places };
 
     ghost padding_len = { λ it. it.padding_len };
 
     ghost laws = { receiver_laws };
 
-    ghost default_is_none = { λ x d. Prim.search rules };
-
+    #[tactic(auto, using(crate::proofs::Reports::fields))]
     #[inline(always)]
     fn read_unchecked(s: &[u8], at: Places) -> ReceiverReport {
         ReceiverReport {

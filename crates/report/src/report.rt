@@ -1,9 +1,9 @@
 // What sender and receiver reports have in common: the blocks after the fields, the extension after the blocks, the padding.
-ghost use Rattle.std.specs.Prelude.{◌≡◌, ℕ, ◌-◌, take, drop};
-ghost use Rattle.rfc3550.specs.Answer.{ok, map_ok};
+ghost use Rattle.std.specs.Prelude.{◌≡◌, None, ℕ, ◌-◌, take, drop};
+ghost use Rattle.rfc3550.specs.Answer.{ok, refused, map_ok};
 ghost use Rattle.rfc3550.specs.Packet.{Packet};
 ghost use Rattle.rfc3550.specs.Read.{Kind, read_as, read_block_at};
-ghost use Rattle.utils.specs.Error.{parse_refusal, refusal_in, value_or, parsed_of};
+ghost use Rattle.utils.specs.Error.{parse_refusal, value_in, parsed_of};
 ghost use Rattle.utils.specs.List.{listed_of};
 ghost use Rattle.report.specs.Block.{block_view, lay_blocks};
 ghost use Rattle.report.specs.Report.{report_body, report_blocks};
@@ -22,7 +22,7 @@ pub struct Places {
     pub body: usize,
 }
 
-pub trait Report: Copy + Default {
+pub trait Report: Copy {
     const MIN_PACKET_LEN: usize;
 
     const PACKET_TYPE: u8;
@@ -31,12 +31,10 @@ pub trait Report: Copy + Default {
 
     ghost PACKET_TYPE: { ℕ };
 
-    // The kind that is read, what a report tells of its packet, and what stands for a report that is refused.
+    // The kind that is read, and what a report tells of its packet.
     ghost kind: { Kind };
 
     ghost view: { Packet → Self };
-
-    ghost none: { Self };
 
     ghost places: { Self → Places };
 
@@ -53,50 +51,40 @@ pub trait Report: Copy + Default {
     fn padding_len(self) -> usize
         ensures { result ≡ padding_len self };
 
-    ghost laws: { ReportLaws kind MIN_PACKET_LEN PACKET_TYPE none view places };
+    ghost laws: { ReportLaws kind MIN_PACKET_LEN PACKET_TYPE view places };
 
-    ghost default_is_none: { (x : Self) → Self.is_default x → x ≡ none };
-
-    // The length of the body; 0 where the packet is refused.
-    final fn body_of(s: &[u8]) -> usize
-        ensures { result ≡ value_or 0 report_body (read_as kind s.now) }
+    // The length of the body; None where the packet is refused.
+    final fn body_of(s: &[u8]) -> Option<usize>
+        ensures { result ≡ value_in (map_ok report_body (read_as kind s.now)) }
     {
-        let body = utils::parser::body_of(s, Self::MIN_PACKET_LEN, Self::PACKET_TYPE);
-        if body == 0 {
-            return 0;
-        }
+        let body = utils::parser::body_of(s, Self::MIN_PACKET_LEN, Self::PACKET_TYPE)?;
         let n_reports = utils::parser::parse_count(s) as usize;
         if body < Self::MIN_PACKET_LEN + ReportBlock::EXPECTED_SIZE * n_reports {
-            return 0;
+            return None;
         }
-        body
+        Some(body)
     }
 
-    // Why it is refused; NothingLeft where it is not.
+    // Why a packet that is refused is.
     #[cold]
-    final fn why(s: &[u8]) -> RtcpParseError
-        ensures { parse_refusal result ≡ refusal_in (read_as kind s.now) }
+    final fn why_unchecked(s: &[u8]) -> RtcpParseError
+        requires { value_in (read_as kind s.now) ≡ None }
+        ensures { refused (parse_refusal result) ≡ read_as kind s.now }
     {
-        let actual = utils::parser::body_of(s, Self::MIN_PACKET_LEN, Self::PACKET_TYPE);
-        if actual == 0 {
-            return utils::parser::why_header(s, Self::MIN_PACKET_LEN, Self::PACKET_TYPE);
-        }
+        let Some(actual) = utils::parser::body_of(s, Self::MIN_PACKET_LEN, Self::PACKET_TYPE) else {
+            return utils::parser::why_header_unchecked(s, Self::MIN_PACKET_LEN, Self::PACKET_TYPE);
+        };
         let n_reports = utils::parser::parse_count(s) as usize;
         let expected = Self::MIN_PACKET_LEN + ReportBlock::EXPECTED_SIZE * n_reports;
-        if actual < expected {
-            return RtcpParseError::Truncated { expected, actual };
-        }
-        RtcpParseError::NothingLeft
+        RtcpParseError::Truncated { expected, actual }
     }
 
-    // All 0, where the packet is refused.
-    final fn read(s: &[u8]) -> Self
-        ensures { result ≡ value_or none view (read_as kind s.now) }
+    // None where the packet is refused.
+    #[tactic(auto, using(crate::proofs::Reports::reports))]
+    final fn read(s: &[u8]) -> Option<Self>
+        ensures { result ≡ value_in (map_ok view (read_as kind s.now)) }
     {
-        let body = Self::body_of(s);
-        if body == 0 {
-            return Self::default();
-        }
+        let body = Self::body_of(s)?;
         let n_reports = utils::parser::parse_count(s) as usize;
         let extension = Self::MIN_PACKET_LEN + ReportBlock::EXPECTED_SIZE * n_reports;
         let places = Places {
@@ -104,20 +92,21 @@ pub trait Report: Copy + Default {
             extension,
             body,
         };
-        Self::read_unchecked(s, places)
+        Some(Self::read_unchecked(s, places))
     }
 
+    #[tactic(auto, using(crate::proofs::Reports::reports))]
     final fn parse(s: &[u8]) -> Result<Self, RtcpParseError>
         ensures { parsed_of result ≡ map_ok view (read_as kind s.now) }
     {
-        let report = Self::read(s);
-        if report.places().body == 0 {
-            return Err(Self::why(s));
+        match Self::read(s) {
+            Some(report) => Ok(report),
+            None => Err(Self::why_unchecked(s)),
         }
-        Ok(report)
     }
 
     // The block with an index, from 0.
+    #[tactic(auto, using(crate::proofs::Reports::reports))]
     final fn report_block(s: &[u8], i: usize) -> Result<ReportBlock, RtcpParseError>
         ensures { parsed_of result ≡ map_ok block_view (read_block_at kind s.now i) }
     {
@@ -130,6 +119,7 @@ pub trait Report: Copy + Default {
     }
 
     // All blocks, into three lent lists: a fraction and a loss for each, and the five words that follow.
+    #[tactic(auto, using(crate::proofs::Reports::reports))]
     final fn report_blocks(
         s: &[u8],
         fractions: &mut [u8],

@@ -1,4 +1,6 @@
 // Report blocks.
+#![tactic(auto, using(crate::proofs::Blocks::blocks))]
+
 ghost use Rattle.std.specs.Prelude.{◌≡◌, ◌+◌, ◌*◌, ◌≤◌, ◌<◌, length, drop};
 ghost use Rattle.rfc3550.specs.Answer.{ok, map_ok};
 ghost use Rattle.rfc3550.specs.Bytes.{get};

@@ -1,13 +1,12 @@
 // Sender reports.
-ghost use Rattle.std.proofs.Common.{rules};
 ghost use Rattle.rfc3550.specs.Read.{SR};
-ghost use Rattle.report.specs.Report.{sender_view, no_sender};
+ghost use Rattle.report.specs.Report.{sender_view};
 ghost use Rattle.report.specs.Reporter.{sender_places, sender_laws};
 
 use super::report::{Places, Report};
 
 // The extension lies between the places extension and body, where the padding starts.
-#[derive(Clone, Copy, Default)]
+#[derive(Clone, Copy)]
 pub struct SenderReport {
     pub ssrc: u32,
     pub ntp_timestamp: u64,
@@ -33,16 +32,13 @@ impl Report for SenderReport {
 
     ghost view = { sender_view };
 
-    ghost none = { no_sender };
-
     ghost places = { sender_places };
 
     ghost padding_len = { λ it. it.padding_len };
 
     ghost laws = { sender_laws };
 
-    ghost default_is_none = { λ x d. Prim.search rules };
-
+    #[tactic(auto, using(crate::proofs::Reports::fields))]
     #[inline(always)]
     fn read_unchecked(s: &[u8], at: Places) -> SenderReport {
         SenderReport {

@@ -6,6 +6,3 @@ parse_ssrc-requires c = search fields
 
 pub overflow_sub-result : goal.overflow_sub-result
 overflow_sub-result c = search fields
-
-pub returns : goal.returns
-returns c = search fields

@@ -1,9 +1,6 @@
 use Rattle.rfc3550.proofs.Prelude.{rules}
-use Rattle.report.proofs.Reports.{parsed_past, parsed_at, parsed_block, reports}
+use Rattle.report.proofs.Reports.{parsed_past, parsed_at, parsed_block}
 use Rattle.report.proofs.report.Report.report_block.Goals as goal
-
-pub returns-in_err-report : goal.returns-in_err-report
-returns-in_err-report g c = search reports
 
 pub returns-then-places-i : goal.returns-then-places-i
 returns-then-places-i g c = parsed_past g.met.Self.Report.laws c.args.s.now _ c.in_ok-report.ensures _ c.places.ensures c.args.i c.if-places-i.true

@@ -1,8 +1,5 @@
-use Rattle.report.proofs.Reports.{parsed_within, parsed_blocks, reports}
+use Rattle.report.proofs.Reports.{parsed_within, parsed_blocks}
 use Rattle.report.proofs.report.Report.report_blocks.Goals as goal
-
-pub returns-in_err-report : goal.returns-in_err-report
-returns-in_err-report g c = search reports
 
 pub list_blocks_unchecked-requires : goal.list_blocks_unchecked-requires
 list_blocks_unchecked-requires g c = parsed_within g.met.Self.Report.laws c.args.s.now _ c.in_ok-report.ensures _ c.places-n.ensures _ c.MIN_PACKET_LEN.ensures

@@ -18,6 +18,3 @@ u32_from_be_bytes-requires-3 c = search fields
 
 pub overflow_sub-result : goal.overflow_sub-result
 overflow_sub-result c = search fields
-
-pub returns : goal.returns
-returns c = search fields
