@@ -1,23 +1,26 @@
 -- The turns over a chunk's items and over its closing zeros, and the chunk.
-use Rattle.rfc3550.proofs.Prelude.{ℕ, zero, suc, ◌+◌, ◌-◌, ◌*◌, ◌/◌, ◌%◌, ◌^◌, ◌<◌, ◌≤◌, ◌≡◌, refl, sym, ap, ◌∙◌, subst, ◌≢◌, ◌↔◌, Bool, true, false, ◌&&◌, ◌||◌, ltb, eqb, List, [], ◌∷◌, arith, add-zero, add_assoc, add-one, rules, le-leb, lt-leb, lt-ltb, le-ltb, ltb-true, ltb-false, eq-eqb, ne_eqb, eqb-true, eqb-false, not-true, not-false, length, get_or, take, drop, length-append, length-drop, length-replicate, drop_of_length-le, drop-cons, drop-drop, get_or-drop}
+use Rattle.std.specs.Prelude.{Option, None, Some, is_some, option_map, unwrap_or}
+use Rattle.std.specs.Option.{option_or}
+use Rattle.std.proofs.lemmas.Option.{none-some}
+use Rattle.rfc3550.proofs.Prelude.{ℕ, zero, suc, ◌+◌, ◌-◌, ◌*◌, ◌/◌, ◌%◌, ◌^◌, ◌<◌, ◌≤◌, ◌≡◌, refl, sym, ap, ◌∙◌, subst, ◌≢◌, Bool, true, false, ◌&&◌, ◌||◌, ltb, eqb, List, [], ◌∷◌, arith, add-zero, add_assoc, add-one, rules, le-leb, lt-leb, lt-ltb, le-ltb, ltb-true, ltb-false, eq-eqb, ne_eqb, eqb-true, eqb-false, not-true, not-false, length, get_or, take, drop, length-append, length-drop, length-replicate, drop_of_length-le, drop-cons, drop-drop, get_or-drop}
 use Rattle.rfc3550.specs.Answer.{Refusal, refusal, Answer, ok, refused, refuse, need, ◌>>◌, ◌>>=◌, map_ok, pick}
 use Rattle.rfc3550.specs.Bytes.{val}
 use Rattle.rfc3550.specs.Packet.{Item, item_type, item_rest, item_bytes, items_bytes, is_cname, some, Chunk, chunk_bytes, chunk_has_cname, fill}
 use Rattle.rfc3550.specs.Read.{read_item, read_fill, read_items, read_chunk}
 use Rattle.rfc3550.proofs.Answers.{map_ok_inv, need_inv, bind_elim, ok_injective, refused≢ok, true≢false}
 use Rattle.rfc3550.proofs.Bytes.{length_be}
-use Rattle.utils.specs.Error.{refusal_in, value_or}
-use Rattle.utils.proofs.Values.{value_came, value_is, none_came, none_is}
+use Rattle.utils.specs.Error.{value_in}
+use Rattle.utils.proofs.Values.{value_is, value_found, none_viewed, none_below, refused_viewed}
 use Rattle.sdes_chunk.specs.declared.chunk.SdesChunk.{SdesChunk}
 use Rattle.sdes_chunk.specs.declared.chunk.ChunkEnd.{ChunkEnd}
 use Rattle.sdes_chunk.specs.declared.chunk.Chunks.{Chunks}
 use Rattle.sdes_chunk.specs.Item.{item_end, step_end}
-use Rattle.sdes_chunk.specs.Chunk.{cname_place, chunk_view, chunk_first, no_chunk, zero_at, first_place, first_cname, boundary, filled, chunk_end, no_end, closed_at, closing, filled_end, ItemsEnd, ZerosEnd, chunks_from}
+use Rattle.sdes_chunk.specs.Chunk.{cname_place, chunk_view, chunk_first, zero_at, first_cname, boundary, filled, chunk_end, closed_at, filled_at, ItemsEnd, ZerosEnd, chunks_from}
 use Rattle.sdes_chunk.proofs.Answers.{rest_is, map_ok_lem, map_refused, map_refusal, map_same, map_bind}
 use Rattle.sdes_chunk.proofs.Items.{Steps, steps_not, steps, end_last}
 use Rattle.sdes_chunk.proofs.Readings.{item_in, item_length_lem, item_rest_lem, chunk_in}
 
-abbrev ends : ℕ → List ℕ → Answer ChunkEnd
+abbrev ends : Option ℕ → List ℕ → Answer ChunkEnd
 ends known s = map_ok (chunk_end known) (read_chunk s)
 
 pub boundary_is : (at : ℕ) → at / 4 * 4 + 4 ≡ at + fill at
@@ -25,52 +28,44 @@ boundary_is at = omega arith
 
 -- ---- the first CNAME
 
-first_none : (cname : ℕ) → first_place cname 0 ≡ cname
-first_none zero = refl
-first_none (suc c) = refl
+first_none : (cname : Option ℕ) → option_or cname None ≡ cname
+first_none None = refl
+first_none (Some c) = refl
 
-pub cname_known : (cname at t n : ℕ) (b : Bool) → (cname ≡ 0 → ⊥) → b ≡ is_cname t n → b ≡ true → cname ≡ first_cname cname at t n
-cname_known zero at t n b h e k = absurd (h refl)
-cname_known (suc c) at t n b h e k = refl
+pub cname_here : (r cname : Option ℕ) (at t n : ℕ) (b : Bool) → r ≡ option_or cname (Some at) → b ≡ is_cname t n → b ≡ true → r ≡ first_cname cname at t n
+cname_here r cname at t n b q e h = q ∙ rw (← e, h)
 
-pub cname_here : (cname at t n : ℕ) (b : Bool) → cname ≡ 0 → b ≡ is_cname t n → b ≡ true → at ≡ first_cname cname at t n
-cname_here cname at t n b z e h = rw (z, ← e, h)
-
-pub cname_none : (cname at t n : ℕ) (b : Bool) → b ≡ is_cname t n → b ≡ false → cname ≡ first_cname cname at t n
+pub cname_none : (cname : Option ℕ) (at t n : ℕ) (b : Bool) → b ≡ is_cname t n → b ≡ false → cname ≡ first_cname cname at t n
 cname_none cname at t n b e h = rw (← e, h) (sym (first_none cname))
 
--- one item in front: a place is not 0
-first_step : (cname at p : ℕ) (b : Bool) → 0 < at → first_place cname (pick b at p) ≡ first_place (first_place cname (pick b at 0)) p
-first_step (suc c) at p b h = refl
-first_step zero zero p b h = absurd (omega arith)
-first_step zero (suc n) p true h = refl
-first_step zero (suc n) p false h = refl
+-- one item in front
+first_step : (cname : Option ℕ) (at : ℕ) (p : Option ℕ) (b : Bool) → option_or cname (pick b (Some at) p) ≡ option_or (option_or cname (pick b (Some at) None)) p
+first_step (Some c) at p b = refl
+first_step None at p true = refl
+first_step None at p false = refl
 
-place_step : (b : Bool) (at n : ℕ) (c : Bool) → 0 < at → ltb 0 n ≡ c → ltb 0 (pick b at n) ≡ (b || c)
-place_step true at n c h e = lt-ltb 0 at h
-place_step false at n c h e = e
+place_step : (b : Bool) (at : ℕ) (p : Option ℕ) (c : Bool) → is_some p ≡ c → is_some (pick b (Some at) p) ≡ (b || c)
+place_step true at p c e = refl
+place_step false at p c e = e
 
 -- there is a place of a CNAME exactly if some item is one
-pub place_some : (at : ℕ) (is : List Item) → 0 < at → ltb 0 (cname_place at is) ≡ some (λ (i : Item). is_cname (item_type i) (length (item_rest i))) is
+pub place_some : (at : ℕ) (is : List Item) → is_some (cname_place at is) ≡ some (λ (i : Item). is_cname (item_type i) (length (item_rest i))) is
 unfolding cname_place
-place_some at [] h = refl
-place_some at (i ∷ is) h =
-    place_step (is_cname (item_type i) (length (item_rest i))) at (cname_place (at + length (item_bytes i)) is) _ h (place_some (at + length (item_bytes i)) is (omega arith))
+place_some at [] = refl
+place_some at (i ∷ is) =
+    place_step (is_cname (item_type i) (length (item_rest i))) at (cname_place (at + length (item_bytes i)) is) _ (place_some (at + length (item_bytes i)) is)
 
-pub chunk_cname : (c : Chunk) → ltb 0 (chunk_view c).cname ≡ chunk_has_cname c
-chunk_cname c = place_some 4 c.items (omega arith)
-
-pub cname_iff : (c : Chunk) → (0 < (chunk_view c).cname) ↔ (chunk_has_cname c ≡ true)
-cname_iff c = (λ h. sym (chunk_cname c) ∙ lt-ltb 0 (chunk_view c).cname h, λ e. ltb-true 0 (chunk_view c).cname (chunk_cname c ∙ e))
+pub chunk_cname : (c : Chunk) → is_some (chunk_view c).cname ≡ chunk_has_cname c
+chunk_cname c = place_some 4 c.items
 
 -- ---- the turns over the items
 
 -- the chunk's end, where the items left are those of x and the first of them stands at `at`
-abbrev seen_at : ℕ → ℕ → List Item × List ℕ → ChunkEnd
-seen_at at cname x = record { length = at + length (items_bytes x.0) + fill (at + length (items_bytes x.0)); cname = first_place cname (cname_place at x.0) }
+abbrev seen_at : ℕ → Option ℕ → List Item × List ℕ → ChunkEnd
+seen_at at cname x = record { length = at + length (items_bytes x.0) + fill (at + length (items_bytes x.0)); cname = option_or cname (cname_place at x.0) }
 
 -- what is known before each turn: the items that are left give the answer. An item takes two bytes at least, so the bytes left are enough turns
-pub record Going (s : List ℕ) (known at cname : ℕ) : Type 0 where
+pub record Going (s : List ℕ) (known : Option ℕ) (at : ℕ) (cname : Option ℕ) : Type 0 where
   pub turns : ℕ
   pub enough : length s - at ≤ turns
   pub start : 4 ≤ at
@@ -81,7 +76,7 @@ chunk_size_lem : (c : Chunk) → length (chunk_bytes c) ≡ 4 + length (items_by
 unfolding chunk_bytes
 chunk_size_lem c = simp (length-append, length_be, length-replicate) (omega arith)
 
-pub items_start : (s : List ℕ) (known : ℕ) → 4 ≤ length s → Going s known 4 known
+pub items_start : (s : List ℕ) (known : Option ℕ) → 4 ≤ length s → Going s known 4 known
 unfolding read_chunk need ◌>>◌
 items_start s known h =
     record {
@@ -94,7 +89,7 @@ items_start s known h =
           ∙ map_same _ _ (read_items (length s) 4 (drop 4 s)) (λ x. rw (chunk_size_lem (record { ssrc = val (take 4 s); items = x.0 }))));
     }
 
-items_closed₁ : (t : ℕ) (s : List ℕ) (at cname : ℕ) → length s - at ≤ t → at < length s → get_or s at 0 ≡ 0
+items_closed₁ : (t : ℕ) (s : List ℕ) (at : ℕ) (cname : Option ℕ) → length s - at ≤ t → at < length s → get_or s at 0 ≡ 0
     → map_ok (closed_at at cname) (read_fill (fill at) at (drop at s)) ≡ map_ok (seen_at at cname) (read_items t at (drop at s))
 unfolding read_items items_bytes cname_place
 items_closed₁ zero s at cname h l z = absurd (omega arith)
@@ -104,7 +99,7 @@ items_closed₁ (suc t) s at cname h l z =
     ∙ map_same _ _ (read_fill (fill at) at (0 ∷ drop (suc at) s)) (λ r. rw (add-zero at, first_none cname))))
 
 -- no byte is left: the items are refused as the zeros are
-items_ended₁ : (t : ℕ) (s : List ℕ) (at cname : ℕ) → length s ≤ at
+items_ended₁ : (t : ℕ) (s : List ℕ) (at : ℕ) (cname : Option ℕ) → length s ≤ at
     → map_ok (closed_at at cname) (read_fill (fill at) at (drop at s)) ≡ map_ok (seen_at at cname) (read_items t at (drop at s))
 unfolding read_fill read_items map_ok
 items_ended₁ zero s at cname l = let n : fill at ≡ suc (3 - at % 4) = omega arith in rw (drop_of_length-le s l, n)
@@ -118,7 +113,7 @@ items_first t at [] l h = absurd (omega arith)
 items_first t at (zero ∷ bs) l h = absurd (h refl)
 items_first t at (suc b ∷ bs) l h = refl
 
-module _ (t : ℕ) (s : List ℕ) (at cname : ℕ) (l : at < length s) (z : get_or s at 0 ≡ 0 → ⊥) where
+module _ (t : ℕ) (s : List ℕ) (at : ℕ) (cname : Option ℕ) (l : at < length s) (z : get_or s at 0 ≡ 0 → ⊥) where
   first_here : read_items (suc t) at (drop at s)
       ≡ ◌>>=◌ {B = List Item × List ℕ} (read_item (drop at s)) (λ x. ◌>>=◌ {B = List Item × List ℕ} (read_items t (at + length (item_bytes x.0)) x.1) (λ y. ok (x.0 ∷ y.0, y.1)))
   first_here = items_first t at (drop at s) (rw length-drop (omega arith)) (rw (drop-cons s at 0 l) z)
@@ -127,11 +122,11 @@ module _ (t : ℕ) (s : List ℕ) (at cname : ℕ) (l : at < length s) (z : get_
   unfolding ◌>>=◌ map_ok
   items_refused₁ k e = rw (first_here, e)
 
-  items_again₁ : (x : Item × List ℕ) → 0 < at → read_item (drop at s) ≡ ok x
+  items_again₁ : (x : Item × List ℕ) → read_item (drop at s) ≡ ok x
       → map_ok (seen_at at cname) (read_items (suc t) at (drop at s))
       ≡ map_ok (seen_at (at + length (item_bytes x.0)) (first_cname cname at (item_type x.0) (length (item_rest x.0)))) (read_items t (at + length (item_bytes x.0)) (drop (at + length (item_bytes x.0)) s))
   unfolding ◌>>=◌ items_bytes cname_place
-  items_again₁ x p e =
+  items_again₁ x e =
       let r : x.1 ≡ drop (at + length (item_bytes x.0)) s = item_rest_lem (drop at s) e ∙ drop-drop (length (item_bytes x.0)) at s in
       rw (first_here, e)
       (map_bind (seen_at at cname) (λ (y : List Item × List ℕ). (x.0 ∷ y.0, y.1)) (read_items t (at + length (item_bytes x.0)) x.1)
@@ -139,7 +134,7 @@ module _ (t : ℕ) (s : List ℕ) (at cname : ℕ) (l : at < length s) (z : get_
       rw (
         length-append (item_bytes x.0) (items_bytes y.0),
         ← add_assoc at (length (item_bytes x.0)) (length (items_bytes y.0)),
-        first_step cname at (cname_place (at + length (item_bytes x.0)) y.0) (is_cname (item_type x.0) (length (item_rest x.0))) p,
+        first_step cname at (cname_place (at + length (item_bytes x.0)) y.0) (is_cname (item_type x.0) (length (item_rest x.0))),
       ))
       ∙ ap (λ (bs : List ℕ). map_ok (seen_at (at + length (item_bytes x.0)) (first_cname cname at (item_type x.0) (length (item_rest x.0)))) (read_items t (at + length (item_bytes x.0)) bs)) r)
 
@@ -149,36 +144,50 @@ zero_behind s at l = rw (le-ltb at (length s) l)
 pub zero_inside : (s : List ℕ) (at : ℕ) (b : Bool) → at < length s → b ≡ eqb (get_or s at 0) 0 → b ≡ zero_at s at
 zero_inside s at b l e = rw (lt-ltb at (length s) l) e
 
-module _ (s : List ℕ) (known at cname : ℕ) (g : Going s known at cname) where
+module _ (s : List ℕ) (known : Option ℕ) (at : ℕ) (cname : Option ℕ) (g : Going s known at cname) where
   -- no byte is left
   items_ended : length s ≤ at → ItemsEnd s known at cname false
   unfolding read_fill map_ok
   items_ended l =
-      let e : at ≡ length s = omega (arith, g.within) in
       let n : fill at ≡ suc (3 - at % 4) = omega arith in
       let w : read_fill (fill at) at (drop at s) ≡ refuse 2 (at + fill at) at = rw (drop_of_length-le s l, n) in
       record {
         within = g.within;
         zero = λ e. absurd (true≢false (sym e));
-        closes =
-            rw (eq-eqb at (length s) e)
+        closes = λ e. absurd (true≢false (sym e));
+        ended = λ e q.
+            map_refusal (chunk_end known) (read_chunk s) _
             (sym (map_refused (closed_at at cname) (read_fill (fill at) at (drop at s)) w) ∙ items_ended₁ g.turns s at cname l ∙ sym g.same);
+        item = λ e q. absurd (q (omega (arith, g.within)));
       }
 
   items_closed : at < length s → get_or s at 0 ≡ 0 → ItemsEnd s known at cname true
-  items_closed l z = record { within = g.within; zero = λ e. (l, z); closes = items_closed₁ g.turns s at cname g.enough l z ∙ sym g.same }
+  items_closed l z =
+      record {
+        within = g.within;
+        zero = λ e. (l, z);
+        closes = λ e. items_closed₁ g.turns s at cname g.enough l z ∙ sym g.same;
+        ended = λ e. absurd (true≢false e);
+        item = λ e. absurd (true≢false e);
+      }
 
-  items_refused : at < length s → (get_or s at 0 ≡ 0 → ⊥) → read_item (drop at s) ≡ refused (refusal_in (read_item (drop at s))) → ItemsEnd s known at cname false
-  items_refused l z e =
-      record { within = g.within; zero = λ e. absurd (true≢false (sym e)); closes = rw (ne_eqb at (length s) (omega arith)) (go g.turns g.enough ∙ sym g.same) }
+  items_refused : at < length s → (get_or s at 0 ≡ 0 → ⊥) → (r : Refusal) × (read_item (drop at s) ≡ refused r) → ItemsEnd s known at cname false
+  items_refused l z w =
+      record {
+        within = g.within;
+        zero = λ e. absurd (true≢false (sym e));
+        closes = λ e. absurd (true≢false (sym e));
+        ended = λ e q. absurd (omega arith);
+        item = λ e q. (w.0, w.1, map_refusal (chunk_end known) (read_chunk s) w.0 (go g.turns g.enough ∙ sym g.same));
+      }
     where
-      go : (t : ℕ) → length s - at ≤ t → refused (refusal_in (read_item (drop at s))) ≡ map_ok (seen_at at cname) (read_items t at (drop at s))
+      go : (t : ℕ) → length s - at ≤ t → refused w.0 ≡ map_ok (seen_at at cname) (read_items t at (drop at s))
       go zero m = absurd (omega arith)
-      go (suc t) m = items_refused₁ t s at cname l z _ e
+      go (suc t) m = items_refused₁ t s at cname l z _ w.1
 
-  module _ (n : ℕ) (h : n ≡ step_end s at) where
-    items_stop : (b : Bool) → n ≡ 0 → b ≡ zero_at s at → ItemsEnd s known at cname b
-    items_stop b e q = subst (ItemsEnd s known at cname) (sym q) (go (ltb at (length s)) (eqb (get_or s at 0) 0) refl refl)
+  module _ (h : None ≡ step_end s at) where
+    items_stop : (b : Bool) → b ≡ zero_at s at → ItemsEnd s known at cname b
+    items_stop b q = subst (ItemsEnd s known at cname) (sym q) (go (ltb at (length s)) (eqb (get_or s at 0) 0) refl refl)
       where
         go : (x y : Bool) → ltb at (length s) ≡ x → eqb (get_or s at 0) 0 ≡ y → ItemsEnd s known at cname (x && y)
         go false y f k = items_ended (ltb-false at (length s) f)
@@ -186,55 +195,55 @@ module _ (s : List ℕ) (known at cname : ℕ) (g : Going s known at cname) wher
         go true false f k =
             let l = ltb-true at (length s) f in
             let z = eqb-false (get_or s at 0) 0 k in
-            items_refused l z (steps_not s at n h e l z)
+            items_refused l z (steps_not s at h l z)
 
     -- where two bytes are left
-    pub items_halt : (b : Bool) → n ≡ 0 → 4 ≤ length s → at ≤ length s - 2 → b ≡ eqb (get_or s at 0) 0 → ItemsEnd s known at cname b
-    items_halt b e l k q = items_stop b e (zero_inside s at b (omega arith) q)
+    pub items_halt : (b : Bool) → 4 ≤ length s → at ≤ length s - 2 → b ≡ eqb (get_or s at 0) 0 → ItemsEnd s known at cname b
+    items_halt b l k q = items_stop b (zero_inside s at b (omega arith) q)
 
-    module _ (p : n ≡ 0 → ⊥) where
-      on : Steps s at n
-      on = steps s at n h p
+  module _ (n : ℕ) (h : Some n ≡ step_end s at) where
+    on : Steps s at n
+    on = steps s at n h
 
-      next : (at + 2 ≤ n) × (n ≤ length s)
-      next = let w = on in omega (arith, w.end, item_length_lem (drop at s) w.reads, length-drop at s)
+    next : (at + 2 ≤ n) × (n ≤ length s)
+    next = let w = on in omega (arith, w.end, item_length_lem (drop at s) w.reads, length-drop at s)
 
-      pub items_inside : at < length s
-      items_inside = on.inside
+    pub items_inside : at < length s
+    items_inside = on.inside
 
-      pub items_after : at ≤ n
-      items_after = let w = next in omega arith
+    pub items_after : at ≤ n
+    items_after = let w = next in omega arith
 
-      pub items_two : 2 ≤ n - at
-      items_two = let w = next in omega arith
+    pub items_two : 2 ≤ n - at
+    items_two = let w = next in omega arith
 
-      pub items_less : length s - n < length s - at
-      items_less = let w = next in let l = items_inside in omega arith
+    pub items_less : length s - n < length s - at
+    items_less = let w = next in let l = items_inside in omega arith
 
-      pub items_again : (c : ℕ) → c ≡ first_cname cname at (get_or s at 0) (n - at - 2) → Going s known n c
-      items_again c q = go on.read on.reads on.end g.turns g.enough g.same
-        where
-          go : (x : Item × List ℕ) → read_item (drop at s) ≡ ok x → item_end at x ≡ n
-              → (t : ℕ) → length s - at ≤ t → ends known s ≡ map_ok (seen_at at cname) (read_items t at (drop at s)) → Going s known n c
-          go x r m zero b d = let l = items_inside in absurd (omega arith)
-          go x r m (suc t) b d =
-              let w = next in
-              let y : get_or s at 0 ≡ item_type x.0 =
-              ap (λ (k : ℕ). get_or s k 0) (sym (add-zero at)) ∙ sym (get_or-drop at s 0 0) ∙ ap (λ (s : List ℕ). get_or s 0 0) (sym (item_in (drop at s) r).bytes) in
-              let f : n - at - 2 ≡ length (item_rest x.0) = omega arith in
-              let k : c ≡ first_cname cname at (item_type x.0) (length (item_rest x.0)) =
-              q ∙ ap (λ (t : ℕ). first_cname cname at t (n - at - 2)) y ∙ ap (first_cname cname at (item_type x.0)) f in
-              record {
-                turns = t;
-                enough = omega arith;
-                start = omega (arith, g.start);
-                within = w.1;
-                same = rw (k, ← m) (d ∙ items_again₁ t s at cname items_inside on.item x (omega (arith, g.start)) r);
-              }
+    pub items_again : (c : Option ℕ) → c ≡ first_cname cname at (get_or s at 0) (n - at - 2) → Going s known n c
+    items_again c q = go on.read on.reads on.end g.turns g.enough g.same
+      where
+        go : (x : Item × List ℕ) → read_item (drop at s) ≡ ok x → item_end at x ≡ n
+            → (t : ℕ) → length s - at ≤ t → ends known s ≡ map_ok (seen_at at cname) (read_items t at (drop at s)) → Going s known n c
+        go x r m zero b d = let l = items_inside in absurd (omega arith)
+        go x r m (suc t) b d =
+            let w = next in
+            let y : get_or s at 0 ≡ item_type x.0 =
+            ap (λ (k : ℕ). get_or s k 0) (sym (add-zero at)) ∙ sym (get_or-drop at s 0 0) ∙ ap (λ (s : List ℕ). get_or s 0 0) (sym (item_in (drop at s) r).bytes) in
+            let f : n - at - 2 ≡ length (item_rest x.0) = omega arith in
+            let k : c ≡ first_cname cname at (item_type x.0) (length (item_rest x.0)) =
+            q ∙ ap (λ (t : ℕ). first_cname cname at t (n - at - 2)) y ∙ ap (first_cname cname at (item_type x.0)) f in
+            record {
+              turns = t;
+              enough = omega arith;
+              start = omega (arith, g.start);
+              within = w.1;
+              same = rw (k, ← m) (d ∙ items_again₁ t s at cname items_inside on.item x r);
+            }
 
   -- where a single byte is left, or none
   pub items_rest : (b : Bool) → length s - 2 < at → b ≡ zero_at s at → ItemsEnd s known at cname b
-  items_rest b l q = items_stop 0 (end_last s at l) b refl q
+  items_rest b l q = items_stop (end_last s at l) b q
 
 -- ---- the turns over the closing zeros
 
@@ -315,26 +324,32 @@ module _ (s : List ℕ) (from end at : ℕ) (g : Closing s from end at) where
 -- ---- whether they stand up to the boundary
 
 module _ (s : List ℕ) (from end : ℕ) where
-  answer_filled : (at : ℕ) → closes s from ≡ filled end at → pick (ltb at end) 0 end ≡ filled_end s from
+  answer_full : closes s from ≡ ok end → true ≡ filled_at s from
   unfolding map_ok
-  answer_filled at e = go (ltb at end) (read_fill (fill from) from (drop from s)) e
+  answer_full e = go (read_fill (fill from) from (drop from s)) e
     where
-      go : (b : Bool) (m : Answer (List ℕ)) → map_ok (boundary from) m ≡ pick b (refuse 2 end at) (ok end) → pick b 0 end ≡ value_or 0 (boundary from) m
-      go true (ok r) e = absurd (refused≢ok (sym e))
-      go true (refused r) e = refl
-      go false (ok r) e = sym (ok_injective e)
-      go false (refused r) e = absurd (refused≢ok e)
+      go : (m : Answer (List ℕ)) → map_ok (boundary from) m ≡ ok end → true ≡ is_some (value_in m)
+      go (ok r) e = refl
+      go (refused r) e = absurd (refused≢ok e)
+
+  answer_short : (at : ℕ) → closes s from ≡ refuse 2 end at → false ≡ filled_at s from
+  unfolding map_ok
+  answer_short at e = go (read_fill (fill from) from (drop from s)) e
+    where
+      go : (m : Answer (List ℕ)) → map_ok (boundary from) m ≡ refuse 2 end at → false ≡ is_some (value_in m)
+      go (ok r) e = absurd (refused≢ok (sym e))
+      go (refused r) e = refl
 
   module _ (l : end ≤ length s) (at : ℕ) (g : Closing s from end at) where
-    all : at ≡ end → pick true end 0 ≡ filled_end s from
-    all e = rw (le-ltb end end (omega arith)) at (answer_filled end (zeros_all s from end at g (omega arith)))
+    all : at ≡ end → true ≡ filled_at s from
+    all e = answer_full (zeros_all s from end at g (omega arith) ∙ rw (le-ltb end end (omega arith)))
 
     module _ (n : at ≡ end → ⊥) where
       before : (at < end) × (at < length s)
       before = omega (arith, g.before)
 
-      one_not : (get_or s at 0 ≡ 0 → ⊥) → pick false end 0 ≡ filled_end s from
-      one_not z = rw (lt-ltb at end before.0) at (answer_filled at (zeros_stop s from end at g before.0 before.1 z))
+      one_not : (get_or s at 0 ≡ 0 → ⊥) → false ≡ filled_at s from
+      one_not z = answer_short at (zeros_stop s from end at g before.0 before.1 z ∙ rw (lt-ltb at end before.0))
 
       more : get_or s at 0 ≡ 0 → Closing s from end (at + 1)
       more z = zeros_more s from end at g before.0 before.1 z
@@ -344,45 +359,45 @@ module _ (s : List ℕ) (from end : ℕ) where
     g₁ : Closing s from end (from + 1)
     g₁ = zeros_behind s from end (omega arith) z e
 
-    pub filled_one : from + 1 ≡ end → pick true end 0 ≡ filled_end s from
+    pub filled_one : from + 1 ≡ end → true ≡ filled_at s from
     filled_one = all l (from + 1) g₁
 
     module _ (n₁ : from + 1 ≡ end → ⊥) where
       pub second_inside : from + 1 < length s
       second_inside = (before l (from + 1) g₁ n₁).1
 
-      pub second_not : (get_or s (from + 1) 0 ≡ 0 → ⊥) → pick false end 0 ≡ filled_end s from
+      pub second_not : (get_or s (from + 1) 0 ≡ 0 → ⊥) → false ≡ filled_at s from
       second_not = one_not l (from + 1) g₁ n₁
 
       module _ (z₁ : get_or s (from + 1) 0 ≡ 0) where
         g₂ : Closing s from end (from + 1 + 1)
         g₂ = more l (from + 1) g₁ n₁ z₁
 
-        pub filled_two : from + 1 + 1 ≡ end → pick true end 0 ≡ filled_end s from
+        pub filled_two : from + 1 + 1 ≡ end → true ≡ filled_at s from
         filled_two = all l (from + 1 + 1) g₂
 
         module _ (n₂ : from + 1 + 1 ≡ end → ⊥) where
           pub third_inside : from + 1 + 1 < length s
           third_inside = (before l (from + 1 + 1) g₂ n₂).1
 
-          pub third_not : (get_or s (from + 1 + 1) 0 ≡ 0 → ⊥) → pick false end 0 ≡ filled_end s from
+          pub third_not : (get_or s (from + 1 + 1) 0 ≡ 0 → ⊥) → false ≡ filled_at s from
           third_not = one_not l (from + 1 + 1) g₂ n₂
 
           module _ (z₂ : get_or s (from + 1 + 1) 0 ≡ 0) where
             g₃ : Closing s from end (from + 1 + 1 + 1)
             g₃ = more l (from + 1 + 1) g₂ n₂ z₂
 
-            pub filled_three : from + 1 + 1 + 1 ≡ end → pick true end 0 ≡ filled_end s from
+            pub filled_three : from + 1 + 1 + 1 ≡ end → true ≡ filled_at s from
             filled_three = all l (from + 1 + 1 + 1) g₃
 
             module _ (n₃ : from + 1 + 1 + 1 ≡ end → ⊥) where
               pub fourth_inside : from + 1 + 1 + 1 < length s
               fourth_inside = (before l (from + 1 + 1 + 1) g₃ n₃).1
 
-              pub filled_last : (b : Bool) → b ≡ eqb (get_or s (from + 1 + 1 + 1) 0) 0 → pick b end 0 ≡ filled_end s from
+              pub filled_last : (b : Bool) → b ≡ eqb (get_or s (from + 1 + 1 + 1) 0) 0 → b ≡ filled_at s from
               filled_last b q = rw q (go (eqb (get_or s (from + 1 + 1 + 1) 0) 0) refl)
                 where
-                  go : (t : Bool) → eqb (get_or s (from + 1 + 1 + 1) 0) 0 ≡ t → pick t end 0 ≡ filled_end s from
+                  go : (t : Bool) → eqb (get_or s (from + 1 + 1 + 1) 0) 0 ≡ t → t ≡ filled_at s from
                   go true y =
                       all l (from + 1 + 1 + 1 + 1) (more l (from + 1 + 1 + 1) g₃ n₃ (eqb-true (get_or s (from + 1 + 1 + 1) 0) 0 y))
                       (omega (arith, (before l (from + 1 + 1 + 1) g₃ n₃).0))
@@ -406,43 +421,45 @@ short s h = rw (lt-leb 4 (length s) h)
 least_long : (s : List ℕ) {x : Chunk × List ℕ} → read_chunk s ≡ ok x → 8 ≤ length s
 least_long s {x} e = omega (arith, chunk_size_lem x.0, (chunk_in s e).size)
 
-pub none_short : (s : List ℕ) (known : ℕ) (c : ChunkEnd) → c ≡ no_end → length s < 8 → c ≡ value_or no_end (chunk_end known) (read_chunk s)
-none_short s known c q h = q ∙ go (read_chunk s) refl
+pub none_short : (s : List ℕ) (known : Option ℕ) → length s < 8 → None ≡ value_in (ends known s)
+unfolding map_ok
+none_short s known h = go (read_chunk s) refl
   where
-    go : (m : Answer (Chunk × List ℕ)) → read_chunk s ≡ m → no_end ≡ value_or no_end (chunk_end known) m
+    go : (m : Answer (Chunk × List ℕ)) → read_chunk s ≡ m → None ≡ value_in (map_ok (chunk_end known) m)
     go (ok x) e = absurd (omega (arith, least_long s e))
     go (refused r) e = refl
 
-pub why_short : (s : List ℕ) → length s < 4 → refusal 2 4 (length s) ≡ refusal_in (read_chunk s)
-why_short s h = sym (ap refusal_in (short s h))
+pub why_short : (s : List ℕ) → length s < 4 → refused (refusal 2 4 (length s)) ≡ read_chunk s
+why_short s h = sym (short s h)
 
--- a number of the answer, from the answer as it is seen
-seen_none : (known : ℕ) (m : Answer (Chunk × List ℕ)) (k : Refusal) → refused k ≡ map_ok (chunk_end known) m → (no_end ≡ value_or no_end (chunk_end known) m) × (k ≡ refusal_in m)
-seen_none known m k e = let w = map_refusal (chunk_end known) m k e in (sym (ap (value_or no_end (chunk_end known)) w), sym (ap refusal_in w))
-
-seen_read : (known : ℕ) (m : Answer (Chunk × List ℕ)) (c : ChunkEnd) → ok c ≡ map_ok (chunk_end known) m → (c ≡ value_or no_end (chunk_end known) m) × (refusal 25 0 0 ≡ refusal_in m)
-seen_read known m c e = let w = map_ok_inv (chunk_end known) m (sym e) in (sym (ap (value_or no_end (chunk_end known)) w.1 ∙ w.2), sym (ap refusal_in w.1))
-
-module _ (s : List ℕ) (known at cname : ℕ) (b : Bool) (h : ItemsEnd s known at cname b) where
+module _ (s : List ℕ) (known : Option ℕ) (at : ℕ) (cname : Option ℕ) (b : Bool) (h : ItemsEnd s known at cname b) where
   pub chunk_within : at ≤ length s
   chunk_within = h.within
 
+  none_of : (r : Refusal) → read_chunk s ≡ refused r → None ≡ value_in (ends known s)
+  none_of r w = sym (ap value_in (map_refused (chunk_end known) (read_chunk s) w))
+
   module _ (e : b ≡ false) where
-    unclosed : closing s at cname false ≡ ends known s
-    unclosed = rw e at h.closes
-
-    pub none_open : (c : ChunkEnd) → c ≡ no_end → c ≡ value_or no_end (chunk_end known) (read_chunk s)
-    none_open c q = q ∙ go (eqb at (length s)) refl
+    pub none_open : None ≡ value_in (ends known s)
+    none_open = go (eqb at (length s)) refl
       where
-        go : (t : Bool) → eqb at (length s) ≡ t → no_end ≡ value_or no_end (chunk_end known) (read_chunk s)
-        go true y = (seen_none known (read_chunk s) _ (rw y at unclosed)).0
-        go false y = (seen_none known (read_chunk s) _ (rw y at unclosed)).0
+        go : (t : Bool) → eqb at (length s) ≡ t → None ≡ value_in (ends known s)
+        go true y = none_of _ (h.ended e (eqb-true at (length s) y))
+        go false y = let w = h.item e (eqb-false at (length s) y) in none_of w.0 w.2
 
-    pub why_ended : (end : ℕ) → end ≡ at + fill at → at ≡ length s → refusal 2 end at ≡ refusal_in (read_chunk s)
-    why_ended end q y = rw q (seen_none known (read_chunk s) _ (rw (eq-eqb at (length s) y) at unclosed)).1
+    pub why_ended : (end : ℕ) → end ≡ at + fill at → at ≡ length s → refused (refusal 2 end at) ≡ read_chunk s
+    why_ended end q y = rw q (sym (h.ended e y))
 
-    pub why_item : (k : Refusal) → (at ≡ length s → ⊥) → k ≡ refusal_in (read_item (take (length s - at) (drop at s))) → k ≡ refusal_in (read_chunk s)
-    why_item k z q = q ∙ ap (λ (s : List ℕ). refusal_in (read_item s)) (rest_is s at) ∙ (seen_none known (read_chunk s) _ (rw (ne_eqb at (length s) z) at unclosed)).1
+    module _ (z : at ≡ length s → ⊥) where
+      pub item_asked : value_in (read_item (take (length s - at) (drop at s))) ≡ None
+      item_asked = let w = h.item e z in ap (λ (s : List ℕ). value_in (read_item s)) (rest_is s at) ∙ ap value_in w.1
+
+      pub why_item : (k : Refusal) → refused k ≡ read_item (take (length s - at) (drop at s)) → refused k ≡ read_chunk s
+      why_item k q =
+          let w = h.item e z in
+          let y : refused k ≡ refused w.0 = q ∙ ap read_item (rest_is s at) ∙ w.1 in
+          let r = w.2 in
+          cc
 
   module _ (e : b ≡ true) where
     pub chunk_inside : at < length s
@@ -452,126 +469,132 @@ module _ (s : List ℕ) (known at cname : ℕ) (b : Bool) (h : ItemsEnd s known 
     chunk_zero = (h.zero e).1
 
     shut : map_ok (closed_at at cname) (read_fill (fill at) at (drop at s)) ≡ ends known s
-    shut = rw e at h.closes
+    shut = h.closes e
 
-    pub none_cut : (c : ChunkEnd) (end : ℕ) → c ≡ no_end → end ≡ at + fill at → length s < end → c ≡ value_or no_end (chunk_end known) (read_chunk s)
-    none_cut c end q y l =
-        let w = fill_short (fill at) at (drop at s) (rw length-drop (omega arith)) in
-        q ∙ (seen_none known (read_chunk s) _ (sym (map_refused (closed_at at cname) (read_fill (fill at) at (drop at s)) w.1) ∙ shut)).0
+    -- the zeros are refused, and so the chunk is
+    unfilled : (r : Refusal) → read_fill (fill at) at (drop at s) ≡ refused r → read_chunk s ≡ refused r
+    unfilled r w = map_refusal (chunk_end known) (read_chunk s) r (sym (map_refused (closed_at at cname) (read_fill (fill at) at (drop at s)) w) ∙ shut)
+
+    pub none_cut : (end : ℕ) → end ≡ at + fill at → length s < end → None ≡ value_in (ends known s)
+    none_cut end y l = let w = fill_short (fill at) at (drop at s) (rw length-drop (omega arith)) in none_of w.0 (unfilled w.0 w.1)
 
     -- zeros stand up to the boundary
     closed_up : {end : ℕ} → (x : List ℕ) × (read_fill (fill at) at (drop at s) ≡ ok x) × (boundary at x ≡ end) → ok (record { length = end; cname = cname }) ≡ ends known s
     closed_up w = rw (← w.2) (sym (map_ok_lem (closed_at at cname) (read_fill (fill at) at (drop at s)) w.1) ∙ shut)
 
-    module _ (end r : ℕ) (f : ZerosEnd s at end r) where
-      stops : r < end → refused (refusal 2 end r) ≡ ends known s
-      stops l =
-          let w : read_fill (fill at) at (drop at s) ≡ refused (refusal 2 end r) = map_refusal (boundary at) (read_fill (fill at) at (drop at s)) (refusal 2 end r) (sym (rw (lt-ltb r end l) at f.closes)) in
-          sym (map_refused (closed_at at cname) (read_fill (fill at) at (drop at s)) w) ∙ shut
+    -- of a chunk that is refused they do not
+    pub why_zeros : (end r : ℕ) → ZerosEnd s at end r → value_in (read_chunk s) ≡ None → refused (refusal 2 end r) ≡ read_chunk s
+    why_zeros end r f n = go (ltb r end) refl
+      where
+        go : (t : Bool) → ltb r end ≡ t → refused (refusal 2 end r) ≡ read_chunk s
+        go true y = sym (unfilled _ (map_refusal (boundary at) (read_fill (fill at) at (drop at s)) (refusal 2 end r) (sym (rw y at f.closes))))
+        go false y =
+            let w = map_ok_inv (boundary at) (read_fill (fill at) at (drop at s)) (rw y at f.closes) in
+            absurd (none-some _ (none_viewed (chunk_end known) (read_chunk s) n ∙ sym (value_found (ends known s) _ (closed_up w))))
 
-      pub why_zeros : (r ≡ end → ⊥) → refusal 2 end r ≡ refusal_in (read_chunk s)
-      why_zeros n = (seen_none known (read_chunk s) _ (stops (omega (arith, f.below)))).1
+    module _ (end : ℕ) (t : Bool) (f : t ≡ filled_at s at) (y : end ≡ at + fill at) where
+      pub none_zeros : t ≡ false → None ≡ value_in (ends known s)
+      none_zeros n = go (read_fill (fill at) at (drop at s)) refl (sym n ∙ f)
+        where
+          go : (m : Answer (List ℕ)) → read_fill (fill at) at (drop at s) ≡ m → false ≡ is_some (value_in m) → None ≡ value_in (ends known s)
+          go (ok x) q e = absurd (true≢false (sym e))
+          go (refused r) q e = none_of r (unfilled r q)
 
-      pub why_read : r ≡ end → refusal 25 0 0 ≡ refusal_in (read_chunk s)
-      why_read e = (seen_read known (read_chunk s) _ (closed_up (map_ok_inv (boundary at) (read_fill (fill at) at (drop at s)) (rw (le-ltb r end (omega arith)) at f.closes)))).1
-
-    module _ (end : ℕ) (t : Bool) (f : pick t end 0 ≡ filled_end s at) (y : end ≡ at + fill at) where
-      pub none_zeros : (c : ChunkEnd) → c ≡ no_end → t ≡ false → c ≡ value_or no_end (chunk_end known) (read_chunk s)
-      none_zeros c q n =
-          let w = none_came 0 (boundary at) (λ n. n) refl (λ r. omega arith) (read_fill (fill at) at (drop at s)) 0 (rw n at f) refl in
-          q ∙ (seen_none known (read_chunk s) _ (sym (map_refused (closed_at at cname) (read_fill (fill at) at (drop at s)) w) ∙ shut)).0
-
-      pub chunk_ends : t ≡ true → record { length = end; cname = cname } ≡ value_or no_end (chunk_end known) (read_chunk s)
-      chunk_ends n = (seen_read known (read_chunk s) _ (closed_up (value_came 0 (boundary at) (λ n. n) refl (read_fill (fill at) at (drop at s)) end (rw n at f) (λ z. absurd (omega arith))))).0
+      pub chunk_ends : t ≡ true → Some (record { length = end; cname = cname }) ≡ value_in (ends known s)
+      chunk_ends n = go (read_fill (fill at) at (drop at s)) refl (sym n ∙ f)
+        where
+          go : (m : Answer (List ℕ)) → read_fill (fill at) at (drop at s) ≡ m → true ≡ is_some (value_in m) → Some (record { length = end; cname = cname }) ≡ value_in (ends known s)
+          go (ok x) q e = value_found (ends known s) _ (closed_up (x, q, sym y))
+          go (refused r) q e = absurd (true≢false e)
 
 -- ---- chunks one after the other
 
-end_long : (known : ℕ) (x : Chunk × List ℕ) → 0 < (chunk_end known x).length
-end_long known x = omega (arith, chunk_size_lem x.0)
-
 -- what is known before each turn: the chunks that are left give the answer
-pub record Running (s : List ℕ) (n at left cname : ℕ) : Type 0 where
+pub record Running (s : List ℕ) (n at left : ℕ) (cname : Option ℕ) : Type 0 where
   pub within : at ≤ length s
-  pub same : chunks_from n 0 0 s ≡ chunks_from left at cname (drop at s)
+  pub same : chunks_from n 0 None s ≡ chunks_from left at cname (drop at s)
 
-pub run_start : (s : List ℕ) (n : ℕ) → Running s n 0 n 0
+pub run_start : (s : List ℕ) (n : ℕ) → Running s n 0 n None
 run_start s n = record { within = omega arith; same = refl }
 
-run_refused₁ : (t at cname : ℕ) (s : List ℕ) (k : Refusal) → 0 < t → read_chunk s ≡ refused k → record { at = at; left = t; cname = cname } ≡ chunks_from t at cname s
+run_refused₁ : (t at : ℕ) (cname : Option ℕ) (s : List ℕ) → 0 < t → value_in (read_chunk s) ≡ None → record { at = at; left = t; cname = cname } ≡ chunks_from t at cname s
 unfolding chunks_from
-run_refused₁ zero at cname s k l e = absurd (omega arith)
-run_refused₁ (suc t) at cname s k l e = rw e
+run_refused₁ zero at cname s l e = absurd (omega arith)
+run_refused₁ (suc t) at cname s l e = rw e
 
-run_again₁ : (t at cname : ℕ) (s : List ℕ) (x : Chunk × List ℕ) → 0 < t → read_chunk s ≡ ok x
+run_again₁ : (t at : ℕ) (cname : Option ℕ) (s : List ℕ) (x : Chunk × List ℕ) → 0 < t → read_chunk s ≡ ok x
     → chunks_from t at cname s ≡ chunks_from (t - 1) (at + (chunk_end cname x).length) (chunk_end cname x).cname x.1
 unfolding chunks_from
 run_again₁ zero at cname s x l e = absurd (omega arith)
 run_again₁ (suc t) at cname s x l e = let d : suc t - 1 ≡ t = omega arith in rw (d, e)
 
-run_none : (t at cname : ℕ) (s : List ℕ) → t ≤ 0 → record { at = at; left = t; cname = cname } ≡ chunks_from t at cname s
+run_none : (t at : ℕ) (cname : Option ℕ) (s : List ℕ) → t ≤ 0 → record { at = at; left = t; cname = cname } ≡ chunks_from t at cname s
 unfolding chunks_from
 run_none zero at cname s l = refl
 run_none (suc t) at cname s l = absurd (omega arith)
 
-module _ (s : List ℕ) (n at left cname : ℕ) (g : Running s n at left cname) where
+module _ (s : List ℕ) (n at left : ℕ) (cname : Option ℕ) (g : Running s n at left cname) where
   pub run_inside : at ≤ length s
   run_inside = g.within
 
-  pub run_done : left ≤ 0 → record { at = at; left = left; cname = cname } ≡ chunks_from n 0 0 s
+  pub run_done : left ≤ 0 → record { at = at; left = left; cname = cname } ≡ chunks_from n 0 None s
   run_done l = run_none left at cname (drop at s) l ∙ sym g.same
 
-  module _ (c : ChunkEnd) (h : c ≡ value_or no_end (chunk_end cname) (read_chunk (take (length s - at) (drop at s)))) where
-    here : c ≡ value_or no_end (chunk_end cname) (read_chunk (drop at s))
-    here = h ∙ ap (λ (bs : List ℕ). value_or no_end (chunk_end cname) (read_chunk bs)) (rest_is s at)
+  here : value_in (ends cname (take (length s - at) (drop at s))) ≡ value_in (ends cname (drop at s))
+  here = ap (λ (bs : List ℕ). value_in (ends cname bs)) (rest_is s at)
 
-    pub run_refused : 0 < left → c.length ≡ 0 → record { at = at; left = left; cname = cname } ≡ chunks_from n 0 0 s
-    run_refused l e =
-        run_refused₁ left at cname (drop at s) _ l (none_came no_end (chunk_end cname) (λ c. c.length) refl (end_long cname) (read_chunk (drop at s)) c here e) ∙ sym g.same
+  pub run_refused : 0 < left → None ≡ value_in (ends cname (take (length s - at) (drop at s))) → record { at = at; left = left; cname = cname } ≡ chunks_from n 0 None s
+  run_refused l e = run_refused₁ left at cname (drop at s) l (none_below (chunk_end cname) (read_chunk (drop at s)) (e ∙ here)) ∙ sym g.same
 
-    module _ (e : c.length ≡ 0 → ⊥) where
-      run_came : (x : Chunk × List ℕ) × (read_chunk (drop at s) ≡ ok x) × (chunk_end cname x ≡ c)
-      run_came = value_came no_end (chunk_end cname) (λ c. c.length) refl (read_chunk (drop at s)) c here e
+  module _ (c : ChunkEnd) (h : Some c ≡ value_in (ends cname (take (length s - at) (drop at s)))) where
+    run_came : (x : Chunk × List ℕ) × (read_chunk (drop at s) ≡ ok x) × (chunk_end cname x ≡ c)
+    run_came = map_ok_inv (chunk_end cname) (read_chunk (drop at s)) (sym (value_is (ends cname (drop at s)) c (h ∙ here)))
 
-      run_within : at + c.length ≤ length s
-      run_within =
-          let m : length (chunk_bytes run_came.0.0) ≡ c.length = ap (λ (c : ChunkEnd). c.length) run_came.2 in
-          omega (arith, (chunk_in (drop at s) run_came.1).size, length-drop at s, g.within)
+    run_within : at + c.length ≤ length s
+    run_within =
+        let m : length (chunk_bytes run_came.0.0) ≡ c.length = ap (λ (c : ChunkEnd). c.length) run_came.2 in
+        omega (arith, (chunk_in (drop at s) run_came.1).size, length-drop at s, g.within)
 
-      pub run_fits : length s < 2 ^ 64 → at + c.length < 2 ^ 64
-      run_fits l = let m = run_within in omega arith
+    pub run_fits : length s < 2 ^ 64 → at + c.length < 2 ^ 64
+    run_fits l = let m = run_within in omega arith
 
-      pub run_again : 0 < left → Running s n (at + c.length) (left - 1) c.cname
-      run_again l =
-          let x = run_came.0 in
-          let r : x.1 ≡ drop (at + (chunk_end cname x).length) s = (chunk_in (drop at s) run_came.1).rest ∙ drop-drop (length (chunk_bytes x.0)) at s in
-          record { within = run_within; same = rw (← run_came.2) (g.same ∙ run_again₁ left at cname (drop at s) x l run_came.1 ∙ rw r) }
+    pub run_again : 0 < left → Running s n (at + c.length) (left - 1) c.cname
+    run_again l =
+        let x = run_came.0 in
+        let r : x.1 ≡ drop (at + (chunk_end cname x).length) s = (chunk_in (drop at s) run_came.1).rest ∙ drop-drop (length (chunk_bytes x.0)) at s in
+        record { within = run_within; same = rw (← run_came.2) (g.same ∙ run_again₁ left at cname (drop at s) x l run_came.1 ∙ rw r) }
 
 -- ---- a chunk by itself
 
-lone_is : (s : List ℕ) (m : Answer (Chunk × List ℕ)) → read_chunk s ≡ m
-    → chunks_from 1 0 0 s ≡ value_or (record { at = 0; left = 1; cname = 0 }) (λ x. record { at = 0 + length (chunk_bytes x.0); left = 0; cname = cname_place 4 x.0.items }) m
+abbrev lone : Answer (Chunk × List ℕ) → Chunks
+lone m =
+    unwrap_or
+    (option_map (λ (x : Chunk × List ℕ). record { at = 0 + length (chunk_bytes x.0); left = 0; cname = cname_place 4 x.0.items }) (value_in m))
+    (record { at = 0; left = 1; cname = None })
+
+lone_is : (s : List ℕ) → chunks_from 1 0 None s ≡ lone (read_chunk s)
 unfolding chunks_from
-lone_is s m e = rw e
+lone_is s = refl
 
 first_four : (s : List ℕ) {x : Chunk × List ℕ} → read_chunk s ≡ ok x → val (take 4 s) ≡ x.0.ssrc
 unfolding read_chunk
 first_four s e =
     bind_elim _ _ (need_inv _ _ _ _ _ e).1 (λ y q e₁. ap (λ (x : Chunk × List ℕ). x.0.ssrc) (ok_injective e₁))
 
-module _ (s : List ℕ) (r : Chunks) (h : r ≡ chunks_from 1 0 0 s) where
-  pub lone_refused : 0 < r.left → record { ssrc = 0; length = 0; cname = 0 } ≡ value_or no_chunk chunk_first (read_chunk s)
-  lone_refused l = go (read_chunk s) (h ∙ lone_is s (read_chunk s) refl)
+module _ (s : List ℕ) (r : Chunks) (h : r ≡ chunks_from 1 0 None s) where
+  pub lone_refused : 0 < r.left → None ≡ value_in (map_ok chunk_first (read_chunk s))
+  unfolding map_ok
+  lone_refused l = go (read_chunk s) (h ∙ lone_is s)
     where
-      go : (m : Answer (Chunk × List ℕ)) → r ≡ value_or (record { at = 0; left = 1; cname = 0 }) (λ x. record { at = 0 + length (chunk_bytes x.0); left = 0; cname = cname_place 4 x.0.items }) m
-          → no_chunk ≡ value_or no_chunk chunk_first m
+      go : (m : Answer (Chunk × List ℕ)) → r ≡ lone m → None ≡ value_in (map_ok chunk_first m)
       go (ok x) e = absurd (omega (arith, ap (λ (r : Chunks). r.left) e))
       go (refused k) e = refl
 
   module _ (l : r.left ≤ 0) where
     lone_came : (x : Chunk × List ℕ) × (read_chunk s ≡ ok x) × (r ≡ record { at = 0 + length (chunk_bytes x.0); left = 0; cname = cname_place 4 x.0.items })
-    lone_came = go (read_chunk s) refl (h ∙ lone_is s (read_chunk s) refl)
+    lone_came = go (read_chunk s) refl (h ∙ lone_is s)
       where
-        go : (m : Answer (Chunk × List ℕ)) → read_chunk s ≡ m → r ≡ value_or (record { at = 0; left = 1; cname = 0 }) (λ x. record { at = 0 + length (chunk_bytes x.0); left = 0; cname = cname_place 4 x.0.items }) m
+        go : (m : Answer (Chunk × List ℕ)) → read_chunk s ≡ m → r ≡ lone m
             → (x : Chunk × List ℕ) × (read_chunk s ≡ ok x) × (r ≡ record { at = 0 + length (chunk_bytes x.0); left = 0; cname = cname_place 4 x.0.items })
         go (ok x) q e = (x, q, e)
         go (refused k) q e = absurd (omega (arith, ap (λ (r : Chunks). r.left) e))
@@ -579,11 +602,12 @@ module _ (s : List ℕ) (r : Chunks) (h : r ≡ chunks_from 1 0 0 s) where
     pub lone_long : 0 + 4 ≤ length s
     lone_long = let w = lone_came in omega (arith, chunk_size_lem w.0.0, (chunk_in s w.1).size)
 
-    pub lone_read : (ssrc : ℕ) → ssrc ≡ val (take 4 (drop 0 s)) → record { ssrc = ssrc; length = r.at; cname = r.cname } ≡ value_or no_chunk chunk_first (read_chunk s)
+    pub lone_read : (ssrc : ℕ) → ssrc ≡ val (take 4 (drop 0 s)) → Some (record { ssrc = ssrc; length = r.at; cname = r.cname }) ≡ value_in (map_ok chunk_first (read_chunk s))
+    unfolding map_ok
     lone_read ssrc q = go lone_came.0 lone_came.1 lone_came.2
       where
         go : (x : Chunk × List ℕ) → read_chunk s ≡ ok x → r ≡ record { at = 0 + length (chunk_bytes x.0); left = 0; cname = cname_place 4 x.0.items }
-            → record { ssrc = ssrc; length = r.at; cname = r.cname } ≡ value_or no_chunk chunk_first (read_chunk s)
+            → Some (record { ssrc = ssrc; length = r.at; cname = r.cname }) ≡ value_in (map_ok chunk_first (read_chunk s))
         go x e m =
             let n : r.at ≡ length (chunk_bytes x.0) = omega (arith, ap (λ (r : Chunks). r.at) m) in
             let c : r.cname ≡ cname_place 4 x.0.items = ap (λ (r : Chunks). r.cname) m in
@@ -592,12 +616,17 @@ module _ (s : List ℕ) (r : Chunks) (h : r ≡ chunks_from 1 0 0 s) where
 pub chunk_long : (x : Chunk × List ℕ) → 0 < (chunk_first x).length
 chunk_long x = omega (arith, chunk_size_lem x.0)
 
-module _ (s : List ℕ) (c : SdesChunk) (h : c ≡ value_or no_chunk chunk_first (read_chunk s)) where
-  pub chunk_refused : (k : Refusal) → c.length ≡ 0 → k ≡ refusal_in (read_chunk (take (length s - 0) (drop 0 s))) → refused k ≡ map_ok chunk_first (read_chunk s)
-  chunk_refused k z q =
-      none_is no_chunk chunk_first (λ c. c.length) refl chunk_long chunk_first (read_chunk s) c k h z (q ∙ ap (λ (s : List ℕ). refusal_in (read_chunk s)) (rest_is s 0))
+module _ (s : List ℕ) where
+  pub chunk_none : None ≡ value_in (map_ok chunk_first (read_chunk s)) → value_in (read_chunk s) ≡ None
+  chunk_none e = none_below chunk_first (read_chunk s) e
 
-  pub chunk_parsed : (c.length ≡ 0 → ⊥) → ok c ≡ map_ok chunk_first (read_chunk s)
-  chunk_parsed z = value_is no_chunk chunk_first (λ c. c.length) refl (read_chunk s) c h z
+  pub chunk_refused : (k : Refusal) → refused k ≡ read_chunk s → refused k ≡ map_ok chunk_first (read_chunk s)
+  chunk_refused k e = refused_viewed chunk_first (read_chunk s) k e
 
-pub ruleset chunks = (rules, not-true, not-false, boundary_is, cname_known, cname_here, cname_none, zero_behind, zero_inside, items_start, items_halt, items_rest, items_inside, items_after, items_two, items_less, items_again, zeros_behind, zeros_below, zeros_short, zeros_stop, zeros_more, zeros_all, filled_one, second_inside, second_not, filled_two, third_inside, third_not, filled_three, fourth_inside, filled_last, chunk_within, chunk_inside, chunk_zero, none_short, why_short, none_open, none_cut, why_ended, why_item, none_zeros, why_zeros, chunk_ends, why_read, run_start, run_inside, run_done, run_refused, run_fits, run_again, lone_refused, lone_long, lone_read, chunk_refused, chunk_parsed)
+  pub chunk_parsed : (c : SdesChunk) → Some c ≡ value_in (map_ok chunk_first (read_chunk s)) → ok c ≡ map_ok chunk_first (read_chunk s)
+  chunk_parsed c e = value_is (map_ok chunk_first (read_chunk s)) c e
+
+-- the whole, and its parts where one of them is enough
+pub ruleset ends_of_chunks = (rules, not-true, not-false, none_short, none_open, none_cut, none_zeros, chunk_ends, chunk_within, chunk_inside, chunk_zero)
+
+pub ruleset chunks = (rules, not-true, not-false, boundary_is, cname_here, cname_none, zero_behind, zero_inside, items_start, items_halt, items_rest, items_inside, items_after, items_two, items_less, items_again, zeros_behind, zeros_below, zeros_short, zeros_stop, zeros_more, zeros_all, filled_one, second_inside, second_not, filled_two, third_inside, third_not, filled_three, fourth_inside, filled_last, chunk_within, chunk_inside, chunk_zero, none_short, why_short, none_open, none_cut, why_ended, item_asked, why_item, none_zeros, why_zeros, chunk_ends, run_start, run_inside, run_done, run_refused, run_fits, run_again, lone_refused, lone_long, lone_read, chunk_none, chunk_refused, chunk_parsed)

@@ -1,4 +1,6 @@
 -- The steps of reading an item, each from what the code has tested.
+use Rattle.std.specs.Prelude.{Option, None, Some}
+use Rattle.std.proofs.lemmas.Option.{none-some, same_Some}
 use Rattle.rfc3550.proofs.Prelude.{ℕ, zero, suc, ◌+◌, ◌-◌, ◌^◌, min, ◌<◌, ◌≤◌, ◌≡◌, refl, sym, ap, ◌∙◌, List, [], ◌∷◌, ◌++◌, arith, rules, le-leb, lt-leb, leb-true, leb-false, lt-ltb, le-ltb, ltb-true, ltb-false, eq-eqb, ne_eqb, eqb-true, eqb-false, Bool, true, false, leb, ltb, eqb, length, get_or, take, drop, length-drop, take-append-drop, drop_of_length-le, length-take-le}
 use Rattle.rfc3550.specs.Answer.{Refusal, refusal, Answer, ok, refused, refuse, need, ◌>>◌, ◌>>=◌, map_ok}
 use Rattle.rfc3550.specs.Packet.{Item, item, priv, item_type, item_bytes}
@@ -6,8 +8,8 @@ use Rattle.rfc3550.specs.Read.{read_item, item_of, read_prefix}
 use Rattle.rfc3550.specs.Walk.{item_step}
 use Rattle.rfc3550.proofs.Answers.{map_ok_inv, true≢false}
 use Rattle.utils.specs.declared.error.Code.{Code}
-use Rattle.utils.specs.Error.{code_refusal, refusal_in, value_or}
-use Rattle.utils.proofs.Values.{value_came, none_came, none_is}
+use Rattle.utils.specs.Error.{code_refusal, value_in}
+use Rattle.utils.proofs.Values.{none_refused, none_below, refused_viewed}
 use Rattle.sdes_chunk.specs.declared.item.SdesItem.{SdesItem}
 use Rattle.sdes_chunk.specs.Item.{item_view, item_first, item_size, item_end, read_end, step_end, value_of, value_start, value_len, prefix_in, answer_of}
 use Rattle.sdes_chunk.proofs.Answers.{rest_is, map_ok_lem}
@@ -16,11 +18,8 @@ use Rattle.sdes_chunk.proofs.Readings.{is_priv, item_in, item_length_lem, item_p
 abbrev seen : List ℕ → Answer SdesItem
 seen s = map_ok item_first (read_item s)
 
-abbrev size : List ℕ → ℕ
-size s = value_or 0 item_size (read_item s)
-
-abbrev why : List ℕ → Refusal
-why s = refusal_in (read_item s)
+abbrev size : List ℕ → Option ℕ
+size s = value_in (map_ok item_size (read_item s))
 
 short : (s : List ℕ) → length s < 2 → read_item s ≡ refuse 2 4 (length s)
 unfolding read_item
@@ -72,32 +71,40 @@ whole (t ∷ suc m ∷ b ∷ s) n p l e h q z r k =
       rw (e, take-append-drop b (take m s), w) (omega arith),
     )
 
--- ---- the number, and why it is 0
+-- ---- the size, and why there is none
 
-read_why : (s : List ℕ) (n : ℕ) → Read s n → refusal 25 0 0 ≡ why s
-read_why s n w = sym (ap refusal_in w.1)
+read_some : (s : List ℕ) (n : ℕ) → Read s n → value_in (read_item s) ≡ None → ⊥
+read_some s n w z = none-some w.0 (sym z ∙ ap value_in w.1)
 
-pub why_short : (s : List ℕ) → length s < 2 → refusal 2 4 (length s) ≡ why s
-why_short s h = sym (ap refusal_in (short s h))
+pub why_short : (s : List ℕ) → length s < 2 → refused (refusal 2 4 (length s)) ≡ read_item s
+why_short s h = sym (short s h)
 
 module _ (s : List ℕ) (n : ℕ) (l : 2 ≤ length s) (e : n ≡ get_or s 1 0) where
-  pub why_past : length s - 2 < n → refusal 2 (2 + n) (length s) ≡ why s
-  why_past h = sym (ap refusal_in (past s n l e h))
+  pub why_past : length s - 2 < n → refused (refusal 2 (2 + n) (length s)) ≡ read_item s
+  why_past h = sym (past s n l e h)
 
-  module _ (h : n ≤ length s - 2) where
-    pub why_plain : (get_or s 0 0 ≡ 8 → ⊥) → refusal 25 0 0 ≡ why s
-    why_plain q = read_why s _ (plain s n l e h q)
+  -- an item that has its bytes and is refused is PRIV
+  module _ (h : n ≤ length s - 2) (r : value_in (read_item s) ≡ None) where
+    is_eight : get_or s 0 0 ≡ 8
+    is_eight = go (eqb (get_or s 0 0) 8) refl
+      where
+        go : (b : Bool) → eqb (get_or s 0 0) 8 ≡ b → get_or s 0 0 ≡ 8
+        go true q = eqb-true (get_or s 0 0) 8 q
+        go false q = absurd (read_some s _ (plain s n l e h (eqb-false (get_or s 0 0) 8 q)) r)
 
-    module _ (q : get_or s 0 0 ≡ 8) where
-      pub why_empty : n ≡ 0 → refusal 2 3 2 ≡ why s
-      why_empty z = sym (ap refusal_in (empty s n l e h q z))
+    pub why_empty : n ≡ 0 → refused (refusal 2 3 2) ≡ read_item s
+    why_empty z = sym (empty s n l e h is_eight z)
 
-      module _ (z : n ≡ 0 → ⊥) (p : ℕ) (r : p ≡ get_or s 2 0) where
-        pub why_over : n - 1 < p → refusal 5 p (n - 1) ≡ why s
-        why_over k = sym (ap refusal_in (over s n p l e h q z r k))
+    module _ (z : n ≡ 0 → ⊥) where
+      pub why_third : 2 < length s
+      why_third = omega arith
 
-        pub why_whole : p ≤ n - 1 → refusal 25 0 0 ≡ why s
-        why_whole k = read_why s _ (whole s n p l e h q z r k)
+      pub why_over : (p : ℕ) → p ≡ get_or s 2 0 → refused (refusal 5 p (n - 1)) ≡ read_item s
+      why_over p q = go (leb p (n - 1)) refl
+        where
+          go : (b : Bool) → leb p (n - 1) ≡ b → refused (refusal 5 p (n - 1)) ≡ read_item s
+          go true y = absurd (read_some s _ (whole s n p l e h is_eight z q (leb-true p (n - 1) y)) r)
+          go false y = sym (over s n p l e h is_eight z q (leb-false p (n - 1) y))
 
 -- the end of the item at a place, which is read from the part that starts with it
 module _ (s : List ℕ) (at : ℕ) (l : at + 2 ≤ length s) where
@@ -107,31 +114,35 @@ module _ (s : List ℕ) (at : ℕ) (l : at + 2 ≤ length s) where
   two : 2 ≤ length (drop at s)
   two = rw length-drop (omega arith)
 
-  no_end_lem : (r : Refusal) → read_item (drop at s) ≡ refused r → 0 ≡ read_end s at
-  no_end_lem r w = sym (ap (value_or 0 (item_end at)) w)
+  no_end_lem : (r : Refusal) → read_item (drop at s) ≡ refused r → None ≡ read_end s at
+  unfolding map_ok
+  no_end_lem r w = rw w
 
-  read_end_lem : (n : ℕ) → Read (drop at s) (2 + n) → at + 2 + n ≡ read_end s at
-  read_end_lem n w = sym (ap (value_or 0 (item_end at)) w.1 ∙ ap (λ (k : ℕ). at + k) w.2 ∙ omega arith)
+  read_end_lem : (n : ℕ) → Read (drop at s) (2 + n) → Some (at + 2 + n) ≡ read_end s at
+  unfolding map_ok
+  read_end_lem n w =
+      let e : at + (2 + n) ≡ at + 2 + n = omega arith in
+      rw w.1 (ap Some (sym e) ∙ ap (λ (k : ℕ). Some (at + k)) (sym w.2))
 
   module _ (n : ℕ) (e : n ≡ get_or rest 1 0) where
     length_here : n ≡ get_or (drop at s) 1 0
     length_here = e ∙ ap (λ (r : List ℕ). get_or r 1 0) (rest_is s at)
 
-    pub end_past : length s < at + 2 + n → 0 ≡ read_end s at
+    pub end_past : length s < at + 2 + n → None ≡ read_end s at
     end_past h = no_end_lem _ (past (drop at s) n two length_here (rw length-drop (omega arith)))
 
     module _ (h : at + 2 + n ≤ length s) where
       fits : n ≤ length (drop at s) - 2
       fits = rw length-drop (omega arith)
 
-      pub end_plain : (get_or rest 0 0 ≡ 8 → ⊥) → at + 2 + n ≡ read_end s at
+      pub end_plain : (get_or rest 0 0 ≡ 8 → ⊥) → Some (at + 2 + n) ≡ read_end s at
       end_plain q = read_end_lem n (plain (drop at s) n two length_here fits (rw rest_is at q))
 
       module _ (q : get_or rest 0 0 ≡ 8) where
         type_here : get_or (drop at s) 0 0 ≡ 8
         type_here = rw rest_is at q
 
-        pub end_empty : n ≡ 0 → 0 ≡ read_end s at
+        pub end_empty : n ≡ 0 → None ≡ read_end s at
         end_empty z = no_end_lem _ (empty (drop at s) n two length_here fits type_here z)
 
         module _ (z : n ≡ 0 → ⊥) where
@@ -142,39 +153,41 @@ module _ (s : List ℕ) (at : ℕ) (l : at + 2 ≤ length s) where
             prefix_here : p ≡ get_or (drop at s) 2 0
             prefix_here = r ∙ ap (λ (r : List ℕ). get_or r 2 0) (rest_is s at)
 
-            pub end_over : n - 1 < p → 0 ≡ read_end s at
+            pub end_over : n - 1 < p → None ≡ read_end s at
             end_over k = no_end_lem _ (over (drop at s) n p two length_here fits type_here z prefix_here k)
 
-            pub end_whole : p ≤ n - 1 → at + 2 + n ≡ read_end s at
+            pub end_whole : p ≤ n - 1 → Some (at + 2 + n) ≡ read_end s at
             end_whole k = read_end_lem n (whole (drop at s) n p two length_here fits type_here z prefix_here k)
 
-pub size_short : (s : List ℕ) → length s < 2 → 0 ≡ size s
-size_short s h = sym (ap (value_or 0 item_size) (short s h))
+pub size_short : (s : List ℕ) → length s < 2 → None ≡ size s
+unfolding map_ok
+size_short s h = rw (short s h)
 
-pub size_end : (s : List ℕ) (n : ℕ) → n ≡ read_end s 0 → n ≡ size s
-size_end s n h = h ∙ go (read_item s)
+pub size_end : (s : List ℕ) (o : Option ℕ) → o ≡ read_end s 0 → o ≡ size s
+unfolding map_ok
+size_end s o h = h ∙ go (read_item s)
   where
-    go : (m : Answer (Item × List ℕ)) → value_or 0 (item_end 0) m ≡ value_or 0 item_size m
-    go (ok x) = omega arith
+    go : (m : Answer (Item × List ℕ)) → value_in (map_ok (item_end 0) m) ≡ value_in (map_ok item_size m)
+    go (ok x) = let e : 0 + item_size x ≡ item_size x = omega arith in ap Some e
     go (refused r) = refl
 
 -- ---- the step over an item
 
 module _ (s : List ℕ) (at : ℕ) where
-  pub end_none : length s ≤ at → 0 ≡ step_end s at
-  unfolding item_step need ◌>>◌
+  pub end_none : length s ≤ at → None ≡ step_end s at
+  unfolding item_step need ◌>>◌ map_ok
   end_none l = rw (le-ltb at (length s) l)
 
-  pub step_none : length s ≤ at → refusal 25 0 0 ≡ refusal_in (item_step s at)
+  pub step_none : length s ≤ at → refused (refusal 25 0 0) ≡ item_step s at
   unfolding item_step need ◌>>◌
   step_none l = rw (le-ltb at (length s) l)
 
   module _ (l : at < length s) where
-    pub end_zero : get_or s at 0 ≡ 0 → 0 ≡ step_end s at
-    unfolding item_step need ◌>>◌
+    pub end_zero : get_or s at 0 ≡ 0 → None ≡ step_end s at
+    unfolding item_step need ◌>>◌ map_ok
     end_zero z = rw (lt-ltb at (length s) l, z)
 
-    pub step_zero : get_or s at 0 ≡ 0 → refusal 25 0 0 ≡ refusal_in (item_step s at)
+    pub step_zero : get_or s at 0 ≡ 0 → refused (refusal 25 0 0) ≡ item_step s at
     unfolding item_step need ◌>>◌
     step_zero z = rw (lt-ltb at (length s) l, z)
 
@@ -184,23 +197,28 @@ module _ (s : List ℕ) (at : ℕ) where
       unfolding item_step need ◌>>◌
       step_is = rw (lt-ltb at (length s) l, ne_eqb (get_or s at 0) 0 z)
 
-      pub why_step : (k : Refusal) → k ≡ why (take (length s - at) (drop at s)) → k ≡ refusal_in (item_step s at)
+      pub why_step : (k : Refusal) → refused k ≡ read_item (take (length s - at) (drop at s)) → refused k ≡ item_step s at
       unfolding ◌>>=◌
-      why_step k q = q ∙ ap why (rest_is s at) ∙ go (read_item (drop at s)) ∙ sym (ap refusal_in step_is)
+      why_step k q = let w : read_item (drop at s) ≡ refused k = sym (q ∙ ap read_item (rest_is s at)) in rw (step_is, w)
+
+      -- a step that is refused here is an item that is
+      pub item_asked : value_in (item_step s at) ≡ None → value_in (read_item (take (length s - at) (drop at s))) ≡ None
+      unfolding ◌>>=◌
+      item_asked e = ap (λ (s : List ℕ). value_in (read_item s)) (rest_is s at) ∙ go (read_item (drop at s)) (sym (ap value_in step_is) ∙ e)
         where
-          go : (m : Answer (Item × List ℕ)) → refusal_in m ≡ refusal_in (◌>>=◌ {B = Item × ℕ} m (λ x. ok (x.0, item_end at x)))
-          go (ok x) = refl
-          go (refused r) = refl
+          go : (m : Answer (Item × List ℕ)) → value_in (◌>>=◌ {B = Item × ℕ} m (λ x. ok (x.0, item_end at x))) ≡ None → value_in m ≡ None
+          go (ok x) q = absurd (none-some (x.0, item_end at x) (sym q))
+          go (refused r) q = refl
 
       pub end_is : read_end s at ≡ step_end s at
-      unfolding ◌>>=◌
-      end_is = go (read_item (drop at s)) ∙ sym (ap (value_or 0 (λ (x : Item × ℕ). x.1)) step_is)
+      unfolding ◌>>=◌ map_ok
+      end_is = go (read_item (drop at s)) ∙ sym (ap (λ (m : Answer (Item × ℕ)). value_in (map_ok (λ (x : Item × ℕ). x.1) m)) step_is)
         where
-          go : (m : Answer (Item × List ℕ)) → value_or 0 (item_end at) m ≡ value_or 0 (λ (x : Item × ℕ). x.1) (◌>>=◌ {B = Item × ℕ} m (λ x. ok (x.0, item_end at x)))
+          go : (m : Answer (Item × List ℕ)) → value_in (map_ok (item_end at) m) ≡ value_in (map_ok (λ (x : Item × ℕ). x.1) (◌>>=◌ {B = Item × ℕ} m (λ x. ok (x.0, item_end at x))))
           go (ok x) = refl
           go (refused r) = refl
 
-  -- what the number says: an item stands there, or none, or one that is refused
+  -- what the place says: an item stands there, or none, or one that is refused
   pub record Steps (n : ℕ) : Type 0 where
     pub inside : at < length s
     pub item : get_or s at 0 ≡ 0 → ⊥
@@ -209,56 +227,54 @@ module _ (s : List ℕ) (at : ℕ) where
     pub end : item_end at read ≡ n
 
   -- a single byte is no item, and neither is none
-  end_one : length s < at + 2 → 0 ≡ step_end s at
+  end_one : length s < at + 2 → None ≡ step_end s at
+  unfolding map_ok
   end_one h = go (ltb at (length s)) (eqb (get_or s at 0) 0) refl refl
     where
-      go : (a b : Bool) → ltb at (length s) ≡ a → eqb (get_or s at 0) 0 ≡ b → 0 ≡ step_end s at
+      go : (a b : Bool) → ltb at (length s) ≡ a → eqb (get_or s at 0) 0 ≡ b → None ≡ step_end s at
       go false b f g = end_none (ltb-false at (length s) f)
       go true true f g = end_zero (ltb-true at (length s) f) (eqb-true (get_or s at 0) 0 g)
       go true false f g =
           let l = ltb-true at (length s) f in
-          sym (ap (value_or 0 (item_end at)) (short (drop at s) (rw length-drop (omega arith)))) ∙ end_is l (eqb-false (get_or s at 0) 0 g)
+          let w : read_item (drop at s) ≡ refuse 2 4 (length (drop at s)) = short (drop at s) (rw length-drop (omega arith)) in
+          let y : None ≡ read_end s at = rw w in
+          y ∙ end_is l (eqb-false (get_or s at 0) 0 g)
 
-  pub end_few : length s < 2 → 0 ≡ step_end s at
+  pub end_few : length s < 2 → None ≡ step_end s at
   end_few h = end_one (omega arith)
 
-  pub end_last : length s - 2 < at → 0 ≡ step_end s at
+  pub end_last : length s - 2 < at → None ≡ step_end s at
   end_last h = end_one (omega arith)
 
   module _ (h : 2 ≤ length s) (k : at ≤ length s - 2) where
-    pub end_stop : get_or s at 0 ≡ 0 → 0 ≡ step_end s at
+    pub end_stop : get_or s at 0 ≡ 0 → None ≡ step_end s at
     end_stop z = end_zero (omega arith) z
 
-    pub end_goes : (n : ℕ) → (get_or s at 0 ≡ 0 → ⊥) → n ≡ read_end s at → n ≡ step_end s at
-    end_goes n z q = q ∙ end_is (omega arith) z
+    pub end_goes : (o : Option ℕ) → (get_or s at 0 ≡ 0 → ⊥) → o ≡ read_end s at → o ≡ step_end s at
+    end_goes o z q = q ∙ end_is (omega arith) z
 
-  module _ (n : ℕ) (h : n ≡ step_end s at) where
-    pub steps_not : n ≡ 0 → at < length s → (get_or s at 0 ≡ 0 → ⊥) → read_item (drop at s) ≡ refused (why (drop at s))
-    unfolding ◌>>=◌
-    steps_not e l z = go (read_item (drop at s)) refl
-      where
-        go : (m : Answer (Item × List ℕ)) → read_item (drop at s) ≡ m → read_item (drop at s) ≡ refused (why (drop at s))
-        go (ok x) q =
-            let w : n ≡ item_end at x = h ∙ ap (value_or 0 (λ (x : Item × ℕ). x.1)) (step_is l z) ∙ rw q in
-            absurd (omega arith)
-        go (refused r) q = rw q
+  pub steps_not : None ≡ step_end s at → at < length s → (get_or s at 0 ≡ 0 → ⊥) → (r : Refusal) × (read_item (drop at s) ≡ refused r)
+  steps_not h l z = none_refused (read_item (drop at s)) (none_below (item_end at) (read_item (drop at s)) (h ∙ sym (end_is l z)))
 
-    pub steps : (n ≡ 0 → ⊥) → Steps n
-    unfolding ◌>>=◌
-    steps e = go (ltb at (length s)) (eqb (get_or s at 0) 0) refl refl (read_item (drop at s)) refl
-      where
-        go : (a b : Bool) → ltb at (length s) ≡ a → eqb (get_or s at 0) 0 ≡ b → (m : Answer (Item × List ℕ)) → read_item (drop at s) ≡ m → Steps n
-        go false b f g m q = absurd (e (h ∙ sym (end_none (ltb-false at (length s) f))))
-        go true true f g m q = absurd (e (h ∙ sym (end_zero (ltb-true at (length s) f) (eqb-true (get_or s at 0) 0 g))))
-        go true false f g (refused r) q = absurd (e (h ∙ ap (value_or 0 (λ (x : Item × ℕ). x.1)) (step_is (ltb-true at (length s) f) (eqb-false (get_or s at 0) 0 g)) ∙ rw q))
-        go true false f g (ok x) q =
-            record {
-              inside = ltb-true at (length s) f;
-              item = eqb-false (get_or s at 0) 0 g;
-              read = x;
-              reads = q;
-              end = sym (h ∙ ap (value_or 0 (λ (x : Item × ℕ). x.1)) (step_is (ltb-true at (length s) f) (eqb-false (get_or s at 0) 0 g)) ∙ rw q);
-            }
+  pub steps : (n : ℕ) → Some n ≡ step_end s at → Steps n
+  unfolding map_ok
+  steps n h = go (ltb at (length s)) (eqb (get_or s at 0) 0) refl refl (read_item (drop at s)) refl
+    where
+      go : (a b : Bool) → ltb at (length s) ≡ a → eqb (get_or s at 0) 0 ≡ b → (m : Answer (Item × List ℕ)) → read_item (drop at s) ≡ m → Steps n
+      go false b f g m q = absurd (none-some n (end_none (ltb-false at (length s) f) ∙ sym h))
+      go true true f g m q = absurd (none-some n (end_zero (ltb-true at (length s) f) (eqb-true (get_or s at 0) 0 g) ∙ sym h))
+      go true false f g m q = on m q (h ∙ sym (end_is (ltb-true at (length s) f) (eqb-false (get_or s at 0) 0 g)) ∙ ap (λ (m : Answer (Item × List ℕ)). value_in (map_ok (item_end at) m)) q)
+        where
+          on : (m : Answer (Item × List ℕ)) → read_item (drop at s) ≡ m → Some n ≡ value_in (map_ok (item_end at) m) → Steps n
+          on (refused r) q e = absurd (none-some n (sym e))
+          on (ok x) q e =
+              record {
+                inside = ltb-true at (length s) f;
+                item = eqb-false (get_or s at 0) 0 g;
+                read = x;
+                reads = q;
+                end = sym (same_Some n (item_end at x) e);
+              }
 
 -- ---- the item, from its size
 
@@ -271,16 +287,24 @@ priv_view : (i : Item) (r s : List ℕ) → item_bytes i ++ r ≡ s → is_priv 
 priv_view (item t v) r s g k h = absurd (true≢false (sym (k ∙ eq-eqb t 8 (ap (λ (s : List ℕ). get_or s 0 0) g ∙ h))))
 priv_view (priv p v) r s g k h = rw (← g) (omega arith, refl)
 
-module _ (s : List ℕ) (n : ℕ) (e : n ≡ size s) where
-  pub parse_refused : (k : Refusal) → n ≡ 0 → k ≡ refusal_in (read_item (take (length s - 0) (drop 0 s))) → refused k ≡ seen s
-  parse_refused k z q = none_is 0 item_size (λ n. n) refl (λ x. omega arith) item_first (read_item s) n k e z (q ∙ ap why (rest_is s 0))
+module _ (s : List ℕ) where
+  pub parse_none : None ≡ size s → value_in (read_item s) ≡ None
+  parse_none e = none_below item_size (read_item s) e
 
-  pub parse_some : (n ≡ 0 → ⊥) → size s ≡ 0 → ⊥
-  parse_some z q = z (e ∙ q)
+  pub parse_some : (n : ℕ) → Some n ≡ size s → value_in (read_item s) ≡ None → ⊥
+  unfolding map_ok
+  parse_some n e z = let w = none_refused (read_item s) z in none-some n (sym (rw w.1 at e))
 
-module _ (s : List ℕ) (z : size s ≡ 0 → ⊥) where
-  sized : Read s (size s)
-  sized = value_came 0 item_size (λ n. n) refl (read_item s) (size s) refl z
+  pub parse_refused : (k : Refusal) → refused k ≡ read_item s → refused k ≡ seen s
+  parse_refused k q = refused_viewed item_first (read_item s) k q
+
+module _ (s : List ℕ) (z : value_in (read_item s) ≡ None → ⊥) where
+  sized : (x : Item × List ℕ) × (read_item s ≡ ok x)
+  sized = go (read_item s) refl
+    where
+      go : (m : Answer (Item × List ℕ)) → read_item s ≡ m → (x : Item × List ℕ) × (read_item s ≡ ok x)
+      go (ok x) q = (x, q)
+      go (refused r) q = absurd (z (ap value_in q))
 
   pub item_first_lem : 0 < length s
   item_first_lem = let w = sized in omega (arith, item_length_lem s w.1)
@@ -336,18 +360,18 @@ value_field s x e = (item_placed s e).value
 
 -- ---- the prefix
 
-module _ (s : List ℕ) (n : ℕ) (e : n ≡ size s) where
-  no_prefix : n ≡ 0 → read_prefix s ≡ refused (why s)
+module _ (s : List ℕ) where
+  no_prefix : (r : Refusal) → read_item s ≡ refused r → read_prefix s ≡ refused r
   unfolding read_prefix ◌>>=◌
-  no_prefix z = rw (none_came 0 item_size (λ n. n) refl (λ x. omega arith) (read_item s) n e z)
+  no_prefix r w = rw w
 
-  pub prefix_refused : n ≡ 0 → [] ≡ prefix_in (read_prefix s)
-  prefix_refused z = sym (ap prefix_in (no_prefix z))
+  pub prefix_refused : None ≡ size s → [] ≡ prefix_in (read_prefix s)
+  prefix_refused e = let w = none_refused (read_item s) (parse_none s e) in sym (ap prefix_in (no_prefix w.0 w.1))
 
-  pub answer_refused : (l : List ℕ) (c : Code) (k : Refusal) → n ≡ 0 → l ≡ c.number ∷ c.first ∷ c.second ∷ [] → code_refusal c ≡ k → k ≡ why (take (length s - 0) (drop 0 s)) → l ≡ answer_of (read_prefix s)
-  answer_refused l c k z q r y = q ∙ ap (λ (r : Refusal). answer_of (refused r)) (r ∙ y ∙ ap why (rest_is s 0)) ∙ sym (ap answer_of (no_prefix z))
+  pub answer_refused : (l : List ℕ) (c : Code) (k : Refusal) → l ≡ c.number ∷ c.first ∷ c.second ∷ [] → code_refusal c ≡ k → refused k ≡ read_item s → l ≡ answer_of (read_prefix s)
+  answer_refused l c k q r y = q ∙ ap (λ (r : Refusal). answer_of (refused r)) r ∙ sym (ap answer_of (no_prefix k (sym y)))
 
-  module _ (z : n ≡ 0 → ⊥) (i : SdesItem) (h : ok i ≡ seen s) where
+  module _ (i : SdesItem) (h : ok i ≡ seen s) where
     read_prefix_lem : (x : Item × List ℕ) × (read_item s ≡ ok x) × (item_first x ≡ i)
     read_prefix_lem = map_ok_inv item_first (read_item s) (sym h)
 
@@ -384,4 +408,4 @@ module _ (s : List ℕ) (n : ℕ) (e : n ≡ size s) where
       pub answer_some : 0 ∷ 0 ∷ 0 ∷ [] ≡ answer_of (read_prefix s)
       answer_some = sym (ap answer_of is_priv_lem.1)
 
-pub ruleset items = (rules, size_short, size_end, why_short, why_past, why_plain, why_empty, why_over, why_whole, end_past, end_plain, end_empty, end_third, end_over, end_whole, end_few, end_last, end_stop, end_goes, step_none, step_zero, why_step, parse_refused, parse_some, item_first_lem, item_second, parse_plain, item_third, parse_whole, value_plain, value_none, value_priv, prefix_refused, answer_refused, prefix_none, answer_none, prefix_end, prefix_fits, prefix_part, answer_some)
+pub ruleset items = (rules, size_short, size_end, why_short, why_past, why_empty, why_third, why_over, end_past, end_plain, end_empty, end_third, end_over, end_whole, end_few, end_last, end_stop, end_goes, step_none, step_zero, why_step, item_asked, parse_none, parse_refused, parse_some, item_first_lem, item_second, parse_plain, item_third, parse_whole, value_plain, value_none, value_priv, prefix_refused, answer_refused, prefix_none, answer_none, prefix_end, prefix_fits, prefix_part, answer_some)

@@ -1,16 +1,19 @@
 -- The steps of the walk over a chunk's items.
+use Rattle.std.specs.Prelude.{None, Some}
+use Rattle.std.proofs.lemmas.Option.{none-some}
 use Rattle.rfc3550.proofs.Prelude.{ℕ, ◌-◌, ◌<◌, ◌≤◌, arith, ◌≡◌, refl, sym, ap, ◌∙◌, not, List, ltb, eqb, rules, lt-ltb, ne_eqb, length, get_or, take, drop}
-use Rattle.rfc3550.specs.Answer.{Refusal, Answer, ok, refused, need, ◌>>◌, ◌>>=◌, map_ok}
+use Rattle.rfc3550.specs.Answer.{Refusal, ok, refused, need, ◌>>◌, ◌>>=◌, map_ok}
 use Rattle.rfc3550.specs.Packet.{Item}
 use Rattle.rfc3550.specs.Read.{read_item, read_chunk}
 use Rattle.rfc3550.specs.Walk.{open_items, item_step}
-use Rattle.rfc3550.proofs.Answers.{map_ok_inv, need_inv, bind_elim, ok_injective}
-use Rattle.utils.specs.Error.{refusal_in, value_or}
+use Rattle.rfc3550.proofs.Answers.{map_ok_inv, ok_injective}
+use Rattle.utils.specs.Error.{value_in}
+use Rattle.utils.proofs.Values.{none_below}
 use Rattle.utils.proofs.Errors.{parse_handed}
 use Rattle.utils.proofs.Reading.{map_ok_refused}
 use Rattle.sdes_chunk.specs.declared.item.SdesItem.{SdesItem}
 use Rattle.sdes_chunk.specs.declared.chunk.SdesChunk.{SdesChunk}
-use Rattle.sdes_chunk.specs.Item.{item_first, item_size, item_end, step_end}
+use Rattle.sdes_chunk.specs.Item.{item_first, item_end, step_end}
 use Rattle.sdes_chunk.specs.Chunk.{chunk_first}
 use Rattle.sdes_chunk.specs.Walk.{item_walk, item_stepped}
 use Rattle.sdes_chunk.proofs.Answers.{rest_is}
@@ -25,35 +28,23 @@ module _ (s : List ℕ) where
   unfolding open_items ◌>>=◌ map_ok
   items_opened c e = rw (map_ok_inv chunk_first (read_chunk s) (sym e)).1
 
--- a step that gives an item goes on
-step_kept : (s : List ℕ) (at : ℕ) {y : Item × ℕ} → item_step s at ≡ ok y → at < y.1
-unfolding item_step
-step_kept s at {y} e =
-    let a = need_inv (ltb at (length s)) 25 0 0 _ e in
-    let b = need_inv (not (eqb (get_or s at 0) 0)) 25 0 0 _ a.1 in
-    bind_elim (read_item (drop at s)) _ b.1 (λ x f g. let m : item_end at x ≡ y.1 = ap (λ (z : Item × ℕ). z.1) (ok_injective g) in omega arith)
+module _ (s : List ℕ) (at : ℕ) where
+  pub step_none : None ≡ step_end s at → value_in (item_step s at) ≡ None
+  step_none h = none_below (λ (x : Item × ℕ). x.1) (item_step s at) h
 
-step_refused : (s : List ℕ) (at n : ℕ) → n ≡ step_end s at → n ≡ 0 → (m : Answer (Item × ℕ)) → item_step s at ≡ m → item_step s at ≡ refused (refusal_in (item_step s at))
-step_refused s at n h e (refused r) q = rw q
-step_refused s at n h e (ok y) q = absurd (go (step_kept s at q))
-  where
-    go : at < y.1 → ⊥
-    go l = absurd (omega (arith, ap (value_or 0 (λ (x : Item × ℕ). x.1)) q))
-
-module _ (s : List ℕ) (at n : ℕ) (h : n ≡ step_end s at) where
-  pub item_not_stepped : (k : Refusal) → n ≡ 0 → k ≡ refusal_in (item_step (take (length s - 0) (drop 0 s)) at) → refused k ≡ map_ok item_stepped (item_step s at)
+  pub item_not_stepped : (k : Refusal) → refused k ≡ item_step s at → refused k ≡ map_ok item_stepped (item_step s at)
   unfolding map_ok
-  item_not_stepped k e q = rw (step_refused s at n h e (item_step s at) refl) (ap refused (q ∙ ap (λ (s : List ℕ). refusal_in (item_step s at)) (rest_is s 0)))
+  item_not_stepped k e = rw (sym e)
 
-  module _ (p : n ≡ 0 → ⊥) where
+  module _ (n : ℕ) (h : Some n ≡ step_end s at) where
     on : Steps s at n
-    on = steps s at n h p
+    on = steps s at n h
 
     pub step_inside : at ≤ length s
     step_inside = let l = on.inside in omega arith
 
-    pub step_some : value_or 0 item_size (read_item (take (length s - at) (drop at s))) ≡ 0 → ⊥
-    step_some e = let w = on in absurd (omega (arith, sym (ap (value_or 0 item_size) (ap read_item (rest_is s at) ∙ w.reads)) ∙ e))
+    pub step_some : value_in (read_item (take (length s - at) (drop at s))) ≡ None → ⊥
+    step_some e = let w = on in none-some w.read (sym e ∙ ap value_in (ap read_item (rest_is s at) ∙ w.reads))
 
     pub item_stepped_lem : (i : SdesItem) → ok i ≡ map_ok item_first (read_item (take (length s - at) (drop at s)))
         → ok (i, record { at = n }) ≡ map_ok item_stepped (item_step s at)
@@ -65,4 +56,4 @@ module _ (s : List ℕ) (at n : ℕ) (h : n ≡ step_end s at) where
             let v : i ≡ item_first x = ok_injective (q ∙ ap (λ (s : List ℕ). map_ok item_first (read_item s)) (rest_is s at) ∙ rw r) in
             rw (lt-ltb at (length s) l, ne_eqb (get_or s at 0) 0 z, r, v, ← m)
 
-pub ruleset walks = (rules, parse_handed, items_not_opened, items_opened, item_not_stepped, step_inside, step_some, item_stepped_lem)
+pub ruleset walks = (rules, parse_handed, items_not_opened, items_opened, step_none, item_not_stepped, step_inside, step_some, item_stepped_lem)

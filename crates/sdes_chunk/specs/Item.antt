@@ -9,12 +9,12 @@
 --     +-+-+-+-+-+-+-+-+-+-+-+-+-+-+-+-+-+-+-+-+-+-+-+-+-+-+-+-+-+-+-+-+
 --
 -- What the code hands over of an item: numbers that its layout fixes.
-use Rattle.std.specs.Prelude.{ℕ, ◌+◌, ◌-◌, List, [], ◌∷◌, length, drop, eqb}
-use Rattle.rfc3550.specs.Answer.{refusal, Answer, ok, refused, pick}
+use Rattle.std.specs.Prelude.{ℕ, ◌+◌, ◌-◌, List, [], ◌∷◌, Option, length, drop, eqb}
+use Rattle.rfc3550.specs.Answer.{refusal, Answer, ok, refused, map_ok, pick}
 use Rattle.rfc3550.specs.Packet.{Item, item, priv, item_type, item_rest, item_bytes}
 use Rattle.rfc3550.specs.Read.{read_item}
 use Rattle.rfc3550.specs.Walk.{item_step}
-use Rattle.utils.specs.Error.{value_or}
+use Rattle.utils.specs.Error.{value_in}
 use Rattle.sdes_chunk.specs.declared.item.SdesItem.{SdesItem}
 
 -- ---- views
@@ -42,13 +42,13 @@ item_size x = length (item_bytes x.0)
 abbrev pub item_end : ℕ → Item × List ℕ → ℕ
 item_end at x = at + item_size x
 
--- where the item that stands at `at` ends; 0 where it is refused
-abbrev pub read_end : List ℕ → ℕ → ℕ
-read_end s at = value_or 0 (item_end at) (read_item (drop at s))
+-- where the item that stands at `at` ends; None where it is refused
+abbrev pub read_end : List ℕ → ℕ → Option ℕ
+read_end s at = value_in (map_ok (item_end at) (read_item (drop at s)))
 
--- where the step over the item at `at` leads; 0 where there is none
-abbrev pub step_end : List ℕ → ℕ → ℕ
-step_end s at = value_or 0 (λ (x : Item × ℕ). x.1) (item_step s at)
+-- where the step over the item at `at` leads; None where there is none
+abbrev pub step_end : List ℕ → ℕ → Option ℕ
+step_end s at = value_in (map_ok (λ (x : Item × ℕ). x.1) (item_step s at))
 
 -- where the value starts, counted from the item's start
 abbrev pub value_start : SdesItem → ℕ

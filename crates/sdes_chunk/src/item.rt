@@ -1,10 +1,12 @@
 // An SDES item.
-ghost use Rattle.std.specs.Prelude.{◌≡◌, ◌∷◌, [], ◌+◌, ◌≤◌, length, take, drop};
-ghost use Rattle.rfc3550.specs.Answer.{ok, map_ok};
+#![tactic(auto, using(crate::proofs::Items::items))]
+
+ghost use Rattle.std.specs.Prelude.{◌≡◌, None, ◌∷◌, [], ◌+◌, ◌≤◌, length, take, drop};
+ghost use Rattle.rfc3550.specs.Answer.{ok, refused, map_ok};
 ghost use Rattle.rfc3550.specs.Packet.{is_cname};
 ghost use Rattle.rfc3550.specs.Read.{read_item, read_prefix};
 ghost use Rattle.rfc3550.specs.Walk.{item_step};
-ghost use Rattle.utils.specs.Error.{parse_refusal, refusal_in, value_or, parsed_of};
+ghost use Rattle.utils.specs.Error.{parse_refusal, value_in, parsed_of};
 ghost use Rattle.sdes_chunk.specs.Item.{item_first, item_size, read_end, step_end, value_start, value_len, prefix_in, answer_of};
 
 use utils::error::{Code, RtcpParseError};
@@ -18,58 +20,60 @@ pub struct SdesItem {
     pub prefix_len: usize,
 }
 
-// The place behind the item at a place that has two bytes at least; 0 where it is refused.
-fn end_unchecked(chunk: &[u8], at: usize) -> usize
+// The place behind the item at a place that has two bytes at least; None where it is refused.
+fn end_unchecked(chunk: &[u8], at: usize) -> Option<usize>
     requires { at + 2 ≤ length chunk.now }
     ensures { result ≡ read_end chunk.now at }
 {
     let rest = &chunk[at..];
-    let length = parser::wide(rest[1]);
+    let length = usize::from(rest[1]);
     let end = at + 2 + length;
     if chunk.len() < end {
-        return 0;
+        return None;
     }
     if rest[0] != SdesItem::PRIV {
-        return end;
+        return Some(end);
     }
     if length == 0 {
-        return 0;
+        return None;
     }
-    if length - 1 < parser::wide(rest[2]) {
-        return 0;
+    if length - 1 < usize::from(rest[2]) {
+        return None;
     }
-    end
+    Some(end)
 }
 
-// How many bytes the item at the start of the rest of a chunk takes; 0 where it is refused.
-fn item_size(rest: &[u8]) -> usize
-    ensures { result ≡ value_or 0 item_size (read_item rest.now) }
+// How many bytes the item at the start of the rest of a chunk takes; None where it is refused.
+fn item_size(rest: &[u8]) -> Option<usize>
+    ensures { result ≡ value_in (map_ok item_size (read_item rest.now)) }
 {
     if rest.len() < 2 {
-        return 0;
+        return None;
     }
     end_unchecked(rest, 0)
 }
 
-// The place behind the item at a place of the chunk; 0 where there is none, or it is refused. A single byte is no item.
-pub fn item_end(chunk: &[u8], at: usize) -> usize
+// The place behind the item at a place of the chunk; None where there is none, or it is refused. A single byte is no item.
+pub fn item_end(chunk: &[u8], at: usize) -> Option<usize>
     ensures { result ≡ step_end chunk.now at }
 {
     if chunk.len() < 2 {
-        return 0;
+        return None;
     }
     if chunk.len() - 2 < at {
-        return 0;
+        return None;
     }
     if chunk[at] == 0 {
-        return 0;
+        return None;
     }
     end_unchecked(chunk, at)
 }
 
-// Why item_end is 0; NothingLeft where it is not.
-pub fn why_end(chunk: &[u8], at: usize) -> RtcpParseError
-    ensures { parse_refusal result ≡ refusal_in (item_step chunk.now at) }
+// Why there is no step over an item at a place where item_end finds none.
+#[cold]
+pub fn why_end_unchecked(chunk: &[u8], at: usize) -> RtcpParseError
+    requires { value_in (item_step chunk.now at) ≡ None }
+    ensures { refused (parse_refusal result) ≡ item_step chunk.now at }
 {
     if chunk.len() <= at {
         return RtcpParseError::NothingLeft;
@@ -77,16 +81,16 @@ pub fn why_end(chunk: &[u8], at: usize) -> RtcpParseError
     if chunk[at] == 0 {
         return RtcpParseError::NothingLeft;
     }
-    why_item(&chunk[at..])
+    why_item_unchecked(&chunk[at..])
 }
 
 // The item at the start of the rest of a chunk, where it is not refused.
 pub fn item_of_unchecked(rest: &[u8]) -> SdesItem
-    requires { value_or 0 item_size (read_item rest.now) ≡ 0 → ⊥ }
+    requires { value_in (read_item rest.now) ≡ None → ⊥ }
     ensures { ok result ≡ map_ok item_first (read_item rest.now) }
 {
     let type_ = rest[0];
-    let length = parser::wide(rest[1]);
+    let length = usize::from(rest[1]);
     if type_ != SdesItem::PRIV {
         return SdesItem {
             type_,
@@ -94,7 +98,7 @@ pub fn item_of_unchecked(rest: &[u8]) -> SdesItem
             prefix_len: 0,
         };
     }
-    let prefix_len = parser::wide(rest[2]);
+    let prefix_len = usize::from(rest[2]);
     SdesItem {
         type_,
         length,
@@ -102,10 +106,11 @@ pub fn item_of_unchecked(rest: &[u8]) -> SdesItem
     }
 }
 
-// Why it is refused; NothingLeft where it is not.
+// Why an item that is refused is.
 #[cold]
-pub fn why_item(rest: &[u8]) -> RtcpParseError
-    ensures { parse_refusal result ≡ refusal_in (read_item rest.now) }
+pub fn why_item_unchecked(rest: &[u8]) -> RtcpParseError
+    requires { value_in (read_item rest.now) ≡ None }
+    ensures { refused (parse_refusal result) ≡ read_item rest.now }
 {
     if rest.len() < 2 {
         return RtcpParseError::Truncated {
@@ -113,15 +118,12 @@ pub fn why_item(rest: &[u8]) -> RtcpParseError
             actual: rest.len(),
         };
     }
-    let length = parser::wide(rest[1]);
+    let length = usize::from(rest[1]);
     if rest.len() - 2 < length {
         return RtcpParseError::Truncated {
             expected: 2 + length,
             actual: rest.len(),
         };
-    }
-    if rest[0] != SdesItem::PRIV {
-        return RtcpParseError::NothingLeft;
     }
     if length == 0 {
         return RtcpParseError::Truncated {
@@ -129,12 +131,9 @@ pub fn why_item(rest: &[u8]) -> RtcpParseError
             actual: 2,
         };
     }
-    let len = parser::wide(rest[2]);
+    let len = usize::from(rest[2]);
     let available = length - 1;
-    if available < len {
-        return RtcpParseError::SdesPrivPrefixTooLarge { len, available };
-    }
-    RtcpParseError::NothingLeft
+    RtcpParseError::SdesPrivPrefixTooLarge { len, available }
 }
 
 // The test that an item is a CNAME.
@@ -172,11 +171,10 @@ impl SdesItem {
     pub fn parse(rest: &[u8]) -> Result<SdesItem, RtcpParseError>
         ensures { parsed_of result ≡ map_ok item_first (read_item rest.now) }
     {
-        let size = item_size(rest);
-        if size == 0 {
-            return Err(why_item(&rest[0..]));
+        match item_size(rest) {
+            Some(_) => Ok(item_of_unchecked(rest)),
+            None => Err(why_item_unchecked(rest)),
         }
-        Ok(item_of_unchecked(rest))
     }
 
     // The test that an item is a CNAME.
@@ -208,12 +206,11 @@ impl SdesItem {
     pub fn priv_prefix<'a>(rest: &'a [u8], answer: &mut [u64; 3]) -> &'a [u8]
         ensures { (result.now ≡ prefix_in (read_prefix rest.now)) × (answer.new ≡ answer_of (read_prefix rest.now)) }
     {
-        let size = item_size(rest);
-        if size == 0 {
-            let why = why_item(&rest[0..]);
+        let Some(_) = item_size(rest) else {
+            let why = why_item_unchecked(rest);
             set_answer(answer, Code::from(why));
             return &rest[..0];
-        }
+        };
         let item = item_of_unchecked(rest);
         let type_ = item.type_;
         if type_ != SdesItem::PRIV {
