@@ -1,5 +1,2 @@
-pub mod Figures
-pub mod Updates
-pub mod Reports
 pub mod Returned
 pub mod Injective

@@ -3,4 +3,3 @@
 
 pub mod figure;
 pub mod reception;
-pub mod wrap;

@@ -1,10 +1,11 @@
 // What is kept of one source (RFC 3550 A.1: `source`), by its names.
+#![tactic(auto, unfolding(rfc3550::specs::Reception::new_reception, rfc3550::specs::Reception::verdict, rfc3550::specs::Reception::update_seq, rfc3550::specs::Reception::update, rfc3550::specs::Reception::block_of, rfc3550::specs::Reception::report_block))]
+
 ghost use Rattle.std.specs.Prelude.{◌≡◌};
 ghost use Rattle.rfc3550.specs.Reception.{new_reception, waits, starts, ahead, jumps, behind, verdict, timed, update, extended, expected, block_of, reported, report_block};
 ghost use Rattle.reception.specs.Reception.{reception_of, update_of, after_verdict, block_is, report_of};
 
 use super::figure::{clamped, cycles_after, fraction_lost, jitter_after};
-use super::wrap::{minus_16, minus_32, plus_32};
 use report::report_block::ReportBlock;
 
 #[derive(Clone, Copy)]
@@ -21,7 +22,7 @@ pub struct Reception {
     pub jitter: u32,
 }
 
-// The state after a packet, and whether A.1 accepts the packet.
+// The state after a packet, and whether A.1 accepts the packet: no Option, since a packet that is not accepted changes the state too.
 #[derive(Clone, Copy)]
 pub struct Update {
     pub reception: Reception,
@@ -49,7 +50,7 @@ impl Reception {
         ensures { reception_of result ≡ new_reception seq }
     {
         Reception {
-            max_seq: minus_16(seq, 1),
+            max_seq: seq.wrapping_sub(1),
             cycles: 0,
             base_seq: seq as u32,
             bad_seq: Reception::NO_SEQ,
@@ -98,7 +99,7 @@ impl Reception {
     fn behind(mut self) -> Update
         ensures { update_of result ≡ after_verdict behind (reception_of self) 0 }
     {
-        self.received = plus_32(self.received, 1);
+        self.received = self.received.wrapping_add(1);
         Update {
             reception: self,
             accepted: true,
@@ -117,7 +118,7 @@ impl Reception {
     fn jumps(mut self, seq: u16) -> Update
         ensures { update_of result ≡ after_verdict jumps (reception_of self) seq }
     {
-        self.bad_seq = std::num::wrapping_add_u16(seq, 1) as u32;
+        self.bad_seq = seq.wrapping_add(1) as u32;
         Update {
             reception: self,
             accepted: false,
@@ -128,7 +129,7 @@ impl Reception {
     pub fn update_seq(self, seq: u16) -> Update
         ensures { update_of result ≡ after_verdict (verdict (reception_of self) seq) (reception_of self) seq }
     {
-        let udelta = minus_16(seq, self.max_seq);
+        let udelta = seq.wrapping_sub(self.max_seq);
         let probation = self.probation;
         if 0 < probation {
             if udelta != 1 {
@@ -171,7 +172,7 @@ impl Reception {
         }
         let reception = after.reception;
         Update {
-            reception: reception.timed(first, minus_32(arrival, timestamp)),
+            reception: reception.timed(first, arrival.wrapping_sub(timestamp)),
             accepted: true,
         }
     }
@@ -180,14 +181,14 @@ impl Reception {
     pub fn extended(self) -> u32
         ensures { result ≡ extended (reception_of self) }
     {
-        plus_32(self.cycles, self.max_seq as u32)
+        self.cycles.wrapping_add(self.max_seq as u32)
     }
 
     // The packets expected since the start.
     pub fn expected(self) -> u32
         ensures { result ≡ expected (reception_of self) }
     {
-        plus_32(minus_32(self.extended(), self.base_seq), 1)
+        self.extended().wrapping_sub(self.base_seq).wrapping_add(1)
     }
 
     fn reported(mut self) -> Reception
@@ -204,15 +205,15 @@ impl Reception {
         ensures { block_is result ≡ block_of (reception_of self) ssrc lsr dlsr }
     {
         let expected = self.expected();
-        let expected_interval = minus_32(expected, self.expected_prior);
-        let received_interval = minus_32(self.received, self.received_prior);
+        let expected_interval = expected.wrapping_sub(self.expected_prior);
+        let received_interval = self.received.wrapping_sub(self.received_prior);
         ReportBlock {
             ssrc,
             fraction_lost: fraction_lost(
-                minus_32(expected_interval, received_interval),
+                expected_interval.wrapping_sub(received_interval),
                 expected_interval,
             ),
-            cumulative_lost: clamped(minus_32(expected, self.received)),
+            cumulative_lost: clamped(expected.wrapping_sub(self.received)),
             extended_sequence_number: self.extended(),
             interarrival_jitter: self.jitter / 16,
             last_sender_report_timestamp: lsr,
