@@ -1,7 +1,7 @@
 -- APP packets: what C gets, from what the reader answers.
 use Rattle.std.specs.Prelude.{Result, Ok}
 use Rattle.rfc3550.proofs.Prelude.{◌≡◌, refl, List, ℕ, ◌≤◌, arith, rules, take, drop}
-use Rattle.rfc3550.specs.Answer.{Answer, ok, map_ok}
+use Rattle.rfc3550.specs.Answer.{ok, map_ok}
 use Rattle.rfc3550.specs.Packet.{Packet}
 use Rattle.rfc3550.specs.Read.{APP, read_as}
 use Rattle.utils.specs.Error.{parsed_of}
@@ -13,8 +13,8 @@ use Rattle.rtcp.specs.App.{app_result}
 use Rattle.rtcp.specs.declared.read_app.RtcpApp.{RtcpApp}
 use Rattle.rtcp.proofs.Results.{viewed}
 
-pub app_order : (o : Result App RtcpParseError) (a : App) (x : Answer Packet) → o ≡ Ok a → parsed_of o ≡ map_ok app_view x → 12 ≤ a.body
-app_order o a x = viewed app_view (λ (a : App). 12 ≤ a.body) x (λ p e. omega arith) o a
+pub app_order : (o : Result App RtcpParseError) (a : App) (s : List ℕ) → o ≡ Ok a → parsed_of o ≡ map_ok app_view (read_as APP s) → 12 ≤ a.body
+app_order o a s = viewed app_view (λ (a : App). 12 ≤ a.body) (read_as APP s) (λ p e. omega arith) o a
 
 -- the bytes at C's places are the packet's fields
 pub record Places (s : List ℕ) (p : Packet) (r : RtcpApp) : Type 0 where

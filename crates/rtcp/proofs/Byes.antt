@@ -1,7 +1,7 @@
 -- BYE packets: what C gets, from what the readers answer.
 use Rattle.std.specs.Prelude.{Result, Ok}
 use Rattle.rfc3550.proofs.Prelude.{◌≡◌, refl, List, ℕ, ◌+◌, ◌^◌, ◌<◌, ◌≤◌, arith, rules, take, drop}
-use Rattle.rfc3550.specs.Answer.{Answer, ok, map_ok}
+use Rattle.rfc3550.specs.Answer.{ok, map_ok}
 use Rattle.rfc3550.specs.Packet.{Packet}
 use Rattle.rfc3550.specs.Read.{BYE, read_as}
 use Rattle.utils.specs.Error.{parsed_of}
@@ -13,9 +13,9 @@ use Rattle.rtcp.specs.Bye.{bye_result}
 use Rattle.rtcp.specs.declared.read_bye.RtcpBye.{RtcpBye}
 use Rattle.rtcp.proofs.Results.{viewed}
 
-module _ (o : Result Bye RtcpParseError) (b : Bye) (x : Answer Packet) (p : o ≡ Ok b) (q : parsed_of o ≡ map_ok bye_view x) where
+module _ (o : Result Bye RtcpParseError) (b : Bye) (s : List ℕ) (p : o ≡ Ok b) (q : parsed_of o ≡ map_ok bye_view (read_as BYE s)) where
   pub bye_order : b.reason + b.reason_len ≤ b.body
-  bye_order = viewed bye_view (λ (b : Bye). b.reason + b.reason_len ≤ b.body) x (λ p e. omega arith) o b p q
+  bye_order = viewed bye_view (λ (b : Bye). b.reason + b.reason_len ≤ b.body) (read_as BYE s) (λ p e. omega arith) o b p q
 
   pub bye_fits : b.body < 2 ^ 64 → b.reason + b.reason_len < 2 ^ 64
   bye_fits l = let m = bye_order in omega arith

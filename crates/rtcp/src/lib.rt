@@ -9,6 +9,7 @@ pub mod read_lookup;
 pub mod read_report;
 pub mod read_sdes;
 pub mod receive;
+mod refusal;
 pub mod write_app;
 pub mod write_bye;
 pub mod write_compound;

@@ -5,8 +5,8 @@ ghost use Rattle.rfc3550.specs.Read.{APP, read_as};
 ghost use Rattle.app.specs.App.{app_view};
 ghost use Rattle.rtcp.specs.App.{app_result};
 
+use super::refusal::refused;
 use app::App;
-use utils::error::Code;
 
 #[repr(C)]
 #[derive(Clone, Copy, Default)]
@@ -25,6 +25,7 @@ pub struct RtcpApp {
 }
 
 // No From, which can require nothing: the length of the data needs an accepted packet.
+#[tactic(auto, using(crate::proofs::Apps::apps))]
 pub fn rtcp_app_parse(s: &[u8]) -> RtcpApp
     ensures { result ≡ app_result (map_ok app_view (read_as APP s.now)) }
 {
@@ -40,14 +41,6 @@ pub fn rtcp_app_parse(s: &[u8]) -> RtcpApp
             padding_len: app.padding_len as u64,
             ..RtcpApp::default()
         },
-        Err(e) => {
-            let code = Code::from(e);
-            RtcpApp {
-                number: code.number,
-                first: code.first,
-                second: code.second,
-                ..RtcpApp::default()
-            }
-        }
+        Err(e) => refused!(RtcpApp, e),
     }
 }

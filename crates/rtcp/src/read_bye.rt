@@ -6,8 +6,9 @@ ghost use Rattle.utils.specs.Error.{parsed_of};
 ghost use Rattle.bye.specs.Bye.{bye_view};
 ghost use Rattle.rtcp.specs.Bye.{bye_result, source_result};
 
+use super::refusal::refused;
 use bye::Bye;
-use utils::error::{Code, RtcpParseError};
+use utils::error::RtcpParseError;
 
 #[repr(C)]
 #[derive(Clone, Copy, Default)]
@@ -43,20 +44,13 @@ impl From<Result<u32, RtcpParseError>> for RtcpSource {
                 ssrc: ssrc as u64,
                 ..RtcpSource::default()
             },
-            Err(e) => {
-                let code = Code::from(e);
-                RtcpSource {
-                    number: code.number,
-                    first: code.first,
-                    second: code.second,
-                    ..RtcpSource::default()
-                }
-            }
+            Err(e) => refused!(RtcpSource, e),
         }
     }
 }
 
 // No From, which can require nothing: the length of the tail needs an accepted packet.
+#[tactic(auto, using(crate::proofs::Byes::byes))]
 pub fn rtcp_bye_parse(s: &[u8]) -> RtcpBye
     ensures { result ≡ bye_result (map_ok bye_view (read_as BYE s.now)) }
 {
@@ -72,15 +66,7 @@ pub fn rtcp_bye_parse(s: &[u8]) -> RtcpBye
             padding_len: bye.padding_len as u64,
             ..RtcpBye::default()
         },
-        Err(e) => {
-            let code = Code::from(e);
-            RtcpBye {
-                number: code.number,
-                first: code.first,
-                second: code.second,
-                ..RtcpBye::default()
-            }
-        }
+        Err(e) => refused!(RtcpBye, e),
     }
 }
 

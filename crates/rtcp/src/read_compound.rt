@@ -10,6 +10,7 @@ ghost use Rattle.compound.specs.Compound.{compound_view, packet_rows, walk_at, s
 ghost use Rattle.rtcp.specs.Compound.{bare_numbers, sr_numbers, rr_numbers, sdes_numbers, bye_numbers, app_numbers, unknown_numbers, numbers_read, compound_result, walk_result, step_result};
 ghost use Rattle.rtcp.specs.WriteResult.{written_with_buffer};
 
+use super::refusal::refused;
 use super::write_result::RtcpWritten;
 use app::App;
 use bye::Bye;
@@ -75,11 +76,8 @@ impl RtcpStep {
         ensures { result ≡ step_result at (refused (code_refusal code)) }
     {
         RtcpStep {
-            number: code.number,
-            first: code.first,
-            second: code.second,
             at,
-            ..Self::default()
+            ..refused!(RtcpStep, code)
         }
     }
 }
@@ -242,15 +240,7 @@ impl From<Result<Compound, RtcpParseError>> for RtcpCompound {
                 n_packets: compound.n_packets as u64,
                 ..RtcpCompound::default()
             },
-            Err(e) => {
-                let code = Code::from(e);
-                RtcpCompound {
-                    number: code.number,
-                    first: code.first,
-                    second: code.second,
-                    ..RtcpCompound::default()
-                }
-            }
+            Err(e) => refused!(RtcpCompound, e),
         }
     }
 }
@@ -264,15 +254,7 @@ impl From<Result<Walk, RtcpParseError>> for RtcpWalk {
                 at: walk.at as u64,
                 ..RtcpWalk::default()
             },
-            Err(e) => {
-                let code = Code::from(e);
-                RtcpWalk {
-                    number: code.number,
-                    first: code.first,
-                    second: code.second,
-                    ..RtcpWalk::default()
-                }
-            }
+            Err(e) => refused!(RtcpWalk, e),
         }
     }
 }

@@ -4,7 +4,8 @@ ghost use Rattle.rfc3550.specs.Lookup.{Visited, lookup_with};
 ghost use Rattle.utils.specs.Error.{parsed_of};
 ghost use Rattle.rtcp.specs.Lookup.{lookup_result, lookup_with_answers};
 
-use utils::error::{Code, RtcpParseError};
+use super::refusal::refused;
+use utils::error::RtcpParseError;
 
 #[repr(C)]
 #[derive(Clone, Copy, Default)]
@@ -24,15 +25,7 @@ impl From<Result<usize, RtcpParseError>> for RtcpLookup {
                 visits: visits as u64,
                 ..RtcpLookup::default()
             },
-            Err(e) => {
-                let code = Code::from(e);
-                RtcpLookup {
-                    number: code.number,
-                    first: code.first,
-                    second: code.second,
-                    ..RtcpLookup::default()
-                }
-            }
+            Err(e) => refused!(RtcpLookup, e),
         }
     }
 }

@@ -1,20 +1,19 @@
 // Reports and their blocks.
 ghost use Rattle.std.specs.Prelude.{◌≡◌, ◌≤◌};
-ghost use Rattle.rfc3550.specs.Answer.{ok, refused, map_ok};
+ghost use Rattle.rfc3550.specs.Answer.{Answer, ok, refused, map_ok};
 ghost use Rattle.rfc3550.specs.Read.{RR, SR, read_as, read_block, read_block_at};
 ghost use Rattle.utils.specs.Error.{code_refusal, parsed_of};
-ghost use Rattle.utils.specs.List.{listed_of};
 ghost use Rattle.report.specs.Block.{block_view, lay_blocks};
 ghost use Rattle.report.specs.Report.{receiver_view, sender_view, report_blocks};
-ghost use Rattle.rtcp.specs.Report.{block_result, rr_result, sr_result, blocks_out, read_out, read_both};
+ghost use Rattle.rtcp.specs.Report.{block_result, rr_result, sr_result, blocks_out, read_both};
 
+use super::refusal::refused;
 use super::write_result::RtcpWritten;
 use report::receiver::ReceiverReport;
 use report::report::Report;
 use report::report_block::{ReportBlock, list_blocks_unchecked};
 use report::sender::SenderReport;
 use utils::error::{Code, RtcpParseError};
-use utils::list::ListError;
 
 #[repr(C)]
 #[derive(Clone, Copy, Default)]
@@ -78,38 +77,61 @@ impl From<Result<ReportBlock, RtcpParseError>> for RtcpBlock {
                 delay_since_last_sender_report_timestamp: block.delay_since_last_sender_report_timestamp as u64,
                 ..RtcpBlock::default()
             },
-            Err(e) => {
-                let code = Code::from(e);
-                RtcpBlock {
-                    number: code.number,
-                    first: code.first,
-                    second: code.second,
-                    ..RtcpBlock::default()
-                }
-            }
+            Err(e) => refused!(RtcpBlock, e),
         }
     }
 }
 
-impl From<Code> for RtcpRr {
-    ghost from_gives = { λ c r. r ≡ rr_result (refused (code_refusal c)) };
+// A report as C gets it: its numbers, by themselves and with its blocks. Stated once, over the kind.
+trait RtcpReport: Copy {
+    type Parsed: Report;
 
-    fn from(code: Code) -> RtcpRr {
-        RtcpRr {
-            number: code.number,
-            first: code.first,
-            second: code.second,
-            ..RtcpRr::default()
-        }
-    }
-}
+    // What C gets of the answer.
+    ghost shown: { Answer Self.Parsed → Self };
 
-impl RtcpRr {
-    // No From, which can require nothing: the extension's length needs its start.
-    fn from_report(rr: ReceiverReport) -> RtcpRr
-        requires { rr.extension ≤ rr.body }
-        ensures { result ≡ rr_result (ok rr) }
+    fn refused(code: Code) -> Self
+        ensures { result ≡ shown (refused (code_refusal code)) };
+
+    // The extension's length needs its start.
+    fn accepted(report: Self::Parsed) -> Self
+        requires { (Self.Parsed.places report).extension ≤ (Self.Parsed.places report).body }
+        ensures { result ≡ shown (ok report) };
+
+    final fn parse(s: &[u8]) -> Self
+        ensures { result ≡ shown (map_ok Self.Parsed.view (read_as Self.Parsed.kind s.now)) }
     {
+        match Self::Parsed::parse(s) {
+            Ok(report) => Self::accepted(report),
+            Err(e) => Self::refused(Code::from(e)),
+        }
+    }
+
+    // The report's own numbers, and its blocks as report_blocks lays them, in one reading of the packet.
+    final fn read(s: &[u8], fractions: &mut [u8], losses: &mut [i32], words: &mut [u32]) -> Self
+        ensures { (result, fractions.new, losses.new, words.new) ≡ read_both shown (map_ok Self.Parsed.view (read_as Self.Parsed.kind s.now)) (lay_blocks (map_ok report_blocks (read_as Self.Parsed.kind s.now)) fractions.old losses.old words.old) }
+    {
+        let report = match Self::Parsed::parse(s) {
+            Ok(report) => report,
+            Err(e) => return Self::refused(Code::from(e)),
+        };
+        let n = report.places().n_reports;
+        match list_blocks_unchecked(s, Self::Parsed::MIN_PACKET_LEN, n, fractions, losses, words) {
+            Ok(_) => Self::accepted(report),
+            Err(e) => Self::refused(Code::from(e)),
+        }
+    }
+}
+
+impl RtcpReport for RtcpRr {
+    type Parsed = ReceiverReport;
+
+    ghost shown = { rr_result };
+
+    fn refused(code: Code) -> RtcpRr {
+        refused!(RtcpRr, code)
+    }
+
+    fn accepted(rr: ReceiverReport) -> RtcpRr {
         RtcpRr {
             ssrc: rr.ssrc as u64,
             n_reports: rr.n_reports as u64,
@@ -117,41 +139,21 @@ impl RtcpRr {
             extension_len: (rr.body - rr.extension) as u64,
             body: rr.body as u64,
             padding_len: rr.padding_len as u64,
-            ..Self::default()
-        }
-    }
-
-    // A report whose blocks were handed over, or why they were not.
-    fn from_listed(rr: ReceiverReport, listed: Result<usize, ListError>) -> RtcpRr
-        requires { rr.extension ≤ rr.body }
-        ensures { result ≡ read_out rr_result (ok rr) (listed_of listed) }
-    {
-        match listed {
-            Ok(_) => RtcpRr::from_report(rr),
-            Err(e) => RtcpRr::from(Code::from(e)),
+            ..RtcpRr::default()
         }
     }
 }
 
-impl From<Code> for RtcpSr {
-    ghost from_gives = { λ c r. r ≡ sr_result (refused (code_refusal c)) };
+impl RtcpReport for RtcpSr {
+    type Parsed = SenderReport;
 
-    fn from(code: Code) -> RtcpSr {
-        RtcpSr {
-            number: code.number,
-            first: code.first,
-            second: code.second,
-            ..RtcpSr::default()
-        }
+    ghost shown = { sr_result };
+
+    fn refused(code: Code) -> RtcpSr {
+        refused!(RtcpSr, code)
     }
-}
 
-impl RtcpSr {
-    // No From, which can require nothing: the extension's length needs its start.
-    fn from_report(sr: SenderReport) -> RtcpSr
-        requires { sr.extension ≤ sr.body }
-        ensures { result ≡ sr_result (ok sr) }
-    {
+    fn accepted(sr: SenderReport) -> RtcpSr {
         RtcpSr {
             ssrc: sr.ssrc as u64,
             ntp_timestamp: sr.ntp_timestamp,
@@ -163,18 +165,7 @@ impl RtcpSr {
             extension_len: (sr.body - sr.extension) as u64,
             body: sr.body as u64,
             padding_len: sr.padding_len as u64,
-            ..Self::default()
-        }
-    }
-
-    // A report whose blocks were handed over, or why they were not.
-    fn from_listed(sr: SenderReport, listed: Result<usize, ListError>) -> RtcpSr
-        requires { sr.extension ≤ sr.body }
-        ensures { result ≡ read_out sr_result (ok sr) (listed_of listed) }
-    {
-        match listed {
-            Ok(_) => RtcpSr::from_report(sr),
-            Err(e) => RtcpSr::from(Code::from(e)),
+            ..RtcpSr::default()
         }
     }
 }
@@ -188,23 +179,13 @@ pub fn rtcp_block_parse(s: &[u8]) -> RtcpBlock
 pub fn rtcp_rr_parse(s: &[u8]) -> RtcpRr
     ensures { result ≡ rr_result (map_ok receiver_view (read_as RR s.now)) }
 {
-    let rr = ReceiverReport::read(s);
-    if rr.body == 0 {
-        let why = ReceiverReport::why(&s[0..]);
-        return RtcpRr::from(Code::from(why));
-    }
-    RtcpRr::from_report(rr)
+    RtcpRr::parse(s)
 }
 
 pub fn rtcp_sr_parse(s: &[u8]) -> RtcpSr
     ensures { result ≡ sr_result (map_ok sender_view (read_as SR s.now)) }
 {
-    let sr = SenderReport::read(s);
-    if sr.body == 0 {
-        let why = SenderReport::why(&s[0..]);
-        return RtcpSr::from(Code::from(why));
-    }
-    RtcpSr::from_report(sr)
+    RtcpSr::parse(s)
 }
 
 // The block with an index, from 0.
@@ -247,37 +228,11 @@ pub fn rtcp_sr_report_blocks(
 pub fn rtcp_rr_read(s: &[u8], fractions: &mut [u8], losses: &mut [i32], words: &mut [u32]) -> RtcpRr
     ensures { (result, fractions.new, losses.new, words.new) ≡ read_both rr_result (map_ok receiver_view (read_as RR s.now)) (lay_blocks (map_ok report_blocks (read_as RR s.now)) fractions.old losses.old words.old) }
 {
-    let rr = ReceiverReport::read(s);
-    if rr.body == 0 {
-        let why = ReceiverReport::why(&s[0..]);
-        return RtcpRr::from(Code::from(why));
-    }
-    let listed = list_blocks_unchecked(
-        s,
-        ReceiverReport::MIN_PACKET_LEN,
-        rr.n_reports,
-        fractions,
-        losses,
-        words,
-    );
-    RtcpRr::from_listed(rr, listed)
+    RtcpRr::read(s, fractions, losses, words)
 }
 
 pub fn rtcp_sr_read(s: &[u8], fractions: &mut [u8], losses: &mut [i32], words: &mut [u32]) -> RtcpSr
     ensures { (result, fractions.new, losses.new, words.new) ≡ read_both sr_result (map_ok sender_view (read_as SR s.now)) (lay_blocks (map_ok report_blocks (read_as SR s.now)) fractions.old losses.old words.old) }
 {
-    let sr = SenderReport::read(s);
-    if sr.body == 0 {
-        let why = SenderReport::why(&s[0..]);
-        return RtcpSr::from(Code::from(why));
-    }
-    let listed = list_blocks_unchecked(
-        s,
-        SenderReport::MIN_PACKET_LEN,
-        sr.n_reports,
-        fractions,
-        losses,
-        words,
-    );
-    RtcpSr::from_listed(sr, listed)
+    RtcpSr::read(s, fractions, losses, words)
 }

@@ -11,10 +11,11 @@ ghost use Rattle.sdes.specs.Sdes.{sdes_view};
 ghost use Rattle.sdes.specs.Walk.{chunk_walk, chunk_stepped};
 ghost use Rattle.rtcp.specs.Sdes.{sdes_result, prefix_start, item_parts, item_result, prefix_result, chunk_result, chunk_walk_result, chunk_step_result, item_walk_result, item_step_result};
 
+use super::refusal::refused;
 use sdes::sdes::{ChunkWalk, Sdes};
 use sdes_chunk::chunk::{ItemWalk, SdesChunk};
 use sdes_chunk::item::SdesItem;
-use utils::error::{Code, RtcpParseError};
+use utils::error::RtcpParseError;
 
 #[repr(C)]
 #[derive(Clone, Copy, Default)]
@@ -153,15 +154,7 @@ impl From<Result<Sdes, RtcpParseError>> for RtcpSdes {
                 padding_len: sdes.padding_len as u64,
                 ..RtcpSdes::default()
             },
-            Err(e) => {
-                let code = Code::from(e);
-                RtcpSdes {
-                    number: code.number,
-                    first: code.first,
-                    second: code.second,
-                    ..RtcpSdes::default()
-                }
-            }
+            Err(e) => refused!(RtcpSdes, e),
         }
     }
 }
@@ -177,15 +170,7 @@ impl From<Result<SdesChunk, RtcpParseError>> for RtcpChunk {
                 cname: chunk.cname as u64,
                 ..RtcpChunk::default()
             },
-            Err(e) => {
-                let code = Code::from(e);
-                RtcpChunk {
-                    number: code.number,
-                    first: code.first,
-                    second: code.second,
-                    ..RtcpChunk::default()
-                }
-            }
+            Err(e) => refused!(RtcpChunk, e),
         }
     }
 }
@@ -200,15 +185,7 @@ impl From<Result<ChunkWalk, RtcpParseError>> for RtcpChunkWalk {
                 end: chunks.end as u64,
                 ..RtcpChunkWalk::default()
             },
-            Err(e) => {
-                let code = Code::from(e);
-                RtcpChunkWalk {
-                    number: code.number,
-                    first: code.first,
-                    second: code.second,
-                    ..RtcpChunkWalk::default()
-                }
-            }
+            Err(e) => refused!(RtcpChunkWalk, e),
         }
     }
 }
@@ -222,15 +199,7 @@ impl From<Result<ItemWalk, RtcpParseError>> for RtcpItemWalk {
                 at: items.at as u64,
                 ..RtcpItemWalk::default()
             },
-            Err(e) => {
-                let code = Code::from(e);
-                RtcpItemWalk {
-                    number: code.number,
-                    first: code.first,
-                    second: code.second,
-                    ..RtcpItemWalk::default()
-                }
-            }
+            Err(e) => refused!(RtcpItemWalk, e),
         }
     }
 }
@@ -242,6 +211,7 @@ pub fn rtcp_sdes_parse(s: &[u8]) -> RtcpSdes
 }
 
 // A lone item. No From, which can require nothing: the parts need an accepted item.
+#[tactic(auto, using(crate::proofs::Descriptions::descriptions))]
 pub fn rtcp_item_parse(s: &[u8]) -> RtcpItem
     ensures { result ≡ item_result (map_ok item_first (read_item s.now)) }
 {
@@ -258,15 +228,7 @@ pub fn rtcp_item_parse(s: &[u8]) -> RtcpItem
                 ..RtcpItem::default()
             }
         }
-        Err(e) => {
-            let code = Code::from(e);
-            RtcpItem {
-                number: code.number,
-                first: code.first,
-                second: code.second,
-                ..RtcpItem::default()
-            }
-        }
+        Err(e) => refused!(RtcpItem, e),
     }
 }
 
@@ -322,17 +284,11 @@ pub fn rtcp_chunk_walk_step(s: &[u8], at: u64, end: u64) -> RtcpChunkStep
             end: next.end as u64,
             ..RtcpChunkStep::default()
         },
-        Err(e) => {
-            let code = Code::from(e);
-            RtcpChunkStep {
-                number: code.number,
-                first: code.first,
-                second: code.second,
-                at,
-                end,
-                ..RtcpChunkStep::default()
-            }
-        }
+        Err(e) => RtcpChunkStep {
+            at,
+            end,
+            ..refused!(RtcpChunkStep, e)
+        },
     }
 }
 
@@ -361,15 +317,9 @@ pub fn rtcp_item_walk_step(s: &[u8], at: u64) -> RtcpItemStep
                 ..RtcpItemStep::default()
             }
         }
-        Err(e) => {
-            let code = Code::from(e);
-            RtcpItemStep {
-                number: code.number,
-                first: code.first,
-                second: code.second,
-                at,
-                ..RtcpItemStep::default()
-            }
-        }
+        Err(e) => RtcpItemStep {
+            at,
+            ..refused!(RtcpItemStep, e)
+        },
     }
 }

@@ -28,6 +28,7 @@ pub fn rtcp_app_write(
 }
 
 // The size is the same for every SSRC.
+#[tactic(auto, using(crate::proofs::WriteResults::sizes))]
 pub fn rtcp_app_size(subtype: u64, name: &[u8], data: &[u8], padding: u64) -> RtcpWritten
     ensures { (ssrc : ℕ) → result ≡ written_result (calculate_size (give_app subtype ssrc name.now «data».now padding)) }
 {

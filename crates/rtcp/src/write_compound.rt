@@ -10,6 +10,7 @@ ghost use Rattle.sdes_write.specs.Packets.{lists};
 ghost use Rattle.compound_write.specs.Writer.{writer_of, call_of};
 ghost use Rattle.rtcp.specs.WriteCompound.{writer_in, writer_out, call_result, call_with_state, call_with_buffer};
 
+use super::refusal::refused;
 use app::write::AppBuilder;
 use bye::write::ByeBuilder;
 use compound_write::writer::{Call, Writer};
@@ -17,7 +18,7 @@ use report_write::receiver::ReceiverReportBuilder;
 use report_write::report_block::BlockLists;
 use report_write::sender::{SenderInfo, SenderReportBuilder};
 use sdes_write::SdesBuilder;
-use utils::error::{Code, RtcpWriteError};
+use utils::error::RtcpWriteError;
 
 // What a call answers: 0, or the refusal and its details, which leaves the writer and the buffer as they were.
 #[repr(C)]
@@ -55,14 +56,7 @@ impl From<Result<(), RtcpWriteError>> for RtcpCall {
     fn from(answer: Result<(), RtcpWriteError>) -> RtcpCall {
         match answer {
             Ok(()) => RtcpCall::default(),
-            Err(e) => {
-                let code = Code::from(e);
-                RtcpCall {
-                    number: code.number,
-                    first: code.first,
-                    second: code.second,
-                }
-            }
+            Err(e) => refused!(RtcpCall, e),
         }
     }
 }

@@ -35,6 +35,7 @@ pub fn rtcp_rr_write(
 }
 
 // The size is the same for every SSRC.
+#[tactic(auto, using(crate::proofs::WriteReports::sizes))]
 pub fn rtcp_rr_size(fractions: &[u8], losses: &[i32], words: &[u32], padding: u64) -> RtcpWritten
     ensures { (ssrc : ℕ) → result ≡ written_result (calculate_size (give_report (receiver ssrc) (block_lists fractions.now losses.now words.now) padding)) }
 {
@@ -86,6 +87,7 @@ pub fn rtcp_sr_write(
 }
 
 // The size is the same for everything that a sender says of itself.
+#[tactic(auto, using(crate::proofs::WriteReports::sizes))]
 pub fn rtcp_sr_size(fractions: &[u8], losses: &[i32], words: &[u32], padding: u64) -> RtcpWritten
     ensures { (ssrc ntp rtp packets octets : ℕ) → result ≡ written_result (calculate_size (give_report (sender ssrc ntp rtp packets octets) (block_lists fractions.now losses.now words.now) padding)) }
 {

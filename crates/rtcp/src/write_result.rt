@@ -1,12 +1,11 @@
 // What every write, every size and every call that fills a lent list hands over.
 ghost use Rattle.std.specs.Prelude.{◌≡◌};
-ghost use Rattle.rfc3550.specs.Answer.{refused};
-ghost use Rattle.utils.specs.Error.{code_refusal};
 ghost use Rattle.utils.specs.List.{listed_of};
 ghost use Rattle.utils.specs.Writer.{written_of};
 ghost use Rattle.rtcp.specs.WriteResult.{written_result};
 
-use utils::error::{Code, RtcpWriteError};
+use super::refusal::refused;
+use utils::error::RtcpWriteError;
 use utils::list::ListError;
 
 #[repr(C)]
@@ -18,19 +17,6 @@ pub struct RtcpWritten {
     pub size: u64,
 }
 
-impl From<Code> for RtcpWritten {
-    ghost from_gives = { λ c r. r ≡ written_result (refused (code_refusal c)) };
-
-    fn from(code: Code) -> RtcpWritten {
-        RtcpWritten {
-            number: code.number,
-            first: code.first,
-            second: code.second,
-            size: 0,
-        }
-    }
-}
-
 impl From<Result<usize, RtcpWriteError>> for RtcpWritten {
     ghost from_gives = { λ w r. r ≡ written_result (written_of w) };
 
@@ -40,7 +26,7 @@ impl From<Result<usize, RtcpWriteError>> for RtcpWritten {
                 size: size as u64,
                 ..RtcpWritten::default()
             },
-            Err(e) => RtcpWritten::from(Code::from(e)),
+            Err(e) => refused!(RtcpWritten, e),
         }
     }
 }
@@ -54,7 +40,7 @@ impl From<Result<usize, ListError>> for RtcpWritten {
                 size: len as u64,
                 ..RtcpWritten::default()
             },
-            Err(why) => RtcpWritten::from(Code::from(why)),
+            Err(why) => refused!(RtcpWritten, why),
         }
     }
 }

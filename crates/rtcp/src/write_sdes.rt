@@ -38,6 +38,7 @@ pub fn rtcp_chunk_write(
 }
 
 // The size is the same for every SSRC.
+#[tactic(auto, using(crate::proofs::WriteResults::sizes))]
 pub fn rtcp_chunk_size(types: &[u8], prefixes: &[u64], values: &[u64], bytes: &[u8]) -> RtcpWritten
     ensures { (ssrc : ℕ) → result ≡ written_result (chunk_size ssrc types.now prefixes.now values.now bytes.now) }
 {

@@ -1,5 +1,0 @@
-use Rattle.rtcp.proofs.WriteResults.{outs}
-use Rattle.rtcp.proofs.write_sdes.rtcp_chunk_size.Goals as goal
-
-pub returns : goal.returns
-returns c = search outs
