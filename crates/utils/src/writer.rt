@@ -1,10 +1,12 @@
 // Numbers, zeros, runs of bytes, headers and padding laid into a buffer (utils.rs, `writer`). Those named `.._unchecked` are
 // called where the bytes are known to fit.
+#![tactic(auto, using(crate::proofs::WriterCases::writer))]
+
 ghost use Rattle.std.specs.Prelude.{◌≡◌, ◌+◌, ◌%◌, ◌≤◌, ◌<◌, length, take, drop, replicate};
 ghost use Rattle.rfc3550.specs.Bytes.{be, store};
 ghost use Rattle.rfc3550.specs.Packet.{fill};
 ghost use Rattle.rfc3550.specs.Write.{padding_ok, padding_bytes};
-ghost use Rattle.utils.specs.Writer.{first_byte, header, reversed, reversed_eight};
+ghost use Rattle.utils.specs.Writer.{first_byte, header};
 
 use crate::error::RtcpWriteError;
 use crate::parser;
@@ -15,57 +17,40 @@ pub const MAX_COUNT: usize = 31;
 // The bytes of the greatest length that a header states.
 pub const MAX_PACKET_LEN: usize = 262144;
 
+// Bytes laid into a buffer from an index on, as many as the array has.
+fn write_array<const N: usize>(buf: &mut [u8], at: usize, bytes: [u8; N])
+    requires { at + N ≤ length buf.old }
+    ensures { buf.new ≡ store at bytes.entry buf.old }
+{
+    buf[at..at + N].copy_from_slice(&bytes);
+}
+
 pub fn write_u16_unchecked(buf: &mut [u8], at: usize, v: u16)
     requires { at + 2 ≤ length buf.old }
     ensures { buf.new ≡ store at (be 2 v) buf.old }
 {
-    buf[at] = (v / 256 % 256) as u8;
-    buf[at + 1] = (v % 256) as u8;
+    write_array::<2>(buf, at, v.to_be_bytes());
 }
 
-// The four bytes of a number, the last first.
-fn write_reversed(buf: &mut [u8], at: usize, v: u32)
-    requires { at + 4 ≤ length buf.old }
-    ensures { buf.new ≡ store at (reversed v) buf.old }
-{
-    buf[at] = (v % 256) as u8;
-    buf[at + 1] = (v / 256 % 256) as u8;
-    buf[at + 2] = (v / 65536 % 256) as u8;
-    buf[at + 3] = (v / 16777216 % 256) as u8;
-}
-
-// By a swap and a store of the bytes in the machine's order: so it is compiled to one store wherever it stands.
 pub fn write_u32_unchecked(buf: &mut [u8], at: usize, v: u32)
     requires { at + 4 ≤ length buf.old }
     ensures { buf.new ≡ store at (be 4 v) buf.old }
 {
-    write_reversed(buf, at, parser::swap_bytes(v));
+    write_array::<4>(buf, at, v.to_be_bytes());
 }
 
 pub fn write_u64_unchecked(buf: &mut [u8], at: usize, v: u64)
     requires { at + 8 ≤ length buf.old }
     ensures { buf.new ≡ store at (be 8 v) buf.old }
 {
-    buf[at] = (v / 72057594037927936 % 256) as u8;
-    buf[at + 1] = (v / 281474976710656 % 256) as u8;
-    buf[at + 2] = (v / 1099511627776 % 256) as u8;
-    buf[at + 3] = (v / 4294967296 % 256) as u8;
-    buf[at + 4] = (v / 16777216 % 256) as u8;
-    buf[at + 5] = (v / 65536 % 256) as u8;
-    buf[at + 6] = (v / 256 % 256) as u8;
-    buf[at + 7] = (v % 256) as u8;
+    write_array::<8>(buf, at, v.to_be_bytes());
 }
 
-// By hand: `fill` takes an instruction more.
 pub fn write_zeros_unchecked(buf: &mut [u8], at: usize, n: usize)
     requires { at + n ≤ length buf.old }
     ensures { buf.new ≡ store at (replicate n 0) buf.old }
 {
-    let mut k: usize = 0;
-    while k < n {
-        buf[at + k] = 0;
-        k += 1;
-    }
+    buf[at..at + n].fill(0);
 }
 
 // The zeros from an index up to the word boundary after it, one to four. Without a loop: a loop over so few is compiled to a call. By hand: a `match` of
@@ -89,81 +74,35 @@ pub fn write_fill_unchecked(buf: &mut [u8], at: usize)
     }
 }
 
-// The number of the eight bytes from index at on, the last of them first.
-fn reversed_eight(s: &[u8], at: usize) -> u64
-    requires { at + 8 ≤ length s.now }
-    ensures { reversed_eight result ≡ take 8 (drop at s.now) }
+// N bytes of src from index k on, each laid as far behind index at as it stands in src.
+fn copy<const N: usize>(buf: &mut [u8], at: usize, src: &[u8], k: usize)
+    requires { (k + N ≤ length src.now) × (at + length src.now ≤ length buf.old) }
+    ensures { buf.new ≡ store (at + k) (take N (drop k src.now)) buf.old }
 {
-    let low = parser::u32_from_le_unchecked(s, at) as u64;
-    let high = parser::u32_from_le_unchecked(s, at + 4) as u64;
-    low + high * 4294967296
+    write_array(buf, at + k, parser::bytes_at::<N>(src, k));
 }
 
-fn write_reversed_eight(buf: &mut [u8], at: usize, v: u64)
-    requires { at + 8 ≤ length buf.old }
-    ensures { buf.new ≡ store at (reversed_eight v) buf.old }
+// The first N bytes and the last N, which may share some.
+fn copy_ends<const N: usize>(buf: &mut [u8], at: usize, src: &[u8])
+    requires { (N ≤ length src.now) × (length src.now ≤ N + N) × (at + length src.now ≤ length buf.old) }
+    ensures { buf.new ≡ store at src.now buf.old }
 {
-    write_reversed(buf, at, (v % 4294967296) as u32);
-    write_reversed(buf, at + 4, (v / 4294967296) as u32);
+    copy::<N>(buf, at, src, 0);
+    copy::<N>(buf, at, src, src.len() - N);
 }
 
-// The two bytes of src from index k on, each laid as far behind index at as it stands in src. By hand, as all the copies below: as one function over
-// arrays of N bytes, laid by `copy_from_slice`, they take 9 instructions more a chunk of an SDES; one `copy_from_slice` of a text takes 41 more.
-fn copy_two(buf: &mut [u8], at: usize, src: &[u8], k: usize)
-    requires { (k + 2 ≤ length src.now) × (at + length src.now ≤ length buf.old) }
-    ensures { buf.new ≡ store (at + k) (take 2 (drop k src.now)) buf.old }
-{
-    let v = parser::u16_from_be_bytes(src, k);
-    write_u16_unchecked(buf, at + k, v);
-}
-
-// Four of them, as one number: it is compiled to one load and one store.
-fn copy_four(buf: &mut [u8], at: usize, src: &[u8], k: usize)
-    requires { (k + 4 ≤ length src.now) × (at + length src.now ≤ length buf.old) }
-    ensures { buf.new ≡ store (at + k) (take 4 (drop k src.now)) buf.old }
-{
-    let v = parser::u32_from_le_unchecked(src, k);
-    write_reversed(buf, at + k, v);
-}
-
-fn copy_eight(buf: &mut [u8], at: usize, src: &[u8], k: usize)
-    requires { (k + 8 ≤ length src.now) × (at + length src.now ≤ length buf.old) }
-    ensures { buf.new ≡ store (at + k) (take 8 (drop k src.now)) buf.old }
-{
-    let v = reversed_eight(src, k);
-    write_reversed_eight(buf, at + k, v);
-}
-
-fn copy_sixteen(buf: &mut [u8], at: usize, src: &[u8], k: usize)
-    requires { (k + 16 ≤ length src.now) × (at + length src.now ≤ length buf.old) }
-    ensures { buf.new ≡ store (at + k) (take 16 (drop k src.now)) buf.old }
-{
-    copy_eight(buf, at, src, k + 8);
-    copy_eight(buf, at, src, k);
-}
-
-fn copy_thirty_two(buf: &mut [u8], at: usize, src: &[u8], k: usize)
-    requires { (k + 32 ≤ length src.now) × (at + length src.now ≤ length buf.old) }
-    ensures { buf.new ≡ store (at + k) (take 32 (drop k src.now)) buf.old }
-{
-    copy_sixteen(buf, at, src, k + 16);
-    copy_sixteen(buf, at, src, k);
-}
-
-// Less than eight bytes: the first and the last four, or two, which may share some.
+// Less than eight bytes.
 fn write_few(buf: &mut [u8], at: usize, src: &[u8])
     requires { (length src.now < 8) × (at + length src.now ≤ length buf.old) }
     ensures { buf.new ≡ store at src.now buf.old }
 {
     let n = src.len();
     if 4 <= n {
-        copy_four(buf, at, src, 0);
-        copy_four(buf, at, src, n - 4);
+        copy_ends::<4>(buf, at, src);
         return;
     }
     if 2 <= n {
-        copy_two(buf, at, src, 0);
-        copy_two(buf, at, src, n - 2);
+        copy_ends::<2>(buf, at, src);
         return;
     }
     if 0 < n {
@@ -172,17 +111,16 @@ fn write_few(buf: &mut [u8], at: usize, src: &[u8])
 }
 
 // More than 32 bytes, and the last 32, which may share some with those before.
+#[cold]
 fn write_many(buf: &mut [u8], at: usize, src: &[u8])
     requires { (32 ≤ length src.now) × (at + length src.now ≤ length buf.old) }
     ensures { buf.new ≡ store at src.now buf.old }
 {
-    let n = src.len();
-    let mut k: usize = 0;
-    while 32 < n - k {
-        copy_thirty_two(buf, at, src, k);
-        k += 32;
+    let last = src.len() - 32;
+    for k in (0..last).step_by(32) {
+        copy::<32>(buf, at, src, k);
     }
-    copy_thirty_two(buf, at, src, n - 32);
+    copy::<32>(buf, at, src, last);
 }
 
 // Up to 32 bytes without a loop: most texts are short.
@@ -196,13 +134,11 @@ pub fn write_bytes_unchecked(buf: &mut [u8], at: usize, src: &[u8])
         return;
     }
     if n <= 16 {
-        copy_eight(buf, at, src, 0);
-        copy_eight(buf, at, src, n - 8);
+        copy_ends::<8>(buf, at, src);
         return;
     }
     if n <= 32 {
-        copy_sixteen(buf, at, src, 0);
-        copy_sixteen(buf, at, src, n - 16);
+        copy_ends::<16>(buf, at, src);
         return;
     }
     write_many(buf, at, src);
@@ -220,7 +156,6 @@ fn first_byte(padding: u64, count: u8) -> u8
 }
 
 // The header of a packet of so many bytes, at the start of buf.
-#[tactic(auto, using(crate::proofs::WriterCases::writer))]
 pub fn write_header_unchecked(buf: &mut [u8], padding: u64, count: u8, packet_type: u8, size: usize)
     requires { (count < 32) × (4 ≤ size) × (size ≤ 262144) × (4 ≤ length buf.old) }
     ensures { buf.new ≡ store 0 (header padding count packet_type size) buf.old }
@@ -232,7 +167,6 @@ pub fn write_header_unchecked(buf: &mut [u8], padding: u64, count: u8, packet_ty
 }
 
 // Zeros, and the count last.
-#[tactic(auto, using(crate::proofs::WriterCases::writer))]
 pub fn write_padding_unchecked(buf: &mut [u8], at: usize, padding: u64)
     requires { (padding ≤ 252) × (at + padding ≤ length buf.old) }
     ensures { buf.new ≡ store at (padding_bytes padding) buf.old }

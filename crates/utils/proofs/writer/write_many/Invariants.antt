@@ -1,9 +1,5 @@
-use Rattle.rfc3550.proofs.Prelude.{◌-◌, length}
 use Rattle.utils.proofs.WriterCases.{Copying}
 use Rattle.utils.proofs.writer.write_many.Given as goal
 
 abbrev pub invariant-loop-k : goal.invariant-loop-k
 invariant-loop-k l = Copying l.at l.src l.initial.buf l.buf l.k
-
-abbrev pub decreases-loop-k : goal.decreases-loop-k
-decreases-loop-k l = length l.src - l.k
