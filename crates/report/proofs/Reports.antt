@@ -221,7 +221,7 @@ module _ {k : Kind} {ws : List ℕ} {who : List ℕ → Reporter} (m : ReporterK
       let v = placed in
       ap (λ (a : Places). a.n_reports) (sym v.2) ∙ ap (λ (p : Packet). length (report_blocks p)) (ok_injective (sym v.1 ∙ w.packet)) ∙ count_is m s at.body w.enough w.within
 
-  pub placed_long : (n : ℕ) → n ≤ least k → n ≤ length s
+  placed_long : (n : ℕ) → n ≤ least k → n ≤ length s
   placed_long n l = let w = is_whole m s at.body placed_body in omega (arith, w.enough, w.within)
 
 -- a report that was read tells where the parts lie
@@ -337,7 +337,7 @@ module _ {k : Kind} {ws : List ℕ} {who : List ℕ → Reporter} (m : ReporterK
       let v = placed m s at h in
       sym (ap (λ (p : Packet). length p.padding) (sym (is_packet m s v.0 v.1)) ∙ length-drop (report_body v.0) s ∙ ap (λ (a : Places). length s - a.body) v.2)
 
-  pub placed_inside : at.body ≤ length s
+  placed_inside : at.body ≤ length s
   placed_inside = let w = is_whole m s at.body (placed_body m s at h) in w.within
 
 module _ (s : List ℕ) (at : Places) where
@@ -359,4 +359,18 @@ module _ (s : List ℕ) (at : Places) where
       rw (drop-drop 4 4 s, drop-drop 8 8 s, drop-drop 4 16 s, drop-drop 4 20 s, p₁, p₂, p₃, p₄, p₅) in
       ap ok (sender_of v.0 at v.2 x ntp rtp packets octets (length s - at.body) (q ∙ sym f) (placed_padding sender_maker s at h)) ∙ sym (ap (map_ok sender_view) v.1)
 
-pub ruleset fields = (rules, receiver_maker, sender_maker, placed_long, placed_inside, receiver_fields, sender_fields)
+-- what the fields' places ask, of each kind
+module _ (s : List ℕ) (at : Places) where
+  pub receiver_long : map_ok places_of (read_as RR s) ≡ ok at → 8 ≤ length s
+  receiver_long h = placed_long receiver_maker s at h 8 (omega arith)
+
+  pub receiver_inside : map_ok places_of (read_as RR s) ≡ ok at → at.body ≤ length s
+  receiver_inside h = placed_inside receiver_maker s at h
+
+  pub sender_long : map_ok places_of (read_as SR s) ≡ ok at → 28 ≤ length s
+  sender_long h = placed_long sender_maker s at h 28 (omega arith)
+
+  pub sender_inside : map_ok places_of (read_as SR s) ≡ ok at → at.body ≤ length s
+  sender_inside h = placed_inside sender_maker s at h
+
+pub ruleset fields = (rules, receiver_long, receiver_inside, sender_long, sender_inside, receiver_fields, sender_fields)

@@ -1,3 +1,4 @@
 pub mod Block
 pub mod Report
 pub mod Reporter
+pub mod Lists

@@ -6,11 +6,12 @@ ghost use Rattle.rfc3550.specs.Read.{Kind, read_as, read_block_at};
 ghost use Rattle.utils.specs.Error.{parse_refusal, value_in, parsed_of};
 ghost use Rattle.utils.specs.List.{listed_of};
 ghost use Rattle.report.specs.Block.{block_view, lay_blocks};
+ghost use Rattle.report.specs.Lists.{SameLists};
 ghost use Rattle.report.specs.Report.{report_body, report_blocks};
 ghost use Rattle.report.specs.Reporter.{places_of, ReportLaws};
 ghost use Rattle.report.specs.declared.report.Places.{Places};
 
-use super::report_block::{ReportBlock, list_blocks_unchecked, parse_block_unchecked};
+use super::report_block::{LentLists, ReportBlock, parse_block_unchecked};
 use utils::error::RtcpParseError;
 use utils::list::ListError;
 
@@ -118,19 +119,15 @@ pub trait Report: Copy {
         Ok(parse_block_unchecked(s, at))
     }
 
-    // All blocks, into three lent lists: a fraction and a loss for each, and the five words that follow.
+    // All blocks, into the lent lists.
     #[tactic(auto, using(crate::proofs::Reports::reports))]
-    final fn report_blocks(
-        s: &[u8],
-        fractions: &mut [u8],
-        losses: &mut [i32],
-        words: &mut [u32],
-    ) -> Result<usize, ListError>
-        ensures { (listed_of result, fractions.new, losses.new, words.new) ≡ lay_blocks (map_ok report_blocks (read_as kind s.now)) fractions.old losses.old words.old }
+    final fn report_blocks(s: &[u8], lists: &mut LentLists) -> Result<usize, ListError>
+        ensures same_lists { SameLists lists.old lists.new }
+        ensures laid { (listed_of result, lists.new.fractions.now, lists.new.losses.now, lists.new.words.now) ≡ lay_blocks (map_ok report_blocks (read_as kind s.now)) lists.old.fractions.now lists.old.losses.now lists.old.words.now }
     {
         let report = Self::parse(s)?;
         let n = report.places().n_reports;
-        list_blocks_unchecked(s, Self::MIN_PACKET_LEN, n, fractions, losses, words)
+        lists.list_blocks_unchecked(s, Self::MIN_PACKET_LEN, n)
     }
 
     // The bytes after the blocks, of the packet that was parsed.

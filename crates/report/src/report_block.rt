@@ -9,6 +9,7 @@ ghost use Rattle.rfc3550.specs.Read.{block_from, read_block, read_blocks};
 ghost use Rattle.utils.specs.Error.{parsed_of};
 ghost use Rattle.utils.specs.List.{listed_of};
 ghost use Rattle.report.specs.Block.{block_view, lay_blocks, BlockListed, BlocksListed};
+ghost use Rattle.report.specs.Lists.{SameLists};
 
 use super::loss::loss_of;
 use utils::error::RtcpParseError;
@@ -69,76 +70,69 @@ pub fn parse_block_unchecked(s: &[u8], at: usize) -> ReportBlock
     }
 }
 
-// The numbers of the block at a place: its fraction and its loss at an index of their lists, and its words from index to on.
-fn list_block_unchecked(
-    s: &[u8],
-    at: usize,
-    fractions: &mut [u8],
-    losses: &mut [i32],
-    words: &mut [u32],
-    i: usize,
-    to: usize,
-)
-    requires { (at + 24 ≤ length s.now) × (i < length fractions.old) × (i < length losses.old) × (to + 5 ≤ length words.old) }
-    ensures { BlockListed (block_from (get block_widths (drop at s.now))) i to fractions.old losses.old words.old fractions.new losses.new words.new }
-{
-    let b = parse_block_unchecked(s, at);
-    fractions[i] = b.fraction_lost;
-    let loss = b.cumulative_lost;
-    losses[i] = loss;
-    words[to] = b.ssrc;
-    words[to + 1] = b.extended_sequence_number;
-    words[to + 2] = b.interarrival_jitter;
-    words[to + 3] = b.last_sender_report_timestamp;
-    words[to + 4] = b.delay_since_last_sender_report_timestamp;
+// Three lists, lent to be filled: a fraction and a loss for each block, and the five words that follow.
+#[derive(Drop)]
+pub struct LentLists<'a> {
+    pub fractions: &'a mut [u8],
+    pub losses: &'a mut [i32],
+    pub words: &'a mut [u32],
 }
 
-// The blocks that lie end to end from a place on, into lists that are long enough, from their starts.
-fn list_all_unchecked(
-    s: &[u8],
-    at: usize,
-    n: usize,
-    fractions: &mut [u8],
-    losses: &mut [i32],
-    words: &mut [u32],
-)
-    requires { (at + n * 24 ≤ length s.now) × (n ≤ length fractions.old) × (n ≤ length losses.old) × (n * 5 ≤ length words.old) }
-    ensures { BlocksListed (read_blocks n (drop at s.now)) fractions.old losses.old words.old fractions.new losses.new words.new }
-{
-    for i in 0..n {
-        list_block_unchecked(
-            s,
-            at + i * ReportBlock::EXPECTED_SIZE,
-            fractions,
-            losses,
-            words,
-            i,
-            i * ReportBlock::WORDS,
-        );
+impl<'a> LentLists<'a> {
+    // The numbers of the block at a place: its fraction and its loss at an index of their lists, and its words from index to on.
+    fn list_block_unchecked(&mut self, s: &[u8], at: usize, i: usize, to: usize)
+        requires { (at + 24 ≤ length s.now) × (i < length self.old.fractions.now) × (i < length self.old.losses.now) × (to + 5 ≤ length self.old.words.now) }
+        ensures same_lists { SameLists self.old self.new }
+        ensures listed { BlockListed (block_from (get block_widths (drop at s.now))) i to self.old.fractions.now self.old.losses.now self.old.words.now self.new.fractions.now self.new.losses.now self.new.words.now }
+    {
+        let b = parse_block_unchecked(s, at);
+        self.fractions[i] = b.fraction_lost;
+        let loss = b.cumulative_lost;
+        self.losses[i] = loss;
+        self.words[to] = b.ssrc;
+        self.words[to + 1] = b.extended_sequence_number;
+        self.words[to + 2] = b.interarrival_jitter;
+        self.words[to + 3] = b.last_sender_report_timestamp;
+        self.words[to + 4] = b.delay_since_last_sender_report_timestamp;
     }
-}
 
-// The same, where each list is long enough.
-pub fn list_blocks_unchecked(
-    s: &[u8],
-    at: usize,
-    n: usize,
-    fractions: &mut [u8],
-    losses: &mut [i32],
-    words: &mut [u32],
-) -> Result<usize, ListError>
-    requires { at + n * 24 ≤ length s.now }
-    ensures { (listed_of result, fractions.new, losses.new, words.new) ≡ lay_blocks (ok (read_blocks n (drop at s.now))) fractions.old losses.old words.old }
-{
-    if fractions.len() < n {
-        return Err(ListError::TooShort(n));
+    // The blocks that lie end to end from a place on, into lists that are long enough, from their starts.
+    fn list_all_unchecked(&mut self, s: &[u8], at: usize, n: usize)
+        requires { (at + n * 24 ≤ length s.now) × (n ≤ length self.old.fractions.now) × (n ≤ length self.old.losses.now) × (n * 5 ≤ length self.old.words.now) }
+        ensures same_lists { SameLists self.old self.new }
+        ensures listed { BlocksListed (read_blocks n (drop at s.now)) self.old.fractions.now self.old.losses.now self.old.words.now self.new.fractions.now self.new.losses.now self.new.words.now }
+    {
+        for i in 0..n {
+            self.list_block_unchecked(
+                s,
+                at + i * ReportBlock::EXPECTED_SIZE,
+                i,
+                i * ReportBlock::WORDS,
+            );
+        }
     }
-    if losses.len() < n {
-        return Err(ListError::TooShort(n));
+
+    // The same, where each list is long enough.
+    pub fn list_blocks_unchecked(
+        &mut self,
+        s: &[u8],
+        at: usize,
+        n: usize,
+    ) -> Result<usize, ListError>
+        requires { at + n * 24 ≤ length s.now }
+        ensures same_lists { SameLists self.old self.new }
+        ensures laid { (listed_of result, self.new.fractions.now, self.new.losses.now, self.new.words.now) ≡ lay_blocks (ok (read_blocks n (drop at s.now))) self.old.fractions.now self.old.losses.now self.old.words.now }
+    {
+        if self.fractions.len() < n {
+            return Err(ListError::TooShort(n));
+        }
+        if self.losses.len() < n {
+            return Err(ListError::TooShort(n));
+        }
+        if self.words.len() < n * ReportBlock::WORDS {
+            return Err(ListError::TooShort(n));
+        }
+        self.list_all_unchecked(s, at, n);
+        Ok(n)
     }
-    if words.len() < n * ReportBlock::WORDS {
-        return Err(ListError::TooShort(n));
-    }
-    list_all_unchecked(s, at, n, fractions, losses, words);
-    Ok(n)
 }
