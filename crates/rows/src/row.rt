@@ -1,5 +1,5 @@
 // What a row gives: words that one blank sets apart, each a number or bytes.
-ghost use Rattle.std.specs.Prelude.{◌≡◌, ◌%◌, ◌^◌, ◌<◌, ◌≤◌, take, drop, vec_len};
+ghost use Rattle.std.specs.Prelude.{◌≡◌, ◌+◌, ◌-◌, ◌%◌, ◌^◌, ◌<◌, ◌≤◌, if◌then◌else◌, pos, negsuc, take, drop, vec_len};
 ghost use Rattle.rows.specs.declared.row.TheConstants.{BYTES};
 
 use std::alloc::{AllocError, Global};
@@ -51,6 +51,8 @@ impl From<Number> for u32 {
 
 // Its lowest 31 bits, with the sign.
 impl From<Number> for i32 {
+    ghost from_gives = { λ number r. r ≡ (if number.negative then negsuc ((number.magnitude + (2 ^ 31 - 1)) % 2 ^ 31) else pos (number.magnitude % 2 ^ 31)) };
+
     fn from(number: Number) -> i32 {
         if number.negative {
             !((number.magnitude.wrapping_sub(1) % 2147483648) as i32)

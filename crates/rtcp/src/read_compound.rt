@@ -278,6 +278,7 @@ pub fn rtcp_walk_open(s: &[u8]) -> RtcpWalk
     RtcpWalk::from(Walk::open(s))
 }
 
+#[tactic(auto, using(crate::proofs::Datagrams::datagrams))]
 pub fn rtcp_walk_step(s: &[u8], at: u64) -> RtcpStep
     ensures { result ≡ step_result at (map_ok step_view (step s.now at)) }
 {

@@ -233,6 +233,7 @@ pub fn rtcp_item_parse(s: &[u8]) -> RtcpItem
 }
 
 // The prefix of a lone item.
+#[tactic(auto, using(sdes_chunk::proofs::Readings::prefix_numbered), unfolding(rfc3550::specs::Answer::map_ok))]
 pub fn rtcp_item_priv_prefix(s: &[u8]) -> RtcpPart
     ensures { result ≡ prefix_result (map_ok length (read_prefix s.now)) }
 {
