@@ -1,18 +1,20 @@
 -- The call: what is refused, and what an accepted packet says of its body.
-use Rattle.rfc3550.proofs.Prelude.{ℕ, ◌-◌, ◌<◌, ◌≤◌, ◌≡◌, refl, sym, ap, ◌∙◌, List, arith, rules, length, take, drop, length-take-le}
+use Rattle.std.specs.Prelude.{Result}
+use Rattle.std.specs.Result.{IsErrAnd}
+use Rattle.rfc3550.proofs.Prelude.{ℕ, ◌-◌, ◌<◌, ◌≤◌, ◌≡◌, refl, sym, ap, ◌∙◌, subst, List, arith, rules, length, take, drop, length-take-le}
 use Rattle.rfc3550.specs.Answer.{Refusal, Answer, ok, refused, refuse, map_ok}
 use Rattle.rfc3550.specs.Packet.{Chunk, Packet, chunks_of, sdes}
 use Rattle.rfc3550.specs.Read.{SDES, low_in, read_chunks, read_as}
 use Rattle.rfc3550.specs.Lookup.{Visited, lookup_with}
 use Rattle.rfc3550.proofs.Answers.{ok_injective, map_ok_inv}
 use Rattle.rfc3550.proofs.Lookups.{lookup_short, lookup_packet}
-use Rattle.utils.specs.Error.{refusal_in, value_or}
-use Rattle.utils.proofs.Values.{value_came, none_came}
-use Rattle.utils.proofs.Reading.{Got, got}
-use Rattle.sdes_chunk.proofs.Answers.{rest_is}
+use Rattle.utils.specs.Error.{parsed_of, parse_refusal}
+use Rattle.utils.specs.declared.error.RtcpParseError.{RtcpParseError}
+use Rattle.utils.proofs.Errors.{parse_handed}
+use Rattle.utils.proofs.Reading.{map_ok_refused, Got, got}
 use Rattle.sdes_chunk.proofs.Readings.{chunks_in}
 use Rattle.sdes.specs.declared.sdes.Sdes.{Sdes}
-use Rattle.sdes.specs.Sdes.{sdes_view, no_sdes}
+use Rattle.sdes.specs.Sdes.{sdes_view}
 use Rattle.sdes.proofs.Packets.{sdes_body, content_chunks}
 use Rattle.sdes_lookup.specs.Lookup.{Answered}
 
@@ -24,13 +26,14 @@ module _ (s ssrcs l : List ℕ) where
   unfolding lookup_with map_ok
   call_short h = (0, omega arith, rw (lookup_short (length l) s ssrcs h))
 
-  module _ (h : length ssrcs ≤ length l) (o : Sdes) (e : o ≡ value_or no_sdes sdes_view (read_as SDES s)) where
-    pub call_refused : (k : Refusal) → o.body ≡ 0 → k ≡ refusal_in (read_as SDES (take (length s - 0) (drop 0 s))) → Called (refused k) l
+  -- what reading refuses, handed on by `?`
+  module _ (h : length ssrcs ≤ length l) where
+    refuses : (k : Refusal) → refused k ≡ map_ok sdes_view (read_as SDES s) → Called (refused k) l
     unfolding lookup_with map_ok
-    call_refused k z q =
-        let w = none_came no_sdes sdes_view (λ o. o.body) refl (λ p. omega arith) (read_as SDES s) o e z in
-        let y : refusal_in (read_as SDES s) ≡ k = sym (q ∙ ap (λ (s : List ℕ). refusal_in (read_as SDES s)) (rest_is s 0)) in
-        (0, omega arith, rw (lookup_packet (length l) s ssrcs h, w, y))
+    refuses k q = (0, omega arith, rw (lookup_packet (length l) s ssrcs h, map_ok_refused sdes_view (read_as SDES s) (sym q)))
+
+    pub call_refused : (r : Result ℕ RtcpParseError) (e : RtcpParseError) → IsErrAnd r (λ (x : RtcpParseError). x ≡ e) → refused (parse_refusal e) ≡ map_ok sdes_view (read_as SDES s) → Called (parsed_of r) l
+    call_refused r e w q = subst (λ (a : Answer ℕ). Called a l) (sym (parse_handed r e (refused (parse_refusal e)) w refl)) (refuses (parse_refusal e) q)
 
 -- what an accepted packet says of its body
 pub record Opened (s : List ℕ) (o : Sdes) : Type 0 where
@@ -41,10 +44,10 @@ pub record Opened (s : List ℕ) (o : Sdes) : Type 0 where
   pub least : 4 ≤ o.body
   pub within : o.body ≤ length s
 
-module _ (s : List ℕ) (o : Sdes) (e : o ≡ value_or no_sdes sdes_view (read_as SDES s)) (z : o.body ≡ 0 → ⊥) where
+module _ (s : List ℕ) (o : Sdes) (e : ok o ≡ map_ok sdes_view (read_as SDES s)) where
   pub opens : Opened s o
   opens =
-      let v = value_came no_sdes sdes_view (λ o. o.body) refl (read_as SDES s) o e z in
+      let v = map_ok_inv sdes_view (read_as SDES s) (sym e) in
       go v.0 v.1 v.2 (got SDES s v.0 v.1)
     where
       go : (p : Packet) → read_as SDES s ≡ ok p → sdes_view p ≡ o → Got SDES s p → Opened s o

@@ -1,15 +1,17 @@
 -- The turns of the pass over the chunks of a body.
+use Rattle.std.specs.Prelude.{Option, Some, is_some}
+use Rattle.std.proofs.lemmas.Option.{same_Some}
 use Rattle.rfc3550.proofs.Prelude.{ℕ, suc, ◌+◌, ◌-◌, ◌^◌, ◌<◌, ◌≤◌, ◌≡◌, refl, sym, ap, ◌∙◌, subst, Bool, true, false, ◌&&◌, ◌||◌, List, [], ◌∷◌, ◌++◌, map, add-one, arith, rules, ne_eqb, eqb, ltb, length, take, drop, replicate, length-drop, length-replicate, length-map, drop-drop, drop_at}
-use Rattle.rfc3550.specs.Answer.{ok, pick}
+use Rattle.rfc3550.specs.Answer.{ok, map_ok, pick}
 use Rattle.rfc3550.specs.Packet.{Chunk, chunk_bytes, chunk_has_cname, some}
 use Rattle.rfc3550.specs.Read.{read_chunk, read_chunks}
 use Rattle.rfc3550.specs.Lookup.{Found, none, at, found_in, coded}
 use Rattle.rfc3550.proofs.Answers.{bind_elim, ok_injective, refused≢ok}
 use Rattle.rfc3550.proofs.Bytes.{store_front}
 use Rattle.rfc3550.proofs.Lookups.{reach, Below, missing, nones, visit, pass, pass_done, pass_more, visit_length, visit_below, nones_below, pass_finds, found_length}
-use Rattle.utils.specs.Error.{value_or}
+use Rattle.utils.specs.Error.{value_in}
 use Rattle.sdes_chunk.specs.declared.chunk.SdesChunk.{SdesChunk}
-use Rattle.sdes_chunk.specs.Chunk.{chunk_view, chunk_first, no_chunk}
+use Rattle.sdes_chunk.specs.Chunk.{chunk_view, chunk_first}
 use Rattle.sdes_chunk.proofs.Answers.{rest_is}
 use Rattle.sdes_chunk.proofs.Chunks.{chunk_cname}
 use Rattle.sdes_chunk.proofs.Readings.{chunk_in}
@@ -168,13 +170,13 @@ module _ (n : ℕ) (body ssrcs l₀ : List ℕ) (unanswered : ℕ) (s : List ℕ
     record Here : Type 0 where
       pub chunk : Chunk
       pub others : List Chunk
-      pub view : chunk_view chunk ≡ value_or no_chunk chunk_first (read_chunk s)
+      pub view : Some (chunk_view chunk) ≡ value_in (map_ok chunk_first (read_chunk s))
       pub are : g.left ≡ chunk ∷ others
       pub rest : read_chunks (n - (k + 1)) (length body) (drop (length (chunk_bytes chunk)) s) ≡ ok others
       pub inside : length (chunk_bytes chunk) ≤ length s
 
     here : Here
-    unfolding read_chunks
+    unfolding read_chunks map_ok
     here =
         let z : n - k ≡ suc (n - (k + 1)) = omega arith in
         bind_elim (read_chunk s) _ (rw z at g.rest) (λ x q e.
@@ -183,55 +185,59 @@ module _ (n : ℕ) (body ssrcs l₀ : List ℕ) (unanswered : ℕ) (s : List ℕ
         record {
           chunk = x.0;
           others = cs;
-          view = sym (ap (value_or no_chunk chunk_first) q);
+          view = rw q;
           are = sym (ok_injective f);
           rest = rw (← c.rest) r;
           inside = omega (arith, c.size);
         }))
 
-    module _ (c : SdesChunk) (v : c ≡ value_or no_chunk chunk_first (read_chunk s)) where
-      is_here : c ≡ chunk_view here.chunk
-      is_here = v ∙ sym here.view
+    module _ (o : Option SdesChunk) (q : o ≡ value_in (map_ok chunk_first (read_chunk s))) where
+      pub pass_some : is_some o ≡ true
+      pass_some = ap is_some (q ∙ sym here.view)
 
-      size_here : c.length ≡ length (chunk_bytes here.chunk)
-      size_here = ap (λ (c : SdesChunk). c.length) is_here
+      module _ (c : SdesChunk) (v : o ≡ Some c) where
+        is_here : c ≡ chunk_view here.chunk
+        is_here = same_Some c (chunk_view here.chunk) (sym v ∙ q ∙ sym here.view)
 
-      pub pass_inside : c.length ≤ length s
-      pass_inside = rw size_here here.inside
+        size_here : c.length ≡ length (chunk_bytes here.chunk)
+        size_here = ap (λ (c : SdesChunk). c.length) is_here
 
-      pub pass_again : (unanswered ≡ 0 → ⊥) → (o : ℕ) (l₁ : List ℕ) → l₁ ≡ pick (ltb 0 c.cname) (marked k c.ssrc ssrcs l) l → o ≡ unanswered_in (length ssrcs) l₁ → length l₁ ≡ length l
-          → Passing n body ssrcs l₀ o (take (length s - c.length) (drop c.length s)) (k + 1) l₁
-      pass_again y o l₁ e q eq =
-          let m : some missing g.found ≡ true = some_unanswered k g.found (drop (length ssrcs) l₀) (omega (arith, g.low)) g.below (λ z. y (sym opened ∙ z)) in
-          record {
-            chunks = g.chunks;
-            read = g.read;
-            left = here.others;
-            rest = rw (rest_is s c.length, size_here) here.rest;
-            found = visit k here.chunk ssrcs g.found;
-            below = subst (λ (m : ℕ). Below m (visit k here.chunk ssrcs g.found)) (sym (add-one k)) (visit_below k here.chunk ssrcs g.found g.below);
-            count = visit_length k here.chunk ssrcs g.found g.count;
-            is = laid (chunk_has_cname here.chunk) refl;
-            long = eq ∙ g.long;
-            within = omega arith;
-            low = g.low;
-            fits = omega (arith, g.fits);
-            counted = q;
-            same =
-                g.same ∙ ap (λ (cs : List Chunk). pass k cs ssrcs g.found) here.are ∙ pass_more k here.chunk here.others ssrcs g.found m
-                ∙ ap (λ (m : ℕ). pass m here.others ssrcs (visit k here.chunk ssrcs g.found)) (sym (add-one k));
-          }
-        where
-          named : ltb 0 c.cname ≡ chunk_has_cname here.chunk
-          named = ap (λ (c : SdesChunk). ltb 0 c.cname) is_here ∙ chunk_cname here.chunk
+        pub pass_inside : c.length ≤ length s
+        pass_inside = rw size_here here.inside
 
-          laid : (t : Bool) → chunk_has_cname here.chunk ≡ t → l₁ ≡ map coded (visit k here.chunk ssrcs g.found) ++ drop (length ssrcs) l₀
-          laid true x =
-              e ∙ ap (λ (b : Bool). pick b (marked k c.ssrc ssrcs l) l) (named ∙ x)
-              ∙ ap (λ (c : SdesChunk). marked k c.ssrc ssrcs l) is_here ∙ ap (marked k here.chunk.ssrc ssrcs) g.is
-              ∙ visit_marks k k here.chunk ssrcs g.found (drop (length ssrcs) l₀) x (omega (arith, g.low)) g.below g.count
-          laid false x =
-              e ∙ ap (λ (b : Bool). pick b (marked k c.ssrc ssrcs l) l) (named ∙ x)
-              ∙ g.is ∙ ap (λ (fs : List Found). map coded fs ++ drop (length ssrcs) l₀) (sym (visit_none k here.chunk ssrcs g.found x))
+        pub pass_again : (unanswered ≡ 0 → ⊥) → (u : ℕ) (l₁ : List ℕ) → l₁ ≡ pick (is_some c.cname) (marked k c.ssrc ssrcs l) l → u ≡ unanswered_in (length ssrcs) l₁ → length l₁ ≡ length l
+            → Passing n body ssrcs l₀ u (take (length s - c.length) (drop c.length s)) (k + 1) l₁
+        pass_again y u l₁ e w eq =
+            let m : some missing g.found ≡ true = some_unanswered k g.found (drop (length ssrcs) l₀) (omega (arith, g.low)) g.below (λ z. y (sym opened ∙ z)) in
+            record {
+              chunks = g.chunks;
+              read = g.read;
+              left = here.others;
+              rest = rw (rest_is s c.length, size_here) here.rest;
+              found = visit k here.chunk ssrcs g.found;
+              below = subst (λ (m : ℕ). Below m (visit k here.chunk ssrcs g.found)) (sym (add-one k)) (visit_below k here.chunk ssrcs g.found g.below);
+              count = visit_length k here.chunk ssrcs g.found g.count;
+              is = laid (chunk_has_cname here.chunk) refl;
+              long = eq ∙ g.long;
+              within = omega arith;
+              low = g.low;
+              fits = omega (arith, g.fits);
+              counted = w;
+              same =
+                  g.same ∙ ap (λ (cs : List Chunk). pass k cs ssrcs g.found) here.are ∙ pass_more k here.chunk here.others ssrcs g.found m
+                  ∙ ap (λ (m : ℕ). pass m here.others ssrcs (visit k here.chunk ssrcs g.found)) (sym (add-one k));
+            }
+          where
+            named : is_some c.cname ≡ chunk_has_cname here.chunk
+            named = ap (λ (c : SdesChunk). is_some c.cname) is_here ∙ chunk_cname here.chunk
 
-pub ruleset passes = (rules, pass_start, pass_long, pass_inside, pass_answered, pass_ended, pass_low, pass_again)
+            laid : (t : Bool) → chunk_has_cname here.chunk ≡ t → l₁ ≡ map coded (visit k here.chunk ssrcs g.found) ++ drop (length ssrcs) l₀
+            laid true x =
+                e ∙ ap (λ (b : Bool). pick b (marked k c.ssrc ssrcs l) l) (named ∙ x)
+                ∙ ap (λ (c : SdesChunk). marked k c.ssrc ssrcs l) is_here ∙ ap (marked k here.chunk.ssrc ssrcs) g.is
+                ∙ visit_marks k k here.chunk ssrcs g.found (drop (length ssrcs) l₀) x (omega (arith, g.low)) g.below g.count
+            laid false x =
+                e ∙ ap (λ (b : Bool). pick b (marked k c.ssrc ssrcs l) l) (named ∙ x)
+                ∙ g.is ∙ ap (λ (fs : List Found). map coded fs ++ drop (length ssrcs) l₀) (sym (visit_none k here.chunk ssrcs g.found x))
+
+pub ruleset passes = (rules, pass_start, pass_long, pass_some, pass_inside, pass_answered, pass_ended, pass_low, pass_again)

@@ -1,7 +1,7 @@
 // Which chunks of a source description name the SSRCs of a list (document 02, order 2).
 #![tactic(auto)]
 
-ghost use Rattle.std.specs.Prelude.{◌≡◌, List, ℕ, ◌<◌, ◌≤◌, ltb, length, drop};
+ghost use Rattle.std.specs.Prelude.{◌≡◌, List, ℕ, ◌<◌, ◌≤◌, is_some, length, drop};
 ghost use Rattle.rfc3550.specs.Answer.{ok, pick};
 ghost use Rattle.rfc3550.specs.Packet.{Chunk};
 ghost use Rattle.rfc3550.specs.Read.{read_chunks};
@@ -17,6 +17,7 @@ use utils::error::RtcpParseError;
 pub const NO_CHUNK: u8 = 255;
 
 // Chunk k, with this SSRC and a CNAME, is the answer where there is none yet. Says how many have none after it.
+#[tactic(auto, using(crate::proofs::Marks::marks))]
 #[inline(never)]
 fn mark(answers: &mut [u8], ssrcs: &[u32], ssrc: u32, k: u8, unanswered: usize) -> usize
     requires { (length ssrcs.now ≤ length answers.old) × (k < 255) × (unanswered ≡ unanswered_in (length ssrcs.now) answers.old) }
@@ -33,17 +34,19 @@ fn mark(answers: &mut [u8], ssrcs: &[u32], ssrc: u32, k: u8, unanswered: usize) 
 }
 
 // Visits chunk k. Says how many have no answer after it.
+#[tactic(auto, using(crate::proofs::Marks::marks))]
 fn visit(answers: &mut [u8], ssrcs: &[u32], chunk: SdesChunk, k: u8, unanswered: usize) -> usize
     requires { (length ssrcs.now ≤ length answers.old) × (k < 255) × (unanswered ≡ unanswered_in (length ssrcs.now) answers.old) }
-    ensures { (answers.new ≡ pick (ltb 0 chunk.cname) (marked k chunk.ssrc ssrcs.now answers.old) answers.old) × (result ≡ unanswered_in (length ssrcs.now) answers.new) }
+    ensures { (answers.new ≡ pick (is_some chunk.cname) (marked k chunk.ssrc ssrcs.now answers.old) answers.old) × (result ≡ unanswered_in (length ssrcs.now) answers.new) }
 {
-    if chunk.cname == 0 {
+    if chunk.cname.is_none() {
         return unanswered;
     }
     mark(answers, ssrcs, chunk.ssrc, k, unanswered)
 }
 
 // One pass over the chunks of an accepted body, up to the one by which every SSRC is answered.
+#[tactic(auto, using(crate::proofs::Passes::passes))]
 fn answer_all(body: &[u8], n_chunks: usize, ssrcs: &[u32], answers: &mut [u8]) -> usize
     requires { (n_chunks < 32) × (length ssrcs.now ≤ length answers.old) × (4 ≤ length body.now) × ((cs : List Chunk) × (read_chunks n_chunks (length body.now) (drop 4 body.now) ≡ ok cs)) }
     ensures { Answered n_chunks body.now ssrcs.now answers.old result answers.new }
@@ -55,7 +58,7 @@ fn answer_all(body: &[u8], n_chunks: usize, ssrcs: &[u32], answers: &mut [u8]) -
         if unanswered == 0 {
             return k;
         }
-        let chunk = SdesChunk::read(rest);
+        let chunk = SdesChunk::read(rest).unwrap();
         unanswered = visit(answers, ssrcs, chunk, k as u8, unanswered);
         rest = &rest[chunk.length..];
     }
@@ -70,10 +73,6 @@ pub fn lookup(s: &[u8], ssrcs: &[u32], answers: &mut [u8]) -> Result<usize, Rtcp
     if answers.len() < ssrcs.len() {
         return Err(RtcpParseError::AnswersTooShort);
     }
-    let sdes = Sdes::read(s);
-    let end = sdes.body;
-    if end == 0 {
-        return Err(Sdes::why(&s[0..]));
-    }
-    Ok(answer_all(&s[..end], sdes.n_chunks, ssrcs, answers))
+    let sdes = Sdes::parse(s)?;
+    Ok(answer_all(&s[..sdes.body], sdes.n_chunks, ssrcs, answers))
 }

@@ -1,4 +1,4 @@
-use Rattle.sdes_lookup.proofs.Marks.{marks, mark_new, mark_stands, mark_other, mark_done}
+use Rattle.sdes_lookup.proofs.Marks.{mark_new, mark_stands, mark_other, mark_done}
 use Rattle.sdes_lookup.proofs.mark.Goals as goal
 use Rattle.sdes_lookup.proofs.mark.Goals.{then-named-ssrc+then-answers-i, else-named-ssrc, else-named-ssrc-via-then-named-ssrc+else-answers-i, else-named-ssrc-via-else-named-ssrc}
 
@@ -16,6 +16,3 @@ loop-i-preserved c =
 
 pub returns : goal.returns
 returns c = mark_done _ _ _ _ _ _ _ c.loop-i.invariant c.loop-i-test.false
-
-pub overflow_sub-left : goal.overflow_sub-left
-overflow_sub-left c = search marks
