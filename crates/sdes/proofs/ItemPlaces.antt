@@ -1,6 +1,8 @@
 -- The rows that the bytes of an accepted body give, from place to place, are those of the packet.
+use Rattle.std.specs.Prelude.{Option, None, Some, option_map, unwrap_or}
+use Rattle.std.proofs.lemmas.Option.{none-some}
 use Rattle.rfc3550.proofs.Prelude.{ℕ, zero, suc, ◌+◌, ◌-◌, ◌*◌, ◌%◌, ◌^◌, ◌<◌, ◌≤◌, ◌≡◌, refl, sym, ap, ◌∙◌, subst, Bool, true, false, List, [], ◌∷◌, ◌++◌, append_assoc, add-zero, add_assoc, arith, lt-ltb, le-ltb, eq-eqb, ne_eqb, eqb-true, eqb-false, length, get_or, take, drop, length-append, length-drop, length-replicate, drop-drop, get_or-drop, eqb}
-use Rattle.rfc3550.specs.Answer.{ok, map_ok}
+use Rattle.rfc3550.specs.Answer.{Answer, ok, map_ok}
 use Rattle.rfc3550.specs.Bytes.{Bytes, val}
 use Rattle.rfc3550.specs.Packet.{Item, item, priv, item_type, item_rest, item_bytes, items_bytes, fill, Chunk, chunk_bytes, Content, sdes, chunks_of, Packet}
 use Rattle.rfc3550.specs.Read.{SDES, low_in, read_item, read_items, read_chunk, read_chunks, read_as}
@@ -8,9 +10,9 @@ use Rattle.rfc3550.proofs.Answers.{map_ok_inv, need_inv, bind_elim, ok_injective
 use Rattle.rfc3550.proofs.Bytes.{length_be}
 use Rattle.rfc3550.proofs.Packets.{packet_sound}
 use Rattle.utils.proofs.Reading.{got}
-use Rattle.utils.specs.Error.{value_or}
+use Rattle.utils.specs.Error.{value_in}
 use Rattle.sdes_chunk.specs.declared.item.SdesItem.{SdesItem}
-use Rattle.sdes_chunk.specs.Item.{item_first, item_size, item_end, step_end, value_of, prefix_length}
+use Rattle.sdes_chunk.specs.Item.{item_first, item_end, step_end, value_of, prefix_length}
 use Rattle.sdes_chunk.proofs.Answers.{rest_is}
 use Rattle.sdes_chunk.proofs.Items.{Steps, steps_not, steps}
 use Rattle.sdes_chunk.proofs.Walks.{step_some}
@@ -36,12 +38,16 @@ module _ (s : List ℕ) (p : Place) where
   pub row_end : get_or s p.at 0 ≡ 0 → p.ssrc ∷ 0 ∷ p.at ∷ 0 ∷ 0 ∷ [] ≡ row_at s p
   row_end z = rw z
 
-  pub after_item : (n : ℕ) → (get_or s p.at 0 ≡ 0 → ⊥) → n ≡ value_or 0 (item_end p.at) (read_item (drop p.at s)) → record { ssrc = p.ssrc; at = n } ≡ place_after s p
+  pub after_item : (n : ℕ) → (get_or s p.at 0 ≡ 0 → ⊥) → n ≡ unwrap_or (option_map (item_end p.at) (value_in (read_item (drop p.at s)))) 0 → record { ssrc = p.ssrc; at = n } ≡ place_after s p
   after_item n z e = rw (ne_eqb _ _ z, e)
 
   -- the row of what was read
   row_read : (x : Item × List ℕ) → (get_or s p.at 0 ≡ 0 → ⊥) → read_item (drop p.at s) ≡ ok x → item_row p.ssrc p.at x.0 ≡ row_at s p
   row_read x z e = rw (ne_eqb _ _ z, e)
+
+-- where what was read ends
+abbrev end_of : ℕ → Answer (Item × List ℕ) → ℕ
+end_of at m = unwrap_or (option_map (item_end at) (value_in m)) 0
 
 -- the numbers of an item's row, from its view
 plain_row : (ssrc at : ℕ) (i : Item) → is_priv i ≡ eqb (item_type i) 8 → (item_type i ≡ 8 → ⊥) → ssrc ∷ item_type i ∷ (at + 2) ∷ 0 ∷ length (item_rest i) ∷ [] ≡ item_row ssrc at i
@@ -56,31 +62,38 @@ priv_row ssrc at (priv q v) k h =
     (rw length-append (omega arith), rw n)
 
 -- what the step over a place says of its row
-pub row_zero : (s : List ℕ) (at n : ℕ) → HasRow s at → n ≡ step_end s at → n ≡ 0 → get_or s at 0 ≡ 0
-row_zero s at n h e z = go (eqb (get_or s at 0) 0) refl
+pub row_zero : (s : List ℕ) (at : ℕ) → HasRow s at → None ≡ step_end s at → get_or s at 0 ≡ 0
+row_zero s at h e = go (eqb (get_or s at 0) 0) refl
   where
     go : (b : Bool) → eqb (get_or s at 0) 0 ≡ b → get_or s at 0 ≡ 0
     go true f = eqb-true (get_or s at 0) 0 f
     go false f =
         let y = eqb-false (get_or s at 0) 0 f in
-        absurd (refused≢ok (sym (steps_not s at n e z h.within y) ∙ (h.read y).1))
+        absurd (refused≢ok (sym (steps_not s at e h.within y).1 ∙ (h.read y).1))
 
-module _ (s : List ℕ) (p : Place) (n : ℕ) (e : n ≡ step_end s p.at) (z : n ≡ 0 → ⊥) where
+module _ (s : List ℕ) (p : Place) (n : ℕ) (e : Some n ≡ step_end s p.at) where
   over : Steps s p.at n
-  over = steps s p.at n e z
+  over = steps s p.at n e
 
   pub item_next : record { ssrc = p.ssrc; at = n } ≡ place_after s p
-  item_next = after_item s p n over.item (sym (ap (value_or 0 (item_end p.at)) over.reads ∙ over.end))
+  item_next = after_item s p n over.item (sym (ap (end_of p.at) over.reads ∙ over.end))
 
   pub item_less : length s - n < length s - p.at
   item_less = let w = over in omega (arith, w.end, w.inside)
 
-  pub item_stands : step_end s p.at ≡ 0 → ⊥
-  item_stands y = z (e ∙ y)
+  pub item_stands : step_end s p.at ≡ None → ⊥
+  item_stands y = none-some n (sym y ∙ sym e)
 
-module _ (s : List ℕ) (p : Place) (z : step_end s p.at ≡ 0 → ⊥) where
-  on : Steps s p.at (step_end s p.at)
-  on = steps s p.at (step_end s p.at) refl z
+module _ (s : List ℕ) (p : Place) (z : step_end s p.at ≡ None → ⊥) where
+  found : (n : ℕ) × (Some n ≡ step_end s p.at)
+  found = go (step_end s p.at) refl
+    where
+      go : (o : Option ℕ) → o ≡ step_end s p.at → (n : ℕ) × (Some n ≡ step_end s p.at)
+      go None q = absurd (z (sym q))
+      go (Some n) q = (n, q)
+
+  on : Steps s p.at found.0
+  on = steps s p.at found.0 found.1
 
   pub item_within : p.at ≤ length s
   item_within = let l = on.inside in omega arith
@@ -88,8 +101,8 @@ module _ (s : List ℕ) (p : Place) (z : step_end s p.at ≡ 0 → ⊥) where
   pub item_bound : length s ≤ 262144 → p.at < 262144
   item_bound l = let w = on.inside in omega arith
 
-  pub item_some : value_or 0 item_size (read_item (take (length s - p.at) (drop p.at s))) ≡ 0 → ⊥
-  item_some = step_some s p.at (step_end s p.at) refl z
+  pub item_some : value_in (read_item (take (length s - p.at) (drop p.at s))) ≡ None → ⊥
+  item_some = step_some s p.at found.0 found.1
 
   module _ (i : SdesItem) (f : ok i ≡ map_ok item_first (read_item (take (length s - p.at) (drop p.at s)))) where
     here : (x : Item × List ℕ) × (read_item (drop p.at s) ≡ ok x) × (item_first x ≡ i)
@@ -149,7 +162,7 @@ pub row_next : (s : List ℕ) (p : Place) → HasRow s p.at → (get_or s p.at 0
 row_next s p h z =
     let w = h.read z in
     let f = item_fits s p.at w.0 h.within w.1 w.2 in
-    rw (ne_eqb _ _ z) (subst (λ (n : ℕ). n < length s) (sym (ap (value_or 0 (item_end p.at)) w.1)) f.1)
+    rw (ne_eqb _ _ z) (subst (λ (n : ℕ). n < length s) (sym (ap (end_of p.at) w.1)) f.1)
 
 abbrev zero_or : List ℕ → ℕ → Bool
 zero_or s at = eqb (get_or s at 0) 0
@@ -182,7 +195,7 @@ after_more s p h = go (zero_or s p.at) refl
     go false e =
         let w = h.read (eqb-false (get_or s p.at 0) 0 e) in
         let f = item_fits s p.at w.0 h.within w.1 w.2 in
-        rw e (subst (λ (n : ℕ). p.at + 2 ≤ n) (sym (ap (value_or 0 (item_end p.at)) w.1)) f.0)
+        rw e (subst (λ (n : ℕ). p.at + 2 ≤ n) (sym (ap (end_of p.at) w.1)) f.0)
 
 pub after_less : (s : List ℕ) (p q : Place) → HasRow s p.at → q ≡ place_after s p → length s - q.at < length s - p.at
 after_less s p q h e = let a = after_more s p h in let l = h.within in rw e (omega arith)
@@ -238,7 +251,7 @@ item_here s p x l z e n =
     record {
       has = record { within = l; read = λ h. (x, e, n) };
       is = sym (row_read s p x z e);
-      next = sym (after_item s p _ z refl) ∙ ap (λ (n : ℕ). record { ssrc = p.ssrc; at = n }) (ap (value_or 0 (item_end p.at)) e);
+      next = sym (after_item s p _ z refl) ∙ ap (λ (n : ℕ). record { ssrc = p.ssrc; at = n }) (ap (end_of p.at) e);
     }
 
 -- ---- the items of a chunk, then what follows them

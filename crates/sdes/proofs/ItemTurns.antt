@@ -1,21 +1,22 @@
 -- The turns that count and lay the rows, and the cases of the whole call.
+use Rattle.std.specs.Prelude.{None, Some}
+use Rattle.std.proofs.lemmas.Option.{none-some, same_Some}
 use Rattle.rfc3550.proofs.Prelude.{ℕ, zero, suc, ◌+◌, ◌-◌, ◌*◌, ◌/◌, ◌^◌, ◌<◌, ◌≤◌, ◌≡◌, refl, sym, ap, ◌∙◌, subst, List, [], ◌∷◌, zero-add, arith, rules, le-leb, lt-leb, length, get_or, set, take, drop, length-take-le, leb}
 use Rattle.rfc3550.specs.Answer.{Refusal, Answer, ok, refused, refusal, map_ok}
 use Rattle.rfc3550.specs.Bytes.{store}
 use Rattle.rfc3550.specs.Packet.{Packet, fill}
 use Rattle.rfc3550.specs.Read.{SDES, read_as}
+use Rattle.rfc3550.proofs.Answers.{map_ok_inv}
 use Rattle.rfc3550.proofs.Bytes.{length_store}
-use Rattle.utils.specs.Error.{refusal_in, value_or}
 use Rattle.utils.specs.List.{lay_if, lay_list}
 use Rattle.utils.proofs.WriterStores.{store_nil, store_store, puts, store_puts}
 use Rattle.sdes.specs.declared.sdes.Sdes.{Sdes}
-use Rattle.sdes.specs.Sdes.{sdes_view, no_sdes}
+use Rattle.sdes.specs.Sdes.{sdes_view}
 use Rattle.sdes.proofs.Packets.{sdes_body}
-use Rattle.sdes_chunk.proofs.Answers.{rest_is}
 use Rattle.sdes_chunk.specs.Item.{step_end}
 use Rattle.sdes_chunk.proofs.Items.{steps}
-use Rattle.utils.proofs.Reading.{got}
-use Rattle.utils.proofs.Values.{value_came, none_came}
+use Rattle.utils.proofs.Reading.{got, map_ok_refused}
+use Rattle.utils.proofs.Lists.{lay_handed}
 use Rattle.sdes.specs.declared.items.Row.{Row}
 use Rattle.sdes.specs.declared.items.Place.{Place}
 use Rattle.sdes.specs.ItemRows.{sdes_rows}
@@ -62,16 +63,26 @@ module _ (s : List ℕ) (i : ℕ) (p : Place) (g : Counting s i p) where
 
 -- ---- the room
 
-pub room_sure : (s : List ℕ) (room : ℕ) → ((n : ℕ) × RowsAt n s (chunk_place s 4)) → length s / 2 * 5 ≤ room → Needed s room 0
+pub room_sure : (s : List ℕ) (room : ℕ) → ((n : ℕ) × RowsAt n s (chunk_place s 4)) → length s / 2 * 5 ≤ room → Needed s room None
 room_sure s room h l =
     let k = rows_most h.0 s (chunk_place s 4) h.1 in
-    record { n = h.0; rows = h.1; enough = λ m. room_most h.0 k; short = λ m. absurd (omega arith) }
+    record { n = h.0; rows = h.1; enough = λ m. room_most h.0 k; short = λ k e. absurd (none-some k e) }
   where
     room_most : (n : ℕ) → 2 * n ≤ length s - 8 + 1 → n * 5 ≤ room
     room_most n k = omega arith
 
-pub room_counted : (s : List ℕ) (room n : ℕ) → (n ≤ 262144) × RowsAt n s (chunk_place s 4) → Needed s room (n * 5)
-room_counted s room n h = record { n = n; rows = h.1; enough = λ m. m; short = λ m. refl }
+module _ (s : List ℕ) (room n : ℕ) (h : (n ≤ 262144) × RowsAt n s (chunk_place s 4)) where
+  pub room_enough : n * 5 ≤ room → Needed s room None
+  room_enough l = record { n = n; rows = h.1; enough = λ m. l; short = λ k e. absurd (none-some k e) }
+
+  pub room_short : room < n * 5 → Needed s room (Some (n * 5))
+  room_short l =
+      record {
+        n = n;
+        rows = h.1;
+        enough = λ e. absurd (none-some (n * 5) (sym e));
+        short = λ k e. let q = same_Some (n * 5) k e in (sym q, omega arith);
+      }
 
 -- ---- the rows laid
 
@@ -154,19 +165,19 @@ module _ (s : List ℕ) (p : Place) (i : ℕ) (l : List ℕ) (q : Place) (j : �
   pub items_within : q.at < length s
   items_within = g.within
 
-  module _ (n : ℕ) (h : n ≡ step_end s q.at) where
-    pub items_zero : n ≡ 0 → get_or s q.at 0 ≡ 0
-    items_zero z = row_zero s q.at n items_has h z
+  pub items_zero : None ≡ step_end s q.at → get_or s q.at 0 ≡ 0
+  items_zero h = row_zero s q.at items_has h
 
+  module _ (n : ℕ) (h : Some n ≡ step_end s q.at) where
     -- an item is of the same chunk as the one before it
-    pub items_again : (n ≡ 0 → ⊥) → (row : Row) (l₂ : List ℕ) → row_of row ≡ row_at s q → l₂ ≡ store j (row_of row) l₁ → ItemsLaid s p i l (record { ssrc = q.ssrc; at = n }) (j + 5) l₂
-    items_again z row l₂ f k =
-        let e = item_next s q n h z in
+    pub items_again : (row : Row) (l₂ : List ℕ) → row_of row ≡ row_at s q → l₂ ≡ store j (row_of row) l₁ → ItemsLaid s p i l (record { ssrc = q.ssrc; at = n }) (j + 5) l₂
+    items_again row l₂ f k =
+        let e = item_next s q n h in
         let a = after_more s q items_has in
         let b = g.on in
         let w : (place_after s q).at ≡ n = ap (λ (p : Place). p.at) (sym e) in
         record {
-          within = subst (λ (m : ℕ). m < length s) w (row_next s q items_has (steps s q.at n h z).item);
+          within = subst (λ (m : ℕ). m < length s) w (row_next s q items_has (steps s q.at n h).item);
           on = omega arith;
           laid = lay_again s p i l q j l₁ g.laid g.within (record { ssrc = q.ssrc; at = n }) l₂ (e, k ∙ ap (λ (xs : List ℕ). store j xs l₁) f);
         }
@@ -198,55 +209,51 @@ not_room xs l n e h = rw (lt-leb (length xs) (length l) (omega arith), e)
 in_room : (xs l : List ℕ) (n : ℕ) → length xs ≡ n → n ≤ length l → lay_if (leb (length xs) (length l)) xs l ≡ (ok n, store 0 xs l)
 in_room xs l n e h = rw (le-leb (length xs) (length l) (omega arith), e)
 
-module _ (s : List ℕ) (p : Sdes) (h : p ≡ value_or no_sdes sdes_view (read_as SDES s)) where
-  pub items_refused : (l : List ℕ) (k : Refusal) → p.body ≡ 0 → k ≡ refusal_in (read_as SDES (take (length s - 0) (drop 0 s))) → (refused k, l) ≡ lay_list (map_ok sdes_rows (read_as SDES s)) l
-  unfolding lay_list map_ok
-  items_refused l k e q =
-      let w = none_came no_sdes sdes_view (λ o. o.body) refl (λ p. omega arith) (read_as SDES s) p h e in
-      let z : k ≡ refusal_in (read_as SDES s) = q ∙ ap (λ (s : List ℕ). refusal_in (read_as SDES s)) (rest_is s 0) in
-      rw (w, z)
+pub items_refused : (s : List ℕ) (k : Refusal) → refused k ≡ map_ok sdes_view (read_as SDES s) → map_ok sdes_rows (read_as SDES s) ≡ refused k
+unfolding map_ok
+items_refused s k e = rw (map_ok_refused sdes_view (read_as SDES s) (sym e))
 
-  module _ (e : p.body ≡ 0 → ⊥) where
-    found : (x : Packet) × (read_as SDES s ≡ ok x) × (sdes_view x ≡ p)
-    found = value_came no_sdes sdes_view (λ o. o.body) refl (read_as SDES s) p h e
+module _ (s : List ℕ) (p : Sdes) (h : ok p ≡ map_ok sdes_view (read_as SDES s)) where
+  found : (x : Packet) × (read_as SDES s ≡ ok x) × (sdes_view x ≡ p)
+  found = map_ok_inv sdes_view (read_as SDES s) (sym h)
 
-    pub items_inside : p.body ≤ length s
-    items_inside = let g = got SDES s found.0 found.1 in rw (sym (ap (λ (p : Sdes). p.body) found.2) ∙ sdes_body s found.0 g) g.within
+  pub items_inside : p.body ≤ length s
+  items_inside = let g = got SDES s found.0 found.1 in rw (sym (ap (λ (p : Sdes). p.body) found.2) ∙ sdes_body s found.0 g) g.within
 
-    ends : (sdes_view found.0).body ≡ p.body
-    ends = ap (λ (p : Sdes). p.body) found.2
+  ends : (sdes_view found.0).body ≡ p.body
+  ends = ap (λ (p : Sdes). p.body) found.2
 
-    reads : Reads (take p.body s) (chunk_place (take p.body s) 4) (sdes_rows found.0)
-    reads = packet_read s found.0 found.1 p.body ends
+  reads : Reads (take p.body s) (chunk_place (take p.body s) 4) (sdes_rows found.0)
+  reads = packet_read s found.0 found.1 p.body ends
 
-    pub items_body : p.body ≡ length (take p.body s)
-    items_body = sym (length-take-le p.body s items_inside)
+  pub items_body : p.body ≡ length (take p.body s)
+  items_body = sym (length-take-le p.body s items_inside)
 
-    pub items_most : ((i : ℕ) → get_or s i 0 < 256) → length (take p.body s) ≤ 262144
-    items_most k = rw (← items_body) (packet_most s found.0 found.1 p.body ends k)
+  pub items_most : ((i : ℕ) → get_or s i 0 < 256) → length (take p.body s) ≤ 262144
+  items_most k = rw (← items_body) (packet_most s found.0 found.1 p.body ends k)
 
-    pub items_rows : (n : ℕ) × RowsAt n (take p.body s) (chunk_place (take p.body s) 4)
-    items_rows = (reads.n, reads.rows)
+  pub items_rows : (n : ℕ) × RowsAt n (take p.body s) (chunk_place (take p.body s) 4)
+  items_rows = (reads.n, reads.rows)
 
-    module _ (l : List ℕ) where
-      same : (n : ℕ) → RowsAt n (take p.body s) (chunk_place (take p.body s) 4) → rows_from n (take p.body s) (chunk_place (take p.body s) 4) ≡ sdes_rows found.0
-      same n c = ap (λ (k : ℕ). rows_from k (take p.body s) (chunk_place (take p.body s) 4)) (rows_one n reads.n (take p.body s) (chunk_place (take p.body s) 4) c reads.rows) ∙ reads.same
+  module _ (l : List ℕ) where
+    same : (n : ℕ) → RowsAt n (take p.body s) (chunk_place (take p.body s) 4) → rows_from n (take p.body s) (chunk_place (take p.body s) 4) ≡ sdes_rows found.0
+    same n c = ap (λ (k : ℕ). rows_from k (take p.body s) (chunk_place (take p.body s) 4)) (rows_one n reads.n (take p.body s) (chunk_place (take p.body s) 4) c reads.rows) ∙ reads.same
 
-      size : (n : ℕ) → RowsAt n (take p.body s) (chunk_place (take p.body s) 4) → length (sdes_rows found.0) ≡ n * 5
-      size n c = ap length (sym (same n c)) ∙ length_rows n (take p.body s) (chunk_place (take p.body s) 4) c
+    size : (n : ℕ) → RowsAt n (take p.body s) (chunk_place (take p.body s) 4) → length (sdes_rows found.0) ≡ n * 5
+    size n c = ap length (sym (same n c)) ∙ length_rows n (take p.body s) (chunk_place (take p.body s) 4) c
 
-      laid : lay_list (map_ok sdes_rows (read_as SDES s)) l ≡ lay_if (leb (length (sdes_rows found.0)) (length l)) (sdes_rows found.0) l
-      unfolding lay_list map_ok
-      laid = ap (λ (a : Answer Packet). lay_list (map_ok sdes_rows a) l) found.1
+    laid : lay_list (map_ok sdes_rows (read_as SDES s)) l ≡ lay_if (leb (length (sdes_rows found.0)) (length l)) (sdes_rows found.0) l
+    unfolding lay_list map_ok
+    laid = ap (λ (a : Answer Packet). lay_list (map_ok sdes_rows a) l) found.1
 
-      pub items_short : (r : ℕ) → Needed (take p.body s) (length l) r → length l < r → (refused (refusal 10 r 0), l) ≡ lay_list (map_ok sdes_rows (read_as SDES s)) l
-      items_short r c m = sym (laid ∙ not_room (sdes_rows found.0) l r (size c.n c.rows ∙ sym (c.short m)) m)
+    pub items_short : (r : ℕ) → Needed (take p.body s) (length l) (Some r) → (refused (refusal 10 r 0), l) ≡ lay_list (map_ok sdes_rows (read_as SDES s)) l
+    items_short r c = let w = c.short r refl in sym (laid ∙ not_room (sdes_rows found.0) l r (size c.n c.rows ∙ sym w.0) w.1)
 
-      pub items_laid : (k : ℕ) → Needed (take p.body s) (length l) k → k ≤ length l → (r : ℕ) (l₁ : List ℕ) → AllLaid (take p.body s) l r l₁ → (ok r, l₁) ≡ lay_list (map_ok sdes_rows (read_as SDES s)) l
-      items_laid k c m r l₁ w =
-          let z : length (sdes_rows found.0) ≡ c.n * 5 = size c.n c.rows in
-          let y : length (sdes_rows found.0) ≡ r = size w.n w.rows ∙ sym w.size in
-          let q = c.enough m in
-          sym (laid ∙ in_room (sdes_rows found.0) l r y (omega arith) ∙ ap (λ (xs : List ℕ). (ok r, store 0 xs l)) (sym (same w.n w.rows)) ∙ ap (λ (k : List ℕ). (ok r, k)) (sym w.laid))
+    pub items_laid : Needed (take p.body s) (length l) None → (r : ℕ) (l₁ : List ℕ) → AllLaid (take p.body s) l r l₁ → (ok r, l₁) ≡ lay_list (map_ok sdes_rows (read_as SDES s)) l
+    items_laid c r l₁ w =
+        let z : length (sdes_rows found.0) ≡ c.n * 5 = size c.n c.rows in
+        let y : length (sdes_rows found.0) ≡ r = size w.n w.rows ∙ sym w.size in
+        let q = c.enough refl in
+        sym (laid ∙ in_room (sdes_rows found.0) l r y (omega arith) ∙ ap (λ (xs : List ℕ). (ok r, store 0 xs l)) (sym (same w.n w.rows)) ∙ ap (λ (k : List ℕ). (ok r, k)) (sym w.laid))
 
-pub ruleset rows = (rules, chunk_none, chunk_some, after_zero, after_less, row_end, row_zero, item_within, item_next, item_less, item_stands, item_some, row_length, row_plain, row_prefix, row_value, row_one, row_rest, row_rest_fits, row_priv, count_start, count_done, count_fits, count_has, count_again, room_sure, room_counted, row_laid, row_stored, row_ended, lay_left, lay_more, items_start, items_has, items_room, items_within, items_zero, items_again, chunk_laid, rows_start, rows_done, chunk_less, items_refused, items_inside, items_body, items_short, items_laid)
+pub ruleset rows = (rules, chunk_none, chunk_some, after_zero, after_less, row_end, row_zero, item_within, item_next, item_less, item_stands, item_some, row_length, row_plain, row_prefix, row_value, row_one, row_rest, row_rest_fits, row_priv, count_start, count_done, count_fits, count_has, count_again, room_sure, room_enough, room_short, row_laid, row_stored, row_ended, lay_left, lay_more, items_start, items_has, items_room, items_within, items_zero, items_again, chunk_laid, rows_start, rows_done, chunk_less, lay_handed, items_refused, items_inside, items_body, items_short, items_laid)

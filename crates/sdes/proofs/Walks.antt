@@ -1,19 +1,18 @@
 -- The steps of the walk over a packet's chunks.
-use Rattle.rfc3550.proofs.Prelude.{ℕ, zero, suc, ◌+◌, ◌-◌, ◌^◌, ◌<◌, ◌≤◌, ◌≡◌, refl, sym, ap, ◌∙◌, List, [], ◌∷◌, arith, rules, lt-ltb, le-ltb, length, take, drop, length-take, length-drop, length-take-le, take_all}
+use Rattle.std.specs.Prelude.{None, Some}
+use Rattle.rfc3550.proofs.Prelude.{ℕ, zero, suc, ◌+◌, ◌-◌, ◌^◌, ◌<◌, ◌≤◌, min, ◌≡◌, refl, sym, ap, ◌∙◌, List, [], ◌∷◌, arith, rules, lt-ltb, le-ltb, length, take, drop, length-take, length-drop, length-take-le, take_all}
 use Rattle.rfc3550.specs.Answer.{Refusal, ok, refused, refuse, need, ◌>>◌, ◌>>=◌, map_ok}
 use Rattle.rfc3550.specs.Packet.{Chunk, chunk_bytes, Packet, content_bytes}
 use Rattle.rfc3550.specs.Read.{SDES, read_chunk, read_as}
 use Rattle.rfc3550.specs.Walk.{open_sdes, sdes_step}
 use Rattle.rfc3550.proofs.Answers.{map_ok_inv}
 use Rattle.utils.proofs.Errors.{parse_handed}
-use Rattle.utils.specs.Error.{refusal_in, value_or}
-use Rattle.utils.proofs.Values.{value_came, none_came}
+use Rattle.utils.specs.Error.{value_in}
+use Rattle.utils.proofs.Values.{value_is, none_below}
 use Rattle.utils.proofs.Parts.{drop_take}
 use Rattle.utils.proofs.Reading.{map_ok_refused, got}
 use Rattle.sdes_chunk.specs.declared.chunk.SdesChunk.{SdesChunk}
-use Rattle.sdes_chunk.specs.Chunk.{chunk_first, no_chunk}
-use Rattle.sdes_chunk.proofs.Answers.{rest_is}
-use Rattle.sdes_chunk.proofs.Chunks.{chunk_long}
+use Rattle.sdes_chunk.specs.Chunk.{chunk_first}
 use Rattle.sdes_chunk.proofs.Readings.{chunk_in}
 use Rattle.sdes.specs.declared.sdes.Sdes.{Sdes}
 use Rattle.sdes.specs.declared.sdes.ChunkWalk.{ChunkWalk}
@@ -44,8 +43,15 @@ take_length_take zero s = refl
 take_length_take (suc n) [] = refl
 take_length_take (suc n) (b ∷ s) = ap (λ (l : List ℕ). b ∷ l) (take_length_take n s)
 
-module _ (s : List ℕ) (n : ℕ) (r : n ≡ length (take 262144 s)) where
-  limit_within : n ≤ length s
+-- the place up to which a step reads
+limit_is : (s : List ℕ) (n : ℕ) → n ≡ min (length s) 262144 → n ≡ length (take 262144 s)
+limit_is s n e = rw e (simp length-take (omega arith))
+
+module _ (s : List ℕ) (n : ℕ) (limit : n ≡ min (length s) 262144) where
+  r : n ≡ length (take 262144 s)
+  r = limit_is s n limit
+
+  pub limit_within : n ≤ length s
   limit_within = rw r (simp length-take (omega arith))
 
   part_is : (at : ℕ) → take (n - at) (drop at s) ≡ drop at (take 262144 s)
@@ -60,27 +66,26 @@ module _ (s : List ℕ) (n : ℕ) (r : n ≡ length (take 262144 s)) where
     unfolding sdes_step need ◌>>◌ map_ok
     chunk_past_end l m = rw (← r, lt-ltb w.at n l, le-ltb w.at w.end m)
 
-    module _ (l : w.at < n) (m : w.at < w.end) (c : SdesChunk) (h : c ≡ value_or no_chunk chunk_first (read_chunk (take (n - w.at) (drop w.at s)))) where
-      here : c ≡ value_or no_chunk chunk_first (read_chunk (drop w.at (take 262144 s)))
-      here = h ∙ ap (λ (bs : List ℕ). value_or no_chunk chunk_first (read_chunk bs)) (part_is w.at)
+    module _ (l : w.at < n) (m : w.at < w.end) where
+      pub step_asked : None ≡ value_in (map_ok chunk_first (read_chunk (take (n - w.at) (drop w.at s)))) → value_in (read_chunk (take (n - w.at) (drop w.at s))) ≡ None
+      step_asked e = none_below chunk_first (read_chunk (take (n - w.at) (drop w.at s))) e
 
-      pub chunk_not_stepped : (k : Refusal) → c.length ≡ 0
-          → k ≡ refusal_in (read_chunk (take (length (take (n - w.at) (drop w.at s)) - 0) (drop 0 (take (n - w.at) (drop w.at s)))))
-          → refused k ≡ map_ok chunk_stepped (sdes_step s (sdes_walk w))
+      pub chunk_not_stepped : (k : Refusal) → refused k ≡ read_chunk (take (n - w.at) (drop w.at s)) → refused k ≡ map_ok chunk_stepped (sdes_step s (sdes_walk w))
       unfolding sdes_step need ◌>>◌ ◌>>=◌ map_ok
-      chunk_not_stepped k e q =
-          let x = none_came no_chunk chunk_first (λ c. c.length) refl chunk_long (read_chunk (drop w.at (take 262144 s))) c here e in
+      chunk_not_stepped k q =
+          let x : read_chunk (drop w.at (take 262144 s)) ≡ refused k = sym (q ∙ ap read_chunk (part_is w.at)) in
           rw (← r, lt-ltb w.at n l, lt-ltb w.at w.end m, x)
-          (ap refused (q ∙ ap (λ (s : List ℕ). refusal_in (read_chunk s)) (rest_is (take (n - w.at) (drop w.at s)) 0 ∙ part_is w.at)))
 
-      module _ (e : c.length ≡ 0 → ⊥) where
+      module _ (c : SdesChunk) (h : Some c ≡ value_in (map_ok chunk_first (read_chunk (take (n - w.at) (drop w.at s))))) where
         came : (x : Chunk × List ℕ) × (read_chunk (drop w.at (take 262144 s)) ≡ ok x) × (chunk_first x ≡ c)
-        came = value_came no_chunk chunk_first (λ c. c.length) refl (read_chunk (drop w.at (take 262144 s))) c here e
+        came =
+            map_ok_inv chunk_first (read_chunk (drop w.at (take 262144 s)))
+            (sym (value_is (map_ok chunk_first (read_chunk (drop w.at (take 262144 s)))) c (h ∙ ap (λ (bs : List ℕ). value_in (map_ok chunk_first (read_chunk bs))) (part_is w.at))))
 
         pub chunk_fits : length s < 2 ^ 64 → w.at + c.length < 2 ^ 64
         chunk_fits b =
             let a : length (chunk_bytes came.0.0) ≡ c.length = ap (λ (c : SdesChunk). c.length) came.2 in
-            omega (arith, (chunk_in (drop w.at (take 262144 s)) came.1).size, length-drop w.at (take 262144 s), limit_within)
+            omega (arith, (chunk_in (drop w.at (take 262144 s)) came.1).size, length-drop w.at (take 262144 s), limit_within, r)
 
         pub chunk_stepped_lem : ok (c, record { at = w.at + c.length; end = w.end }) ≡ map_ok chunk_stepped (sdes_step s (sdes_walk w))
         unfolding sdes_step need ◌>>◌ ◌>>=◌ map_ok
@@ -90,4 +95,4 @@ module _ (s : List ℕ) (n : ℕ) (r : n ≡ length (take 262144 s)) where
                 → ok (c, record { at = w.at + c.length; end = w.end }) ≡ map_ok chunk_stepped (sdes_step s (sdes_walk w))
             go x q a = rw (← r, lt-ltb w.at n l, lt-ltb w.at w.end m, q, ← a)
 
-pub ruleset walks = (rules, parse_handed, chunks_not_opened, chunks_opened, chunk_past_limit, chunk_past_end, chunk_not_stepped, chunk_fits, chunk_stepped_lem)
+pub ruleset walks = (rules, parse_handed, chunks_not_opened, chunks_opened, limit_within, chunk_past_limit, chunk_past_end, step_asked, chunk_not_stepped, chunk_fits, chunk_stepped_lem)

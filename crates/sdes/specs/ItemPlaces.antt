@@ -1,10 +1,10 @@
 -- The same rows by the bytes of an accepted body: what stands at a place, and the place of the next row.
-use Rattle.std.specs.Prelude.{ℕ, zero, suc, ◌+◌, ◌*◌, ◌<◌, ◌≤◌, ◌≡◌, List, [], ◌∷◌, ◌++◌, length, get_or, take, drop, ltb, eqb}
+use Rattle.std.specs.Prelude.{ℕ, zero, suc, ◌+◌, ◌*◌, ◌<◌, ◌≤◌, ◌≡◌, List, [], ◌∷◌, ◌++◌, Option, None, Some, option_map, unwrap_or, length, get_or, take, drop, ltb, eqb}
 use Rattle.rfc3550.specs.Answer.{ok, pick}
 use Rattle.rfc3550.specs.Bytes.{val, store}
 use Rattle.rfc3550.specs.Packet.{Item, fill}
 use Rattle.rfc3550.specs.Read.{read_item}
-use Rattle.utils.specs.Error.{value_or}
+use Rattle.utils.specs.Error.{value_in}
 use Rattle.sdes_chunk.specs.Item.{item_end}
 use Rattle.sdes.specs.declared.items.Row.{Row}
 use Rattle.sdes.specs.declared.items.Place.{Place}
@@ -19,10 +19,10 @@ chunk_place s start = record { ssrc = pick (ltb (start + 4) (length s)) (val (ta
 
 -- behind the zero and its fill, the next chunk; behind an item, what follows it
 abbrev pub place_after : List ℕ → Place → Place
-place_after s p = pick (eqb (get_or s p.at 0) 0) (chunk_place s (p.at + fill p.at)) (record { ssrc = p.ssrc; at = value_or 0 (item_end p.at) (read_item (drop p.at s)) })
+place_after s p = pick (eqb (get_or s p.at 0) 0) (chunk_place s (p.at + fill p.at)) (record { ssrc = p.ssrc; at = unwrap_or (option_map (item_end p.at) (value_in (read_item (drop p.at s)))) 0 })
 
 abbrev pub row_at : List ℕ → Place → List ℕ
-row_at s p = pick (eqb (get_or s p.at 0) 0) (p.ssrc ∷ 0 ∷ p.at ∷ 0 ∷ 0 ∷ []) (value_or [] (λ (x : Item × List ℕ). item_row p.ssrc p.at x.0) (read_item (drop p.at s)))
+row_at s p = pick (eqb (get_or s p.at 0) 0) (p.ssrc ∷ 0 ∷ p.at ∷ 0 ∷ 0 ∷ []) (unwrap_or (option_map (λ (x : Item × List ℕ). item_row p.ssrc p.at x.0) (value_in (read_item (drop p.at s)))) [])
 
 -- a zero, or an item behind which something stands
 pub record HasRow (s : List ℕ) (at : ℕ) : Type 0 where
@@ -38,12 +38,12 @@ unfoldable pub rows_from : ℕ → List ℕ → Place → List ℕ
 rows_from zero s p = []
 rows_from (suc n) s p = row_at s p ++ rows_from n s (place_after s p)
 
--- how long a list has to be, where this room is too short; at most the room, where it is enough
-pub record Needed (s : List ℕ) (room r : ℕ) : Type 0 where
+-- how long a list has to be, where this room is too short
+pub record Needed (s : List ℕ) (room : ℕ) (r : Option ℕ) : Type 0 where
   pub n : ℕ
   pub rows : RowsAt n s (chunk_place s 4)
-  pub enough : r ≤ room → n * 5 ≤ room
-  pub short : room < r → r ≡ n * 5
+  pub enough : r ≡ None → n * 5 ≤ room
+  pub short : (k : ℕ) → r ≡ Some k → (k ≡ n * 5) × (room < k)
 
 -- the list has room for the rows from a place on, laid from i on
 pub record RoomFor (s : List ℕ) (p : Place) (l : List ℕ) (i : ℕ) : Type 0 where

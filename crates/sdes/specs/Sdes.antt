@@ -7,13 +7,9 @@
 --     +-+-+-+-+-+-+-+-+-+-+-+-+-+-+-+-+-+-+-+-+-+-+-+-+-+-+-+-+-+-+-+-+
 --
 -- What the code hands over of it: numbers that its layout fixes.
-use Rattle.std.specs.Prelude.{◌+◌, false, length}
+use Rattle.std.specs.Prelude.{◌+◌, length}
 use Rattle.rfc3550.specs.Packet.{Packet, content_bytes, chunks_of, has_cname}
 use Rattle.sdes.specs.declared.sdes.Sdes.{Sdes}
 
 abbrev pub sdes_view : Packet → Sdes
 sdes_view p = record { n_chunks = length (chunks_of p.content); has_cname = has_cname p; body = 4 + length (content_bytes p.content); padding_len = length p.padding }
-
--- what stands for a packet that is refused
-abbrev pub no_sdes : Sdes
-no_sdes = record { n_chunks = 0; has_cname = false; body = 0; padding_len = 0 }

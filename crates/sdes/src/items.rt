@@ -1,5 +1,7 @@
 // The chunks and items of a source description, all at once: a walk by calls checks the packet again at each level.
-ghost use Rattle.std.specs.Prelude.{◌≡◌, ℕ, ◌+◌, ◌<◌, ◌≤◌, length, get_or};
+#![tactic(auto, using(crate::proofs::ItemTurns::rows))]
+
+ghost use Rattle.std.specs.Prelude.{◌≡◌, None, ℕ, ◌+◌, ◌<◌, ◌≤◌, length, get_or};
 ghost use Rattle.rfc3550.specs.Answer.{map_ok};
 ghost use Rattle.rfc3550.specs.Bytes.{store};
 ghost use Rattle.rfc3550.specs.Read.{SDES, read_as};
@@ -53,10 +55,9 @@ fn after(body: &[u8], place: Place) -> Place
     ensures { result ≡ place_after body.now place }
 {
     let at = place.at;
-    let end = item::item_end(body, at);
-    if end == 0 {
+    let Some(end) = item::item_end(body, at) else {
         return chunk_place(body, chunk::word_boundary_unchecked(at));
-    }
+    };
     Place {
         ssrc: place.ssrc,
         at: end,
@@ -65,7 +66,7 @@ fn after(body: &[u8], place: Place) -> Place
 
 // The row of an item, which is read from the part that starts with it.
 fn item_row(body: &[u8], place: Place) -> Row
-    requires { (length body.now ≤ 262144) × (step_end body.now place.at ≡ 0 → ⊥) }
+    requires { (length body.now ≤ 262144) × (step_end body.now place.at ≡ None → ⊥) }
     ensures { row_of result ≡ row_at body.now place }
 {
     let at = place.at;
@@ -134,15 +135,19 @@ fn count_rows(body: &[u8]) -> usize
     n
 }
 
-// How long a list has to be; 0 where this room is surely enough, which spares the count: a row takes two bytes of the body at least.
-fn needed(body: &[u8], room: usize) -> usize
+// How long the list has to be, where this room is too short. A row takes two bytes of the body at least: room for so many is enough, and spares the count.
+fn needed(body: &[u8], room: usize) -> Option<usize>
     requires { (length body.now ≤ 262144) × ((n : ℕ) × RowsAt n body.now (chunk_place body.now 4)) }
     ensures { Needed body.now room result }
 {
     if body.len() / 2 * ITEM_ROW <= room {
-        return 0;
+        return None;
     }
-    count_rows(body) * ITEM_ROW
+    let size = count_rows(body) * ITEM_ROW;
+    if size <= room {
+        return None;
+    }
+    Some(size)
 }
 
 // The place of the next row, and its index in the list.
@@ -160,10 +165,9 @@ fn lay_items(body: &[u8], first: Next, rows: &mut [u32]) -> Next
     let mut next = first;
     // A loop: how many items there are is what it finds out.
     loop {
-        let end = item::item_end(body, next.place.at);
-        if end == 0 {
+        let Some(end) = item::item_end(body, next.place.at) else {
             return next;
-        }
+        };
         write_row(rows, next.i, item_row(body, next.place));
         next.place.at = end;
         next.i += ITEM_ROW;
@@ -192,6 +196,7 @@ fn lay_rows(body: &[u8], rows: &mut [u32]) -> usize
         place: chunk_place(body, Sdes::MIN_PACKET_LEN),
         i: 0,
     };
+    // A while: a chunk says where the next one starts.
     while next.place.at < body.len() {
         next = lay_chunk(body, next, rows);
     }
@@ -205,14 +210,9 @@ fn lay_rows(body: &[u8], rows: &mut [u32]) -> usize
 pub fn items(s: &[u8], rows: &mut [u32]) -> Result<usize, ListError>
     ensures { (listed_of result, rows.new) ≡ lay_list (map_ok sdes_rows (read_as SDES s.now)) rows.old }
 {
-    let sdes = Sdes::read(s);
-    let end = sdes.body;
-    if end == 0 {
-        return Err(ListError::Refused(Sdes::why(&s[0..])));
-    }
-    let body = &s[..end];
-    let size = needed(body, rows.len());
-    if rows.len() < size {
+    let sdes = Sdes::parse(s)?;
+    let body = &s[..sdes.body];
+    if let Some(size) = needed(body, rows.len()) {
         return Err(ListError::TooShort(size));
     }
     Ok(lay_rows(body, rows))

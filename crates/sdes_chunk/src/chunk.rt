@@ -84,7 +84,10 @@ fn zeros_end(chunk: &[u8], from: usize, end: usize) -> usize
     ensures { ZerosEnd chunk.now from end result }
 {
     for at in from + 1..end {
-        if chunk.len() <= at || chunk[at] != 0 {
+        if chunk.len() <= at {
+            return at;
+        }
+        if chunk[at] != 0 {
             return at;
         }
     }
@@ -233,6 +236,7 @@ impl SdesChunk {
     }
 
     // The chunk at the start of the rest of a body.
+    #[tactic(auto, using(utils::proofs::Values::values))]
     #[inline(always)]
     pub fn parse(rest: &[u8]) -> Result<SdesChunk, RtcpParseError>
         ensures { parsed_of result ≡ map_ok chunk_first (read_chunk rest.now) }

@@ -1,6 +1,9 @@
 use Rattle.sdes.proofs.ItemTurns.{rows, count_done}
 use Rattle.sdes.proofs.items.count_rows.Goals as goal
 
+pub returns : goal.returns
+returns c = count_done _ _ _ c.loop-place.invariant c.requires.0 c.loop-place-test.false
+
 pub after-place-requires : goal.after-place-requires
 after-place-requires c = search rows
 
@@ -9,9 +12,3 @@ overflow_add-n c = search rows
 
 pub loop-place-smaller : goal.loop-place-smaller
 loop-place-smaller c = search rows
-
-pub loop-place-preserved : goal.loop-place-preserved
-loop-place-preserved c = search rows
-
-pub returns : goal.returns
-returns c = count_done _ _ _ c.loop-place.invariant c.requires.0 c.loop-place-test.false

@@ -1,5 +1,4 @@
 use Rattle.rfc3550.proofs.Prelude.{arith, length-set}
-use Rattle.sdes.proofs.ItemTurns.{rows}
 use Rattle.sdes.proofs.items.write_row.Goals as goal
 
 pub bounds-rows-i-2 : goal.bounds-rows-i-2
@@ -13,6 +12,3 @@ bounds-rows-i-4 c = simp length-set (omega arith)
 
 pub bounds-rows-i-5 : goal.bounds-rows-i-5
 bounds-rows-i-5 c = simp length-set (omega arith)
-
-pub returns : goal.returns
-returns c = search rows
