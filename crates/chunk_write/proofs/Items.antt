@@ -1,19 +1,16 @@
 -- The cases of an item's size and bytes, each from what the code has tested or called.
-use Rattle.std.specs.Prelude.{Ok}
-use Rattle.rfc3550.proofs.Prelude.{ℕ, suc, ◌+◌, ◌-◌, ◌<◌, ◌≤◌, ◌≡◌, refl, sym, ap, ◌∙◌, Bool, true, false, ◌||◌, ◌&&◌, not, List, [], ◌∷◌, ◌++◌, arith, le-leb, lt-leb, leb-true, eq-eqb, ne_eqb, eqb-true, eqb-false, not-true, not-false, length, take, drop, set, length-append, take-append-drop, length-take-le, leb, eqb}
-use Rattle.rfc3550.specs.Answer.{Refusal, Answer, ok, refused, refusal, need, ◌>>◌, ◌>>=◌, pick}
+use Rattle.std.specs.Prelude.{Option, None, Some}
+use Rattle.rfc3550.proofs.Prelude.{ℕ, suc, ◌+◌, ◌-◌, ◌<◌, ◌≤◌, ◌≡◌, refl, sym, ap, ◌∙◌, Bool, true, false, ◌||◌, ◌&&◌, not, List, [], ◌∷◌, ◌++◌, arith, le-leb, lt-leb, leb-true, leb-false, eq-eqb, ne_eqb, eqb-true, eqb-false, not-true, not-false, length, take, drop, set, length-append, take-append-drop, length-take-le, leb, eqb}
+use Rattle.rfc3550.specs.Answer.{Refusal, Answer, ok, refused, refusal, need, ◌>>◌, pick}
 use Rattle.rfc3550.specs.Bytes.{store}
 use Rattle.rfc3550.specs.Packet.{item, priv, item_bytes}
-use Rattle.rfc3550.specs.Write.{item_given, item_tests, item_size, room, written, write_item}
+use Rattle.rfc3550.specs.Write.{item_given, item_tests, item_size}
 use Rattle.rfc3550.proofs.Answers.{need_inv, and_inv, ok_injective}
-use Rattle.utils.specs.Error.{or_zero}
-use Rattle.utils.specs.Writer.{size_refusal}
+use Rattle.utils.specs.Error.{value_in}
 use Rattle.utils.proofs.WriterCases.{writer}
 use Rattle.utils.proofs.WriterStores.{store_puts, store_store}
-use Rattle.utils.proofs.Parts.{lent_again}
-use Rattle.utils.proofs.Values.{number_came}
-use Rattle.utils.proofs.WriterPackets.{short_written, done_written}
-use Rattle.chunk_write.specs.Sizes.{lent, item_length, size_of, priv_head, ItemFits}
+use Rattle.utils.proofs.Values.{values}
+use Rattle.chunk_write.specs.Sizes.{lent, item_length, size_of, priv_head, HasRoom}
 
 -- ---- the size
 
@@ -45,45 +42,24 @@ module _ (t p v : ℕ) where
       unfolding size_of need ◌>>◌
       plain_size f = simp (ne_eqb _ _ z, ne_eqb _ _ n, le-leb _ _ f)
 
-  -- in numbers, and why
-  pub type_zero_number : t ≡ 0 → 0 ≡ or_zero (size_of t p v)
-  type_zero_number h = ap or_zero (type_zero h)
+  pub type_zero_none : t ≡ 0 → None ≡ value_in (size_of t p v)
+  type_zero_none h = ap value_in (type_zero h)
 
-  pub type_zero_why : t ≡ 0 → refusal 23 0 0 ≡ size_refusal (size_of t p v)
-  type_zero_why h = ap size_refusal (type_zero h)
+  -- why there is none, where one reason is left
+  module _ (z : t ≡ 0 → ⊥) (h : value_in (size_of t p v) ≡ None) where
+    pub priv_why : t ≡ 8 → p ≤ 254 → refused (refusal 20 v (254 - p)) ≡ size_of t p v
+    priv_why e f = go (leb v (254 - p)) refl
+      where
+        go : (x : Bool) → leb v (254 - p) ≡ x → refused (refusal 20 v (254 - p)) ≡ size_of t p v
+        go true q = let y : Some (3 + p + v) ≡ None = ap value_in (priv_size z e f (leb-true _ _ q)) ∙ h in cc
+        go false q = priv_over z e f (leb-false _ _ q)
 
-  module _ (z : t ≡ 0 → ⊥) where
-    module _ (e : t ≡ 8) where
-      pub prefix_over_number : 254 < p → 0 ≡ or_zero (size_of t p v)
-      prefix_over_number h = ap or_zero (prefix_over z e h)
-
-      pub prefix_over_why : 254 < p → refusal 21 p 254 ≡ size_refusal (size_of t p v)
-      prefix_over_why h = ap size_refusal (prefix_over z e h)
-
-      pub priv_over_number : p ≤ 254 → 254 - p < v → 0 ≡ or_zero (size_of t p v)
-      priv_over_number h f = ap or_zero (priv_over z e h f)
-
-      pub priv_over_why : p ≤ 254 → 254 - p < v → refusal 20 v (254 - p) ≡ size_refusal (size_of t p v)
-      priv_over_why h f = ap size_refusal (priv_over z e h f)
-
-      pub priv_size_number : p ≤ 254 → v ≤ 254 - p → 3 + p + v ≡ or_zero (size_of t p v)
-      priv_size_number h f = ap or_zero (priv_size z e h f)
-
-      pub priv_size_why : p ≤ 254 → v ≤ 254 - p → refusal 22 0 0 ≡ size_refusal (size_of t p v)
-      priv_size_why h f = ap size_refusal (priv_size z e h f)
-
-    module _ (n : t ≡ 8 → ⊥) where
-      pub other_over_number : 255 < v → 0 ≡ or_zero (size_of t p v)
-      other_over_number f = ap or_zero (plain_over z n f)
-
-      pub other_over_why : 255 < v → refusal 20 v 255 ≡ size_refusal (size_of t p v)
-      other_over_why f = ap size_refusal (plain_over z n f)
-
-      pub other_size_number : v ≤ 255 → 2 + v ≡ or_zero (size_of t p v)
-      other_size_number f = ap or_zero (plain_size z n f)
-
-      pub other_size_why : v ≤ 255 → refusal 22 0 0 ≡ size_refusal (size_of t p v)
-      other_size_why f = ap size_refusal (plain_size z n f)
+    pub plain_why : (t ≡ 8 → ⊥) → refused (refusal 20 v 255) ≡ size_of t p v
+    plain_why n = go (leb v 255) refl
+      where
+        go : (x : Bool) → leb v 255 ≡ x → refused (refusal 20 v 255) ≡ size_of t p v
+        go true q = let y : Some (2 + v) ≡ None = ap value_in (plain_size z n (leb-true _ _ q)) ∙ h in cc
+        go false q = plain_over z n (leb-false _ _ q)
 
   pub not_alone : t ≡ 0 → false ≡ (not (eqb t 0) && not (eqb t 8))
   not_alone e = rw (eq-eqb _ _ e)
@@ -96,24 +72,24 @@ module _ (t p v : ℕ) where
       both : (not (eqb t 0) ≡ true) × (not (eqb t 8) ≡ true)
       both = and_inv (not (eqb t 0)) (not (eqb t 8)) (sym e ∙ q)
 
-      pub alone_over : 255 < v → 0 ≡ or_zero (size_of t p v)
-      alone_over f = other_over_number (eqb-false _ _ (not-true _ both.0)) (eqb-false _ _ (not-true _ both.1)) f
+      pub alone_over : 255 < v → None ≡ value_in (size_of t p v)
+      alone_over f = ap value_in (plain_over (eqb-false _ _ (not-true _ both.0)) (eqb-false _ _ (not-true _ both.1)) f)
 
-      pub alone_size : v ≤ 255 → 2 + v ≡ or_zero (size_of t p v)
-      alone_size f = other_size_number (eqb-false _ _ (not-true _ both.0)) (eqb-false _ _ (not-true _ both.1)) f
-
-    pub left_priv : u ≡ false → (t ≡ 0 → ⊥) → t ≡ 8
-    left_priv q z = eqb-true _ _ (not-false _ (alone z ∙ sym e ∙ q))
+      pub alone_size : v ≤ 255 → Some (2 + v) ≡ value_in (size_of t p v)
+      alone_size f = ap value_in (plain_size (eqb-false _ _ (not-true _ both.0)) (eqb-false _ _ (not-true _ both.1)) f)
 
     module _ (q : u ≡ false) (z : t ≡ 0 → ⊥) where
-      pub left_prefix_over : 254 < p → 0 ≡ or_zero (size_of t p v)
-      left_prefix_over f = prefix_over_number z (left_priv q z) f
+      left_priv : t ≡ 8
+      left_priv = eqb-true _ _ (not-false _ (alone z ∙ sym e ∙ q))
 
-      pub left_over : p ≤ 254 → 254 - p < v → 0 ≡ or_zero (size_of t p v)
-      left_over f g = priv_over_number z (left_priv q z) f g
+      pub left_prefix_over : 254 < p → None ≡ value_in (size_of t p v)
+      left_prefix_over f = ap value_in (prefix_over z left_priv f)
 
-      pub left_size : p ≤ 254 → v ≤ 254 - p → 3 + p + v ≡ or_zero (size_of t p v)
-      left_size f g = priv_size_number z (left_priv q z) f g
+      pub left_over : p ≤ 254 → 254 - p < v → None ≡ value_in (size_of t p v)
+      left_over f g = ap value_in (priv_over z left_priv f g)
+
+      pub left_size : p ≤ 254 → v ≤ 254 - p → Some (3 + p + v) ≡ value_in (size_of t p v)
+      left_size f g = ap value_in (priv_size z left_priv f g)
 
 -- what a size says
 pub record SizeKnown (t p v n : ℕ) : Type 0 where
@@ -140,23 +116,6 @@ size_known t p v n e =
         let k : v ≤ 255 = leb-true _ _ c in
         record { is = rw q (sym d); most = omega arith; least = omega arith; priv = λ f. absurd (eqb-false _ _ q f); plain = λ f. k }
 
-pub size_most : (t p v : ℕ) → or_zero (size_of t p v) ≤ 3 + p + v
-size_most t p v = go (size_of t p v) refl
-  where
-    go : (m : Answer ℕ) → size_of t p v ≡ m → or_zero m ≤ 3 + p + v
-    go (ok n) q = (size_known t p v n q).most
-    go (refused r) q = omega arith
-
--- ---- an answer's number and why
-
-pub size_why_of : (m : Answer ℕ) → ((x : ℕ) → m ≡ ok x → 0 < x) → (n : ℕ) → n ≡ or_zero m → (k : Refusal) → n ≡ 0 → k ≡ size_refusal m → refused k ≡ m
-size_why_of (ok x) f n h k z q = absurd (omega (arith, f x refl))
-size_why_of (refused r) f n h k z q = ap refused q
-
-pub not_written : (m : Answer ℕ) (bs l : List ℕ) (k : Refusal) → refused k ≡ m → (refused k, l) ≡ written m bs l
-unfolding room ◌>>=◌
-not_written m bs l k e = simp (← e)
-
 -- ---- the definition of an item's size goes by the lengths
 
 pub length_item : (t : ℕ) (p v : List ℕ) → length (item_bytes (item_given (lent t p v))) ≡ item_length t (length p) (length v)
@@ -176,11 +135,15 @@ pub item_is_lem : (t : ℕ) (p v : List ℕ) → item_size (lent t p v) ≡ size
 unfolding size_of item_size item_tests
 item_is_lem t p v = rw (length_item t p v) (then_assoc₃ _ _ _ _)
 
-pub item_number : (t : ℕ) (p v : List ℕ) (n : ℕ) → n ≡ or_zero (size_of t (length p) (length v)) → n ≡ or_zero (item_size (lent t p v))
-item_number t p v n e = e ∙ sym (ap or_zero (item_is_lem t p v))
+module _ (t : ℕ) (p v : List ℕ) where
+  pub item_value : (m : Option ℕ) → m ≡ value_in (size_of t (length p) (length v)) → m ≡ value_in (item_size (lent t p v))
+  item_value m e = e ∙ sym (ap value_in (item_is_lem t p v))
 
-pub item_why : (t : ℕ) (p v : List ℕ) (k : Refusal) → k ≡ size_refusal (size_of t (length p) (length v)) → k ≡ size_refusal (item_size (lent t p v))
-item_why t p v k e = e ∙ sym (ap size_refusal (item_is_lem t p v))
+  pub item_none : value_in (item_size (lent t p v)) ≡ None → value_in (size_of t (length p) (length v)) ≡ None
+  item_none e = sym (ap value_in (item_is_lem t p v)) ∙ e
+
+  pub item_why : (k : Refusal) → refused k ≡ size_of t (length p) (length v) → refused k ≡ item_size (lent t p v)
+  item_why k e = e ∙ sym (item_is_lem t p v)
 
 -- ---- the bytes
 
@@ -204,55 +167,24 @@ priv_laid p v l l₀ l₁ l₂ h e₀ e₁ e₂ =
     e₂ ∙ rw (s, store_store 0 (3 + length p) (8 ∷ (1 + (length p + length v)) ∷ length p ∷ p) v l (omega arith) (omega arith), m)
 
 module _ (t : ℕ) (p v : List ℕ) where
-  pub priv_fits : (space : ℕ) → ItemFits t (length p) (length v) space → t ≡ 8 → (length p + length v ≤ 254) × (3 + length p + length v ≤ space)
-  priv_fits space f e =
-      let k = size_known t (length p) (length v) _ f.passed in
-      (k.priv e, rw (eq-eqb _ _ e) at f.room)
+  module _ (space : ℕ) (f : HasRoom (item_size (lent t p v)) space) where
+    known : SizeKnown t (length p) (length v) f.n
+    known = size_known t (length p) (length v) f.n (sym (item_is_lem t p v) ∙ f.is)
 
-  pub plain_fits : (space : ℕ) → ItemFits t (length p) (length v) space → (t ≡ 8 → ⊥) → (length v ≤ 255) × (2 + length v ≤ space)
-  plain_fits space f e =
-      let k = size_known t (length p) (length v) _ f.passed in
-      (k.plain e, rw (ne_eqb _ _ e) at f.room)
+    pub priv_fits : t ≡ 8 → (length p + length v ≤ 254) × (3 + length p + length v ≤ space)
+    priv_fits e =
+        let n : f.n ≡ 3 + length p + length v = known.is ∙ rw (eq-eqb _ _ e) in
+        (known.priv e, omega (arith, f.room))
 
-  pub priv_done : (l l₁ : List ℕ) → t ≡ 8 → l₁ ≡ store 0 (item_bytes (priv p v)) l → (3 + length p + length v ≡ item_length t (length p) (length v)) × (l₁ ≡ store 0 (item_bytes (item_given (lent t p v))) l)
-  priv_done l l₁ e h = (rw (eq-eqb _ _ e), rw (eq-eqb _ _ e) h)
+    pub plain_fits : (t ≡ 8 → ⊥) → (length v ≤ 255) × (2 + length v ≤ space)
+    plain_fits e =
+        let n : f.n ≡ 2 + length v = known.is ∙ rw (ne_eqb _ _ e) in
+        (known.plain e, omega (arith, f.room))
 
-  pub plain_done : (l l₁ : List ℕ) → (t ≡ 8 → ⊥) → l₁ ≡ store 0 (item_bytes (item t v)) l → (2 + length v ≡ item_length t (length p) (length v)) × (l₁ ≡ store 0 (item_bytes (item_given (lent t p v))) l)
-  plain_done l l₁ e h = (rw (ne_eqb _ _ e), rw (ne_eqb _ _ e) h)
+  pub priv_done : (l l₁ : List ℕ) → t ≡ 8 → l₁ ≡ store 0 (item_bytes (priv p v)) l → l₁ ≡ store 0 (item_bytes (item_given (lent t p v))) l
+  priv_done l l₁ e h = rw (eq-eqb _ _ e) h
 
-  -- ---- a lone item
+  pub plain_done : (l l₁ : List ℕ) → (t ≡ 8 → ⊥) → l₁ ≡ store 0 (item_bytes (item t v)) l → l₁ ≡ store 0 (item_bytes (item_given (lent t p v))) l
+  plain_done l l₁ e h = rw (ne_eqb _ _ e) h
 
-  item_some : (n : ℕ) → item_size (lent t p v) ≡ ok n → 0 < n
-  item_some n e = let k = size_known t (length p) (length v) n (sym (item_is_lem t p v) ∙ e) in omega (arith, k.least)
-
-  module _ (n : ℕ) (h : n ≡ or_zero (item_size (lent t p v))) where
-    pub item_refused : (k : Refusal) → n ≡ 0 → k ≡ size_refusal (item_size (lent t p v)) → refused k ≡ item_size (lent t p v)
-    item_refused k z q = size_why_of (item_size (lent t p v)) item_some n h k z q
-
-    pub item_not_written : (k : Refusal) (l : List ℕ) → n ≡ 0 → k ≡ size_refusal (item_size (lent t p v)) → (refused k, l) ≡ write_item (lent t p v) l
-    unfolding write_item
-    item_not_written k l z q = not_written (item_size (lent t p v)) _ l k (item_refused k z q)
-
-    module _ (z : n ≡ 0 → ⊥) where
-      pub item_sized : ok n ≡ item_size (lent t p v)
-      item_sized = sym (number_came (item_size (lent t p v)) n h z)
-
-      pub item_fits : (space : ℕ) → n ≤ space → ItemFits t (length p) (length v) space
-      item_fits space f =
-          let e : size_of t (length p) (length v) ≡ ok n = sym (item_is_lem t p v) ∙ sym item_sized in
-          let k = size_known t (length p) (length v) n e in
-          record { passed = e ∙ ap (λ (x : ℕ). ok x) k.is; room = rw k.is at f }
-
-      pub item_short : (l : List ℕ) → length l < n → (refused (refusal 10 n 0), l) ≡ write_item (lent t p v) l
-      unfolding write_item
-      item_short l f = short_written (Ok n) _ _ l item_sized n refl f
-
-      pub item_done : (l l₁ : List ℕ) → n ≤ length l → l₁ ≡ store 0 (item_bytes (item_given (lent t p v))) l → (ok n, l₁) ≡ write_item (lent t p v) l
-      unfolding write_item
-      item_done l l₁ f e = done_written (Ok n) _ _ l item_sized n l₁ refl f e
-
--- the lists lent again
-pub item_why_lent : (t : ℕ) (p v : List ℕ) (k : Refusal) → k ≡ size_refusal (item_size (lent t (take (length p - 0) p) (take (length v - 0) v))) → k ≡ size_refusal (item_size (lent t p v))
-item_why_lent t p v k e = rw (lent_again p, lent_again v) at e
-
-pub ruleset items = (item_why_lent, writer, type_zero_number, type_zero_why, prefix_over_why, priv_over_why, priv_size_why, other_over_why, other_size_why, not_alone, alone, alone_over, alone_size, left_prefix_over, left_over, left_size, item_number, item_why, plain_laid, priv_head_laid, priv_text_laid, priv_laid, priv_fits, plain_fits, priv_done, plain_done, item_refused, item_not_written, item_sized, item_fits, item_short, item_done)
+pub ruleset items = (writer, values, type_zero, type_zero_none, prefix_over, priv_why, plain_why, not_alone, alone, alone_over, alone_size, left_prefix_over, left_over, left_size, item_value, item_none, item_why, plain_laid, priv_head_laid, priv_text_laid, priv_laid, priv_fits, plain_fits, priv_done, plain_done)

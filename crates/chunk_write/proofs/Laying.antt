@@ -1,23 +1,21 @@
 -- The cases of items and chunks laid one after the other, and of a lone chunk, each from what the code has tested or called.
-use Rattle.std.specs.Prelude.{Ok}
-use Rattle.rfc3550.proofs.Prelude.{ℕ, suc, ◌+◌, ◌-◌, ◌*◌, ◌%◌, ◌<◌, ◌≤◌, ◌^◌, ◌≡◌, refl, sym, ap, ◌∙◌, Bool, true, false, List, [], ◌∷◌, ◌++◌, append-nil, add-zero, add_assoc, zero-add, add-sub_cancel_left, add-one, arith, eq-eqb, ne_eqb, eqb-true, eqb-false, length, take, drop, get_or, replicate, length-append, length-take, length-drop, length-replicate, drop_of_length-le, drop-cons, drop-drop, get_or-drop, get_or-take, take_all, take-take, length-take-le, leb, eqb}
+use Rattle.std.specs.Prelude.{Option, None, Some}
+use Rattle.rfc3550.proofs.Prelude.{rules, ℕ, suc, ◌+◌, ◌-◌, ◌*◌, ◌%◌, ◌<◌, ◌≤◌, ◌^◌, ◌≡◌, refl, sym, ap, ◌∙◌, Bool, true, false, List, [], ◌∷◌, ◌++◌, append-nil, add-zero, add_assoc, zero-add, add-sub_cancel_left, add-one, arith, eq-eqb, ne_eqb, eqb-true, eqb-false, length, take, drop, get_or, replicate, length-append, length-take, length-drop, length-replicate, drop_of_length-le, drop-cons, drop-drop, get_or-drop, get_or-take, take_all, take-take, length-take-le, leb, eqb}
 use Rattle.rfc3550.specs.Answer.{Refusal, Answer, ok, refused, refusal, need, ◌>>◌, pick}
 use Rattle.rfc3550.specs.Bytes.{be, sum, store}
 use Rattle.rfc3550.specs.Packet.{fill, item, priv, item_bytes, items_bytes, chunk_bytes, chunks_bytes}
-use Rattle.rfc3550.specs.Write.{LentItem, lent_items, lent_chunks, item_given, items_given, chunk_given, chunks_given, item_tests, items_tests, items_agree, item_size, chunk_size, write_chunk}
+use Rattle.rfc3550.specs.Write.{LentItem, lent_items, lent_chunks, item_given, items_given, chunk_given, chunks_given, item_tests, items_tests, items_agree, item_size, chunk_size}
 use Rattle.rfc3550.proofs.Answers.{need_inv, then_inv, ok_injective}
 use Rattle.rfc3550.proofs.Bytes.{length_be, length_store}
-use Rattle.utils.specs.Error.{or_zero}
-use Rattle.utils.specs.Writer.{size_refusal}
-use Rattle.utils.proofs.Parts.{lent_again, drop_take}
-use Rattle.utils.proofs.Values.{number_came}
+use Rattle.utils.specs.Error.{value_in}
+use Rattle.utils.proofs.Parts.{drop_take}
 use Rattle.utils.proofs.WriterStores.{store_nil, store_store, store_part}
-use Rattle.utils.proofs.WriterPackets.{short_written, done_written, parts_laid}
-use Rattle.chunk_write.specs.Sizes.{lent, item_length, size_of, SameLengths, between, items_refusal, boundary_above, chunks_from, at_most, chunks_end, ChunksMeasured}
+use Rattle.utils.proofs.WriterPackets.{parts_laid}
+use Rattle.chunk_write.specs.Sizes.{item_length, size_of, between, too_large, items_refused, boundary_above, chunks_from, at_most, chunks_end, ChunksMeasured, HasRoom}
 use Rattle.chunk_write.specs.Lists.{Within, PartFits, lent_at, PartLaid, laid_items, ItemsFit, ItemsLaid, laid_chunk, ChunkFits, ChunkLaid, ChunkFitsAt, ChunkLaidAt, laid_chunks, ChunksFit}
 use Rattle.chunk_write.specs.declared.chunks.LaidEnd.{LaidEnd}
-use Rattle.chunk_write.proofs.Items.{SizeKnown, size_known, item_is_lem, length_item, size_why_of, not_written}
-use Rattle.chunk_write.proofs.Sizes.{ends, sum_next, sum_split, agreed, items_take, items_drop, tests_split, length_chunk_of, chunks_are, refusal_of, end_known, end_none}
+use Rattle.chunk_write.proofs.Items.{SizeKnown, size_known, item_is_lem, length_item}
+use Rattle.chunk_write.proofs.Sizes.{agreed_listed, sum_next, sum_split, agreed, items_take, items_drop, tests_split, length_chunk_of, chunks_are, refusal_of, end_agreed, end_disagreed}
 
 -- ---- one item among others
 
@@ -279,19 +277,17 @@ module _ (ts ps vs bs : List ℕ) (i j from at : ℕ) (l : List ℕ) (f : ChunkF
   length_left : length (take (length l - at) (drop at l)) ≡ length l - at
   length_left = length-take-le (length l - at) (drop at l) (rw length-drop (omega arith))
 
-  -- the lists are lent again
-  pub chunk_at_fits : Within (take (length ts - 0) ts) (take (length ps - 0) ps) (take (length vs - 0) vs) (take (length bs - 0) bs) i j from
-      × ChunkFits (between i j (take (length ts - 0) ts)) (between i j (take (length ps - 0) ps)) (between i j (take (length vs - 0) vs)) (drop from (take (length bs - 0) bs)) (length (take (length l - at) (drop at l)))
-  chunk_at_fits = rw (lent_again ts, lent_again ps, lent_again vs, lent_again bs, length_left) (record { order = f.order; within = f.within; lists = f.listed; bytes = f.bytes }, f.fits)
+  pub chunk_at_fits : Within ts ps vs bs i j from
+      × ChunkFits (between i j ts) (between i j ps) (between i j vs) (drop from bs) (length (take (length l - at) (drop at l)))
+  chunk_at_fits = rw length_left (record { order = f.order; within = f.within; lists = f.listed; bytes = f.bytes }, f.fits)
 
   pub chunk_at_start : at ≤ length l
   chunk_at_start = f.start
 
   pub chunk_at_laid : (ssrc : ℕ) (r : LaidEnd) (last : List ℕ)
-      → ChunkLaid ssrc from (between i j (take (length ts - 0) ts)) (between i j (take (length ps - 0) ps)) (between i j (take (length vs - 0) vs)) (drop from (take (length bs - 0) bs)) (take (length l - at) (drop at l)) r last
+      → ChunkLaid ssrc from (between i j ts) (between i j ps) (between i j vs) (drop from bs) (take (length l - at) (drop at l)) r last
       → ChunkLaidAt ssrc ts ps vs bs i j from at l r (take at l ++ (last ++ drop (length l - at) (drop at l)))
-  chunk_at_laid ssrc r last lent =
-      let y : ChunkLaid ssrc from (between i j ts) (between i j ps) (between i j vs) (drop from bs) (take (length l - at) (drop at l)) r last = rw (lent_again ts, lent_again ps, lent_again vs, lent_again bs) at lent in
+  chunk_at_laid ssrc r last y =
       let z : r.end ≡ length (laid_chunk ssrc (take (j - i) (drop i ts)) (take (j - i) (drop i ps)) (take (j - i) (drop i vs)) (drop from bs)) = y.size in
       let b : last ≡ store 0 (laid_chunk ssrc (take (j - i) (drop i ts)) (take (j - i) (drop i ps)) (take (j - i) (drop i vs)) (drop from bs)) (take (length l - at) (drop at l)) = y.bytes in
       let n = length_chunk_of ssrc (lent_items (take (j - i) (drop i ts)) (take (j - i) (drop i ps)) (take (j - i) (drop i vs)) (drop from bs)) in
@@ -417,12 +413,12 @@ module _ (o : ℕ) (ss cs ts ps vs bs l : List ℕ) (f : ChunksFit o ss cs ts ps
           }
 
     module _ (h : k < length ss) where
-      pub chunking_asks : Within (take (length ts - 0) ts) (take (length ps - 0) ps) (take (length vs - 0) vs) (take (length bs - 0) bs) i (i + get_or cs k 0) from
-          × ChunkFits (between i (i + get_or cs k 0) (take (length ts - 0) ts)) (between i (i + get_or cs k 0) (take (length ps - 0) ps)) (between i (i + get_or cs k 0) (take (length vs - 0) vs)) (drop from (take (length bs - 0) bs)) (length (take (length l₁ - at) (drop at l₁)))
+      pub chunking_asks : Within ts ps vs bs i (i + get_or cs k 0) from
+          × ChunkFits (between i (i + get_or cs k 0) ts) (between i (i + get_or cs k 0) ps) (between i (i + get_or cs k 0) vs) (drop from bs) (length (take (length l₁ - at) (drop at l₁)))
       chunking_asks = chunk_at_fits ts ps vs bs i (i + get_or cs k 0) from at l₁ (chunking_fits h (get_or cs k 0) refl)
 
       pub chunking_place : (r : LaidEnd) (last : List ℕ)
-          → ChunkLaid (get_or ss k 0) from (between i (i + get_or cs k 0) (take (length ts - 0) ts)) (between i (i + get_or cs k 0) (take (length ps - 0) ps)) (between i (i + get_or cs k 0) (take (length vs - 0) vs)) (drop from (take (length bs - 0) bs)) (take (length l₁ - at) (drop at l₁)) r last
+          → ChunkLaid (get_or ss k 0) from (between i (i + get_or cs k 0) ts) (between i (i + get_or cs k 0) ps) (between i (i + get_or cs k 0) vs) (drop from bs) (take (length l₁ - at) (drop at l₁)) r last
           → length l₁ < 2 ^ 64 → at + r.end < 2 ^ 64
       chunking_place r last y n = let z = (chunk_at_laid ts ps vs bs i (i + get_or cs k 0) from at l₁ (chunking_fits h (get_or cs k 0) refl) (get_or ss k 0) r last y).ends in omega arith
 
@@ -453,12 +449,12 @@ module _ (ssrc : ℕ) (ts ps vs bs : List ℕ) where
   unfolding chunk_size need ◌>>◌
   chunk_agree q = simp q
 
-  pub lone_prefixes : (length ts ≡ length ps → ⊥) → 0 ≡ or_zero (chunk_size ssrc ts ps vs bs)
-  lone_prefixes h = ap or_zero (chunk_disagree (simp (ne_eqb _ _ h)))
+  pub lone_prefixes : (length ts ≡ length ps → ⊥) → None ≡ value_in (chunk_size ssrc ts ps vs bs)
+  lone_prefixes h = ap value_in (chunk_disagree (simp (ne_eqb _ _ h)))
 
   module _ (ep : length ts ≡ length ps) where
-    pub lone_values : (length ts ≡ length vs → ⊥) → 0 ≡ or_zero (chunk_size ssrc ts ps vs bs)
-    lone_values h = ap or_zero (chunk_disagree (simp (eq-eqb _ _ ep, ne_eqb _ _ h)))
+    pub lone_values : (length ts ≡ length vs → ⊥) → None ≡ value_in (chunk_size ssrc ts ps vs bs)
+    lone_values h = ap value_in (chunk_disagree (simp (eq-eqb _ _ ep, ne_eqb _ _ h)))
 
     module _ (ev : length ts ≡ length vs) where
       pub lone_measured : length bs + 3 * length ts + 8 < 2 ^ 64 → length ts * 8 < 2 ^ 64 → ChunksMeasured 0 (length ts ∷ []) ts ps vs (length bs)
@@ -468,52 +464,45 @@ module _ (ssrc : ℕ) (ts ps vs bs : List ℕ) where
       unfolding sum
       ends_lone q = rw (zero-add, only ssrc ts ps vs bs) at (chunks_are 0 (ssrc ∷ []) (length ts ∷ []) ts ps vs bs refl refl (omega arith) (sym ep) (sym ev) (omega arith))
 
-      size_lone : (n : ℕ) → n ≡ chunks_end 0 (length bs) (length ts ∷ []) ts ps vs → pick (leb n 262140) n 0 ≡ or_zero (chunk_size ssrc ts ps vs bs)
+      size_lone : at_most 262140 (chunks_end 0 (length bs) (length ts ∷ []) ts ps vs) ≡ value_in (chunk_size ssrc ts ps vs bs)
       unfolding sum need ◌>>◌
-      size_lone n h = go (eqb (sum ps + sum vs) (length bs)) refl
+      size_lone = go (eqb (sum ps + sum vs) (length bs)) refl
         where
-          d : SameLengths ts ps vs
-          d = record { prefixes = sym ep; values = sym ev }
-
-          zero_is : (m : ℕ) → m ≡ 0 → pick (leb m 262140) m 0 ≡ 0
-          zero_is m e = rw e
-
-          tested : (m : Answer (Unit {0})) (k : ℕ) → n ≡ or_zero (m >> ok k) → pick (leb n 262140) n 0 ≡ or_zero (m >> (need (leb k 262140) 22 0 0 >> ok k))
-          tested (refused r) k e = zero_is n e
-          tested (ok u) k e = rw e (last (leb k 262140))
+          tested : (m : Answer (Unit {0})) (k : ℕ) → at_most 262140 (value_in (m >> ok k)) ≡ value_in (m >> (need (leb k 262140) 22 0 0 >> ok k))
+          tested (refused r) k = refl
+          tested (ok u) k = last (leb k 262140)
             where
-              last : (b : Bool) → pick b k 0 ≡ or_zero (need b 22 0 0 >> ok k)
+              last : (b : Bool) → pick b (Some k) None ≡ value_in (need b 22 0 0 >> ok k)
               last true = refl
               last false = refl
 
-          go : (x : Bool) → eqb (sum ps + sum vs) (length bs) ≡ x → pick (leb n 262140) n 0 ≡ or_zero (chunk_size ssrc ts ps vs bs)
-          go true q = tested (items_tests (lent_items ts ps vs bs)) (length (laid_chunk ssrc ts ps vs bs)) (end_none 0 (length bs) (length ts ∷ []) ts ps vs d n h (omega arith) (eqb-true _ _ q) ∙ ap or_zero (ends_lone (eqb-true _ _ q))) ∙ sym (ap or_zero (chunk_agree (simp (eq-eqb _ _ ep, eq-eqb _ _ ev, q))))
-          go false q = none (eqb-false _ _ q) ∙ ap or_zero (chunk_disagree (simp (eq-eqb _ _ ep, eq-eqb _ _ ev, q)))
-            where
-              none : (sum ps + sum vs ≡ length bs → ⊥) → pick (leb n 262140) n 0 ≡ 0
-              none g = zero (eqb n 0) refl
-                where
-                  zero : (b : Bool) → eqb n 0 ≡ b → pick (leb n 262140) n 0 ≡ 0
-                  zero true e = zero_is n (eqb-true _ _ e)
-                  zero false e = absurd (g (end_known 0 (length bs) (length ts ∷ []) ts ps vs d n h (eqb-false _ _ e)).bytes)
+          go : (x : Bool) → eqb (sum ps + sum vs) (length bs) ≡ x → at_most 262140 (chunks_end 0 (length bs) (length ts ∷ []) ts ps vs) ≡ value_in (chunk_size ssrc ts ps vs bs)
+          go true q =
+              let c : chunks_end 0 (length bs) (length ts ∷ []) ts ps vs ≡ value_in (items_tests (lent_items ts ps vs bs) >> ok (length (laid_chunk ssrc ts ps vs bs))) =
+              end_agreed 0 (length bs) (length ts ∷ []) ts ps vs (omega arith) (eqb-true _ _ q) ∙ ap value_in (ends_lone (eqb-true _ _ q)) in
+              ap (at_most 262140) c ∙ tested (items_tests (lent_items ts ps vs bs)) (length (laid_chunk ssrc ts ps vs bs)) ∙ sym (ap value_in (chunk_agree (simp (eq-eqb _ _ ep, eq-eqb _ _ ev, q))))
+          go false q =
+              ap (at_most 262140) (end_disagreed 0 (length bs) (length ts ∷ []) ts ps vs q) ∙ ap value_in (chunk_disagree (simp (eq-eqb _ _ ep, eq-eqb _ _ ev, q)))
 
-      pub lone_size : (n : ℕ) → n ≡ at_most 262140 (chunks_end 0 (length bs) (length ts ∷ []) ts ps vs) → n ≡ or_zero (chunk_size ssrc ts ps vs bs)
-      lone_size n e = e ∙ size_lone _ refl
+      pub lone_size : (o : Option ℕ) → o ≡ at_most 262140 (chunks_end 0 (length bs) (length ts ∷ []) ts ps vs) → o ≡ value_in (chunk_size ssrc ts ps vs bs)
+      lone_size o e = e ∙ size_lone
 
   module _ (t : Bool) (e : t ≡ items_agree ts ps vs bs) where
-    pub lone_disagree : t ≡ false → refusal 24 0 0 ≡ size_refusal (chunk_size ssrc ts ps vs bs)
-    lone_disagree q = ap size_refusal (chunk_disagree (sym e ∙ q))
+    pub lone_disagree : t ≡ false → refused (refusal 24 0 0) ≡ chunk_size ssrc ts ps vs bs
+    lone_disagree q = chunk_disagree (sym e ∙ q)
 
-    pub lone_why : (k : Refusal) → t ≡ true → k ≡ items_refusal ts ps vs → k ≡ size_refusal (chunk_size ssrc ts ps vs bs)
+    pub lone_why : (k : Refusal) → t ≡ true → value_in (chunk_size ssrc ts ps vs bs) ≡ None → refused k ≡ items_refused ts ps vs → refused k ≡ chunk_size ssrc ts ps vs bs
     unfolding need ◌>>◌
-    lone_why k q h =
+    lone_why k q z h =
         let a = agreed ts ps vs bs t e q in
-        h ∙ refusal_of ts ps vs bs 0 a.prefixes a.values (omega (arith, a.bytes)) ∙ go (items_tests (lent_items ts ps vs bs)) (leb (length (laid_chunk ssrc ts ps vs bs)) 262140) ∙ sym (ap size_refusal (chunk_agree (sym e ∙ q)))
+        let s = chunk_agree (sym e ∙ q) in
+        go (items_tests (lent_items ts ps vs bs)) (leb (length (laid_chunk ssrc ts ps vs bs)) 262140) (h ∙ refusal_of ts ps vs bs a.prefixes a.values (omega (arith, a.bytes))) (sym (ap value_in s) ∙ z) ∙ sym s
       where
-        go : (m : Answer (Unit {0})) (b : Bool) → size_refusal (m >> ok 0) ≡ size_refusal (m >> (need b 22 0 0 >> ok (length (laid_chunk ssrc ts ps vs bs))))
-        go (refused r) b = refl
-        go (ok u) true = refl
-        go (ok u) false = refl
+        go : (m : Answer (Unit {0})) (b : Bool) → refused k ≡ (m >> too_large) → value_in (m >> (need b 22 0 0 >> ok (length (laid_chunk ssrc ts ps vs bs)))) ≡ None
+            → refused k ≡ (m >> (need b 22 0 0 >> ok (length (laid_chunk ssrc ts ps vs bs))))
+        go (refused r) b f y = f
+        go (ok u) true f y = cc
+        go (ok u) false f y = f
 
   lone_known : (n : ℕ) → chunk_size ssrc ts ps vs bs ≡ ok n → (n ≡ length (laid_chunk ssrc ts ps vs bs)) × ((space : ℕ) → n ≤ space → ChunkFits ts ps vs bs space)
   unfolding chunk_size
@@ -526,41 +515,24 @@ module _ (ssrc : ℕ) (ts ps vs bs : List ℕ) where
       let k = length_chunk_of ssrc (lent_items ts ps vs bs) in
       (sym m, λ space f. record { listed = record { prefixes = y.prefixes; values = y.values }; bytes = omega (arith, y.bytes); tests = b.0; room = omega arith })
 
-  lone_some : (n : ℕ) → chunk_size ssrc ts ps vs bs ≡ ok n → 0 < n
-  lone_some n e = let k = (lone_known n e).0 in omega (arith, length_chunk_of ssrc (lent_items ts ps vs bs))
+  lone_fits : (space : ℕ) → HasRoom (chunk_size ssrc ts ps vs bs) space → ChunkFits ts ps vs bs space
+  lone_fits space f = (lone_known f.n f.is).1 space f.room
 
-  module _ (n : ℕ) (h : n ≡ or_zero (chunk_size ssrc ts ps vs bs)) where
-    pub lone_refused : (k : Refusal) → n ≡ 0 → k ≡ size_refusal (chunk_size ssrc ts ps vs bs) → refused k ≡ chunk_size ssrc ts ps vs bs
-    lone_refused k z q = size_why_of (chunk_size ssrc ts ps vs bs) lone_some n h k z q
-
-    pub lone_not_written : (k : Refusal) (l : List ℕ) → n ≡ 0 → k ≡ size_refusal (chunk_size ssrc ts ps vs bs) → (refused k, l) ≡ write_chunk ssrc ts ps vs bs l
-    unfolding write_chunk
-    lone_not_written k l z q = not_written (chunk_size ssrc ts ps vs bs) _ l k (lone_refused k z q)
-
-    module _ (z : n ≡ 0 → ⊥) where
-      pub lone_sized : ok n ≡ chunk_size ssrc ts ps vs bs
-      lone_sized = sym (number_came (chunk_size ssrc ts ps vs bs) n h z)
-
-      pub lone_fits : (space : ℕ) → n ≤ space → ChunkFits ts ps vs bs space
-      lone_fits space f = (lone_known n (sym lone_sized)).1 space f
-
-      pub lone_short : (l : List ℕ) → length l < n → (refused (refusal 10 n 0), l) ≡ write_chunk ssrc ts ps vs bs l
-      unfolding write_chunk
-      lone_short l f = short_written (Ok n) _ _ l lone_sized n refl f
-
-      pub lone_done : (l l₁ : List ℕ) → n ≤ length l → l₁ ≡ store 0 (laid_chunk ssrc ts ps vs bs) l → (ok n, l₁) ≡ write_chunk ssrc ts ps vs bs l
-      unfolding write_chunk
-      lone_done l l₁ f e = done_written (Ok n) _ _ l lone_sized n l₁ refl f e
-
-  -- the lists lent again
-  pub lone_why_lent : (k : Refusal) → k ≡ size_refusal (chunk_size ssrc (take (length ts - 0) ts) (take (length ps - 0) ps) (take (length vs - 0) vs) (take (length bs - 0) bs)) → k ≡ size_refusal (chunk_size ssrc ts ps vs bs)
-  lone_why_lent k e = rw (lent_again ts, lent_again ps, lent_again vs, lent_again bs) at e
-
-  pub lone_chunks : (space : ℕ) → ChunkFits ts ps vs bs space → ChunksFit 0 (ssrc ∷ []) (length ts ∷ []) ts ps vs bs space
+  pub lone_chunks : (space : ℕ) → HasRoom (chunk_size ssrc ts ps vs bs) space → ChunksFit 0 (ssrc ∷ []) (length ts ∷ []) ts ps vs bs space
   unfolding sum
-  lone_chunks space f = record { counts = refl; items = omega arith; listed = f.listed; bytes = f.bytes; tests = f.tests; room = rw (only ssrc ts ps vs bs) (omega (arith, f.room, length_chunk_of ssrc (lent_items ts ps vs bs))) }
+  lone_chunks space h =
+      let f = lone_fits space h in
+      record { counts = refl; items = omega arith; listed = f.listed; bytes = f.bytes; tests = f.tests; room = rw (only ssrc ts ps vs bs) (omega (arith, f.room, length_chunk_of ssrc (lent_items ts ps vs bs))) }
 
   pub lone_laid : (l l₁ : List ℕ) → l₁ ≡ store 0 (laid_chunks (ssrc ∷ []) (length ts ∷ []) ts ps vs bs) l → l₁ ≡ store 0 (laid_chunk ssrc ts ps vs bs) l
   lone_laid l l₁ e = rw (only ssrc ts ps vs bs) at e
 
-pub ruleset chunks = (ends, part_priv_fits, part_priv_laid, part_other_fits, part_other_laid, range_start, range_fits, range_again, range_done, chunk_items, chunk_start, chunk_boundary, chunk_fill, chunk_laid, chunk_at_start, chunk_at_laid, chunking_start, chunking_asks, chunking_place, chunking_fits, chunking_add, chunking_again, chunking_done, lone_prefixes, lone_values, lone_measured, lone_size, lone_disagree, lone_why, lone_why_lent, lone_refused, lone_not_written, lone_sized, lone_fits, lone_short, lone_done, lone_chunks, lone_laid)
+pub ruleset parts = (part_priv_fits, part_priv_laid, part_other_fits, part_other_laid)
+
+pub ruleset ranges = (range_start, range_fits, range_again, range_done)
+
+pub ruleset chunks = (chunk_items, chunk_start, chunk_boundary, chunk_fill, chunk_laid)
+
+pub ruleset chunking = (rules, chunk_at_start, chunk_at_laid, chunking_start, chunking_asks, chunking_place, chunking_fits, chunking_add, chunking_again, chunking_done)
+
+pub ruleset lone = (lone_prefixes, lone_values, lone_measured, lone_size, lone_disagree, lone_why, lone_chunks, lone_laid, agreed_listed)

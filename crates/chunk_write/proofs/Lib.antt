@@ -1,3 +1,4 @@
 pub mod Items
 pub mod Sizes
 pub mod Laying
+pub mod Lone

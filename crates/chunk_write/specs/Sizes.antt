@@ -1,10 +1,11 @@
 -- The sizes of items and chunks from their lengths alone.
-use Rattle.std.specs.Prelude.{ℕ, ◌+◌, ◌-◌, ◌*◌, ◌<◌, ◌≤◌, ◌^◌, ◌≡◌, ◌||◌, not, List, [], ◌∷◌, length, take, drop, get_or, leb, ltb, eqb}
-use Rattle.rfc3550.specs.Answer.{Refusal, refusal, Answer, ok, need, ◌>>◌, ◌>>=◌, map_ok, pick}
+use Rattle.std.specs.Prelude.{ℕ, ◌+◌, ◌-◌, ◌*◌, ◌<◌, ◌≤◌, ◌^◌, ◌≡◌, ◌||◌, ◌&&◌, not, Option, None, Some, List, [], ◌∷◌, length, take, drop, get_or, leb, eqb}
+use Rattle.std.specs.Option.{option_and_then}
+use Rattle.rfc3550.specs.Answer.{refusal, Answer, ok, refused, need, ◌>>◌, ◌>>=◌, map_ok, pick}
+use Rattle.rfc3550.specs.Bytes.{sum}
 use Rattle.rfc3550.specs.Write.{LentItem}
 use Rattle.rfc3550.specs.Packet.{fill}
-use Rattle.utils.specs.Error.{or_zero}
-use Rattle.utils.specs.Writer.{size_refusal}
+use Rattle.utils.specs.Error.{value_in}
 use Rattle.chunk_write.specs.declared.chunks.ItemsEnd.{ItemsEnd}
 
 abbrev pub lent : ℕ → List ℕ → List ℕ → LentItem
@@ -26,9 +27,11 @@ size_of t p v = do
   need (leb v (pick (eqb t 8) (254 - p) 255)) 20 v (pick (eqb t 8) (254 - p) 255)
   ok (item_length t p v)
 
-pub record ItemFits (t p v space : ℕ) : Type 0 where
-  pub passed : size_of t p v ≡ ok (item_length t p v)
-  pub room : item_length t p v ≤ space
+-- there is a size, and room for so much
+pub record HasRoom (size : Answer ℕ) (space : ℕ) : Type 0 where
+  pub n : ℕ
+  pub is : size ≡ ok n
+  pub room : n ≤ space
 
 pub record SameLengths (ts ps vs : List ℕ) : Type 0 where
   pub prefixes : length ps ≡ length ts
@@ -38,10 +41,15 @@ pub record SameLengths (ts ps vs : List ℕ) : Type 0 where
 abbrev pub between : ℕ → ℕ → List ℕ → List ℕ
 between i j xs = take (j - i) (drop i xs)
 
--- why the first refused item is refused; 22 where none is
-unfoldable pub items_refusal : List ℕ → List ℕ → List ℕ → Refusal
-items_refusal [] ps vs = refusal 22 0 0
-items_refusal (t ∷ ts) ps vs = pick (eqb (or_zero (size_of t (get_or ps 0 0) (get_or vs 0 0))) 0) (size_refusal (size_of t (get_or ps 0 0) (get_or vs 0 0))) (items_refusal ts (drop 1 ps) (drop 1 vs))
+abbrev pub too_large : Answer ℕ
+too_large = refused (refusal 22 0 0)
+
+-- the refusal of the first refused item, or else 22
+unfoldable pub items_refused : List ℕ → List ℕ → List ℕ → Answer ℕ
+items_refused [] ps vs = too_large
+items_refused (t ∷ ts) ps vs = do
+  n ← size_of t (get_or ps 0 0) (get_or vs 0 0)
+  items_refused ts (drop 1 ps) (drop 1 vs)
 
 -- the sizes of the items of the lent lists, added to n
 unfoldable pub sizes_of : ℕ → List ℕ → List ℕ → List ℕ → Answer ℕ
@@ -61,39 +69,27 @@ chunks_from at (c ∷ cs) ts ps vs = do
   end ← map_ok boundary_above (sizes_of (at + 4) (take c ts) (take c ps) (take c vs))
   chunks_from end cs (drop c ts) (drop c ps) (drop c vs)
 
--- ---- in numbers, the bytes counted along
+-- the index n after items, and how many bytes are left
+abbrev pub ends_at : ℕ → ℕ → ItemsEnd
+ends_at left n = record { end = n; left = left }
 
-abbrev pub nowhere : ItemsEnd
-nowhere = record { end = 0; left = 0 }
+-- the end of items whose bytes are among those left
+unfoldable pub items_end : ℕ → ℕ → List ℕ → List ℕ → List ℕ → Option ItemsEnd
+items_end at left ts ps vs = pick (leb (sum ps + sum vs) left) (value_in (map_ok (ends_at (left - (sum ps + sum vs))) (sizes_of at ts ps vs))) None
 
-unfoldable pub items_end : ℕ → ℕ → List ℕ → List ℕ → List ℕ → ItemsEnd
-items_end at left [] ps vs = record { end = at; left = left }
-items_end at left (t ∷ ts) ps vs =
-    pick (eqb (or_zero (size_of t (get_or ps 0 0) (get_or vs 0 0))) 0) nowhere
-    (pick (ltb left (get_or ps 0 0)) nowhere
-    (pick (ltb (left - get_or ps 0 0) (get_or vs 0 0)) nowhere
-    (items_end (at + or_zero (size_of t (get_or ps 0 0) (get_or vs 0 0))) (left - get_or ps 0 0 - get_or vs 0 0) ts (drop 1 ps) (drop 1 vs))))
+-- the end of chunks whose counts sum to the items, and whose lengths to the bytes
+unfoldable pub chunks_end : ℕ → ℕ → List ℕ → List ℕ → List ℕ → List ℕ → Option ℕ
+chunks_end at bytes cs ts ps vs = pick (eqb (sum cs) (length ts) && eqb (sum ps + sum vs) bytes) (value_in (chunks_from at cs ts ps vs)) None
 
-unfoldable pub chunks_end : ℕ → ℕ → List ℕ → List ℕ → List ℕ → List ℕ → ℕ
-chunks_end at left [] ts ps vs = pick (eqb 0 (length ts)) (pick (eqb 0 left) at 0) 0
-chunks_end at left (c ∷ cs) ts ps vs =
-    pick (ltb (length ts) c) 0
-    (pick (eqb (items_end (at + 4) left (take c ts) (take c ps) (take c vs)).end 0) 0
-    (chunks_end (boundary_above (items_end (at + 4) left (take c ts) (take c ps) (take c vs)).end) (items_end (at + 4) left (take c ts) (take c ps) (take c vs)).left cs (drop c ts) (drop c ps) (drop c vs)))
+-- up to a limit
+abbrev pub at_most : ℕ → Option ℕ → Option ℕ
+at_most limit = option_and_then (λ n. pick (leb n limit) (Some n) None)
 
--- up to a limit, and else 0
-abbrev pub at_most : ℕ → ℕ → ℕ
-at_most limit n = pick (leb n limit) n 0
-
--- ---- what the code is given and gives
+-- ---- what the code is given
 
 pub record ItemsMeasured (at left : ℕ) (ts ps vs : List ℕ) : Type 0 where
   pub listed : SameLengths ts ps vs
   pub room : at + left + 3 * length ts < 2 ^ 64
-
-pub record ItemsEnded (at left : ℕ) (ts ps vs : List ℕ) (r : ItemsEnd) : Type 0 where
-  pub is : r ≡ items_end at left ts ps vs
-  pub most : r.end + r.left ≤ at + left + 3 * length ts
 
 pub record ChunksMeasured (at : ℕ) (cs ts ps vs : List ℕ) (left : ℕ) : Type 0 where
   pub listed : SameLengths ts ps vs

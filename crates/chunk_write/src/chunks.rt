@@ -1,11 +1,11 @@
 // The chunks of lent lists, one after the other: one SSRC and one item count for each chunk; for each item a type, a prefix length and a
 // value length; one run of bytes, item by item, prefix then value.
-ghost use Rattle.std.specs.Prelude.{◌≡◌, ◌+◌, ◌-◌, ◌%◌, ◌<◌, ◌≤◌, eqb, length, drop, MatchOption};
+ghost use Rattle.std.specs.Prelude.{◌≡◌, ◌+◌, ◌-◌, ◌<◌, ◌≤◌, eqb, length, MatchOption};
+ghost use Rattle.rfc3550.specs.Answer.{refused};
 ghost use Rattle.rfc3550.specs.Bytes.{sum, store};
-ghost use Rattle.rfc3550.specs.Write.{items_agree};
 ghost use Rattle.utils.specs.Error.{write_refusal};
-ghost use Rattle.chunk_write.specs.Sizes.{SameLengths, between, boundary_above, at_most, chunks_end, ItemsMeasured, ItemsEnded, ChunksMeasured, items_refusal};
-ghost use Rattle.chunk_write.specs.Lists.{Within, PartFits, PartLaid, ItemsFit, ItemsLaid, ChunkFits, ChunkLaid, ChunksFit, laid_chunks};
+ghost use Rattle.chunk_write.specs.Sizes.{at_most, ItemsMeasured, ChunksMeasured};
+ghost use Rattle.chunk_write.specs.Lists.{agree_in, listed_in, refused_in, items_end_in, chunks_end_in, FirstItems, LaterItems, PartFits, PartLaid, ItemsFitIn, ItemsLaidIn, ChunkFitsIn, ChunkLaidIn, laid_in, ChunksFitIn};
 
 use crate::item;
 use sdes_chunk::chunk::word_boundary_unchecked;
@@ -13,7 +13,47 @@ use sdes_chunk::item::SdesItem;
 use utils::error::RtcpWriteError;
 use utils::writer;
 
+// The lists of items.
+#[derive(Clone, Copy)]
+pub struct ItemLists<'a> {
+    pub types: &'a [u8],
+    pub prefixes: &'a [u64],
+    pub values: &'a [u64],
+    pub bytes: &'a [u8],
+}
+
+impl<'a> ItemLists<'a> {
+    // The first so many items; the bytes stay whole.
+    #[inline(always)]
+    fn first_unchecked(self, count: usize) -> ItemLists<'a>
+        requires { (count ≤ length self.types.now) × listed_in self }
+        ensures { FirstItems count self.entry result }
+    {
+        ItemLists {
+            types: &self.types[..count],
+            prefixes: &self.prefixes[..count],
+            values: &self.values[..count],
+            bytes: self.bytes,
+        }
+    }
+
+    // The items after these.
+    #[inline(always)]
+    fn after_unchecked(self, count: usize) -> ItemLists<'a>
+        requires { (count ≤ length self.types.now) × listed_in self }
+        ensures { LaterItems count self.entry result }
+    {
+        ItemLists {
+            types: &self.types[count..],
+            prefixes: &self.prefixes[count..],
+            values: &self.values[count..],
+            bytes: self.bytes,
+        }
+    }
+}
+
 // What the numbers leave of a total; None where they sum to more.
+#[tactic(auto, using(crate::proofs::Sizes::sums))]
 fn left_of(total: u64, xs: &[u64]) -> Option<u64>
     ensures { MatchOption result (total < sum xs.now) (λ left. left + sum xs.now ≡ total) }
 {
@@ -25,6 +65,7 @@ fn left_of(total: u64, xs: &[u64]) -> Option<u64>
 }
 
 // Whether the numbers sum to the total.
+#[tactic(auto, using(crate::proofs::Sizes::sums))]
 pub fn sum_is(xs: &[u64], total: u64) -> bool
     ensures { result ≡ eqb (sum xs.now) total }
 {
@@ -32,6 +73,7 @@ pub fn sum_is(xs: &[u64], total: u64) -> bool
 }
 
 // The same for the numbers of two lists.
+#[tactic(auto, using(crate::proofs::Sizes::sums))]
 fn sums_are(prefixes: &[u64], values: &[u64], total: u64) -> bool
     ensures { result ≡ eqb (sum prefixes.now + sum values.now) total }
 {
@@ -39,119 +81,99 @@ fn sums_are(prefixes: &[u64], values: &[u64], total: u64) -> bool
 }
 
 // The lists of items have one length, and the lengths that they hold sum to the bytes.
-pub fn items_agree(types: &[u8], prefixes: &[u64], values: &[u64], bytes: &[u8]) -> bool
-    ensures { result ≡ items_agree types.now prefixes.now values.now bytes.now }
+#[tactic(auto, using(crate::proofs::Sizes::sums))]
+pub fn items_agree(items: ItemLists) -> bool
+    ensures { result ≡ agree_in items.entry }
 {
-    if types.len() != prefixes.len() {
+    if items.types.len() != items.prefixes.len() {
         return false;
     }
-    if types.len() != values.len() {
+    if items.types.len() != items.values.len() {
         return false;
     }
-    sums_are(prefixes, values, bytes.len() as u64)
+    sums_are(items.prefixes, items.values, items.bytes.len() as u64)
 }
 
-// Why the first refused item is refused; PacketTooLarge where none is.
+// Why the first refused item is refused, or that all are too large together.
 #[cold]
-pub fn why_items_unchecked(types: &[u8], prefixes: &[u64], values: &[u64]) -> RtcpWriteError
-    requires { SameLengths types.now prefixes.now values.now }
-    ensures { write_refusal result ≡ items_refusal types.now prefixes.now values.now }
+#[tactic(auto, using(crate::proofs::Sizes::asking))]
+pub fn why_items_unchecked(items: ItemLists) -> RtcpWriteError
+    requires { listed_in items }
+    ensures { refused (write_refusal result) ≡ refused_in items.entry }
 {
-    for (i, item_type) in types.iter().enumerate() {
-        let size = item::size_of_lengths(*item_type, prefixes[i], values[i]);
-        if size == 0 {
-            return item::why_lengths(*item_type, prefixes[i], values[i]);
+    for (i, item_type) in items.types.iter().enumerate() {
+        let p = items.prefixes[i];
+        let v = items.values[i];
+        if item::size_of_lengths(*item_type, p, v).is_none() {
+            return item::why_lengths_unchecked(*item_type, p, v);
         }
     }
     RtcpWriteError::PacketTooLarge
 }
 
-// The index after some items, and how many bytes are left after theirs; both 0 where an item is refused or takes more bytes than are left.
+// The index after some items, and how many bytes are left after theirs.
 #[derive(Clone, Copy)]
 pub struct ItemsEnd {
     pub end: usize,
     pub left: u64,
 }
 
-// The index after the items, if they start at index at.
-fn items_end(at: usize, bytes_left: u64, types: &[u8], prefixes: &[u64], values: &[u64]) -> ItemsEnd
-    requires { ItemsMeasured at bytes_left types.now prefixes.now values.now }
-    ensures { ItemsEnded at bytes_left types.now prefixes.now values.now result }
+// The end of the items, if they start at index at; None where an item is refused or takes more bytes than are left.
+#[tactic(auto, using(crate::proofs::Sizes::ending))]
+fn items_end(at: usize, bytes_left: u64, items: ItemLists) -> Option<ItemsEnd>
+    requires { ItemsMeasured at bytes_left items.types.now items.prefixes.now items.values.now }
+    ensures { result ≡ items_end_in at bytes_left items.entry }
 {
     let mut end = at;
     let mut left = bytes_left;
-    for (i, item_type) in types.iter().enumerate() {
-        let p = prefixes[i];
-        let v = values[i];
-        let size = item::size_of_lengths(*item_type, p, v);
-        if size == 0 {
-            return ItemsEnd { end: 0, left: 0 };
-        }
-        if left < p {
-            return ItemsEnd { end: 0, left: 0 };
-        }
-        left -= p;
-        if left < v {
-            return ItemsEnd { end: 0, left: 0 };
-        }
-        left -= v;
+    for (i, item_type) in items.types.iter().enumerate() {
+        let p = items.prefixes[i];
+        let v = items.values[i];
+        let size = item::size_of_lengths(*item_type, p, v)?;
+        left = left.checked_sub(p)?.checked_sub(v)?;
         end += size;
     }
-    ItemsEnd { end, left }
+    Some(ItemsEnd { end, left })
 }
 
-// The index after the chunks, if they start at index start; 0 where an item is refused, the lists disagree or that index is past the limit.
+// The index after the chunks, if they start at index start; None where an item is refused, the lists disagree or that index is past the limit.
+#[tactic(auto, using(crate::proofs::Sizes::counting))]
 pub fn chunks_end_unchecked(
     start: usize,
     limit: usize,
     counts: &[u64],
-    types: &[u8],
-    prefixes: &[u64],
-    values: &[u64],
-    bytes_len: usize,
-) -> usize
-    requires { ChunksMeasured start counts.now types.now prefixes.now values.now bytes_len }
-    ensures { result ≡ at_most limit (chunks_end start bytes_len counts.now types.now prefixes.now values.now) }
+    items: ItemLists,
+) -> Option<usize>
+    requires { ChunksMeasured start counts.now items.types.now items.prefixes.now items.values.now (length items.bytes.now) }
+    ensures { result ≡ at_most limit (chunks_end_in start counts.now items.entry) }
 {
     let mut at = start;
-    let mut left = bytes_len as u64;
-    let mut types_left = types;
-    let mut prefixes_left = prefixes;
-    let mut values_left = values;
+    let mut left = items.bytes.len() as u64;
+    let mut rest = items;
     for count in counts {
         let c = *count as usize;
-        if types_left.len() < c {
-            return 0;
+        if rest.types.len() < c {
+            return None;
         }
-        let items = items_end(
-            at + 4,
-            left,
-            &types_left[0..c],
-            &prefixes_left[0..c],
-            &values_left[0..c],
-        );
-        if items.end == 0 {
-            return 0;
-        }
-        at = word_boundary_unchecked(items.end);
-        left = items.left;
-        types_left = &types_left[c..];
-        prefixes_left = &prefixes_left[c..];
-        values_left = &values_left[c..];
+        let here = items_end(at + 4, left, rest.first_unchecked(c))?;
+        at = word_boundary_unchecked(here.end);
+        left = here.left;
+        rest = rest.after_unchecked(c);
     }
-    if types_left.len() != 0 {
-        return 0;
+    if rest.types.len() != 0 {
+        return None;
     }
     if left != 0 {
-        return 0;
+        return None;
     }
     if limit < at {
-        return 0;
+        return None;
     }
-    at
+    Some(at)
 }
 
 // Lays the item whose bytes start at index from, at index at, and returns its size.
+#[tactic(auto, using(crate::proofs::Laying::parts))]
 fn write_item_at(
     buf: &mut [u8],
     at: usize,
@@ -174,6 +196,15 @@ fn write_item_at(
     2 + value_len
 }
 
+// The items from the first up to the last-th, whose bytes start at index from. By their indices in the whole lists: so a packet's chunks are laid
+// without a part of each list for each chunk.
+#[derive(Clone, Copy)]
+struct ItemRange {
+    first: usize,
+    last: usize,
+    from: usize,
+}
+
 // The index after what was laid, and the index after the lent bytes that it took.
 #[derive(Clone, Copy)]
 pub struct LaidEnd {
@@ -181,91 +212,59 @@ pub struct LaidEnd {
     pub taken: usize,
 }
 
-// Lays the items from the first up to the last-th, whose bytes start at index from, from index to on. By their indices in the whole lists: so a
-// packet's chunks are laid without a part of each list for each chunk.
-fn write_items(
-    buf: &mut [u8],
-    to: usize,
-    types: &[u8],
-    prefixes: &[u64],
-    values: &[u64],
-    bytes: &[u8],
-    first: usize,
-    last: usize,
-    from: usize,
-) -> LaidEnd
-    requires { Within types.now prefixes.now values.now bytes.now first last from × (to ≤ length buf.old) × ItemsFit (between first last types.now) (between first last prefixes.now) (between first last values.now) (drop from bytes.now) (length buf.old - to) }
-    ensures { ItemsLaid to from (between first last types.now) (between first last prefixes.now) (between first last values.now) (drop from bytes.now) buf.old result buf.new }
+// Lays the items of the range from index to on.
+#[tactic(auto, using(crate::proofs::Laying::ranges))]
+fn write_items(buf: &mut [u8], to: usize, items: ItemLists, range: ItemRange) -> LaidEnd
+    requires { (to ≤ length buf.old) × ItemsFitIn items range (length buf.old - to) }
+    ensures { ItemsLaidIn to items.entry range buf.old result buf.new }
 {
     let mut end = to;
-    let mut taken = from;
-    for i in first..last {
-        let p = prefixes[i] as usize;
-        let v = values[i] as usize;
-        end += write_item_at(buf, end, types[i], bytes, taken, p, v);
+    let mut taken = range.from;
+    for i in range.first..range.last {
+        let p = items.prefixes[i] as usize;
+        let v = items.values[i] as usize;
+        end += write_item_at(buf, end, items.types[i], items.bytes, taken, p, v);
         taken = taken + p + v;
     }
     LaidEnd { end, taken }
 }
 
 // Lays the chunk of such items at the start of buf.
-fn write_chunk(
-    buf: &mut [u8],
-    ssrc: u32,
-    types: &[u8],
-    prefixes: &[u64],
-    values: &[u64],
-    bytes: &[u8],
-    first: usize,
-    last: usize,
-    from: usize,
-) -> LaidEnd
-    requires { Within types.now prefixes.now values.now bytes.now first last from × ChunkFits (between first last types.now) (between first last prefixes.now) (between first last values.now) (drop from bytes.now) (length buf.old) }
-    ensures { ChunkLaid ssrc from (between first last types.now) (between first last prefixes.now) (between first last values.now) (drop from bytes.now) buf.old result buf.new }
+#[tactic(auto, using(crate::proofs::Laying::chunks))]
+fn write_chunk(buf: &mut [u8], ssrc: u32, items: ItemLists, range: ItemRange) -> LaidEnd
+    requires { ChunkFitsIn items range (length buf.old) }
+    ensures { ChunkLaidIn ssrc items.entry range buf.old result buf.new }
 {
     writer::write_u32_unchecked(buf, 0, ssrc);
-    let items = write_items(buf, 4, types, prefixes, values, bytes, first, last, from);
-    writer::write_fill_unchecked(buf, items.end);
+    let laid = write_items(buf, 4, items, range);
+    writer::write_fill_unchecked(buf, laid.end);
     LaidEnd {
-        end: word_boundary_unchecked(items.end),
-        taken: items.taken,
+        end: word_boundary_unchecked(laid.end),
+        taken: laid.taken,
     }
 }
 
-// Lays the chunks of lists that have a size, from index start on, each into the part of buf from its start on. The lists are lent again: so this
-// function is compiled to one that takes them in registers.
+// Lays the chunks of lists that have a size, from index start on, each into the part of buf from its start on.
+#[tactic(auto, using(crate::proofs::Laying::chunking))]
 pub fn write_chunks_unchecked(
     buf: &mut [u8],
     start: usize,
     ssrcs: &[u32],
     counts: &[u64],
-    types: &[u8],
-    prefixes: &[u64],
-    values: &[u64],
-    bytes: &[u8],
+    items: ItemLists,
 )
-    requires { ChunksFit start ssrcs.now counts.now types.now prefixes.now values.now bytes.now (length buf.old) }
-    ensures { buf.new ≡ store start (laid_chunks ssrcs.now counts.now types.now prefixes.now values.now bytes.now) buf.old }
+    requires { ChunksFitIn start ssrcs.now counts.now items (length buf.old) }
+    ensures { buf.new ≡ store start (laid_in ssrcs.now counts.now items.entry) buf.old }
 {
-    let mut i: usize = 0;
-    let mut at = start;
+    let mut first: usize = 0;
     let mut from: usize = 0;
+    let mut at = start;
     for (k, ssrc) in ssrcs.iter().enumerate() {
-        let c = counts[k];
-        let j = i + c as usize;
-        let laid = write_chunk(
-            &mut buf[at..],
-            *ssrc,
-            &types[0..],
-            &prefixes[0..],
-            &values[0..],
-            &bytes[0..],
-            i,
-            j,
-            from,
-        );
+        let last = first + counts[k] as usize;
+        let range = ItemRange { first, last, from };
+        let laid = write_chunk(&mut buf[at..], *ssrc, items, range);
         at += laid.end;
         from = laid.taken;
-        i = j;
+        first = last;
     }
 }

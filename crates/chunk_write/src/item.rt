@@ -1,12 +1,15 @@
 // SDES items, written (sdes.rs, `SdesItemBuilder`).
-ghost use Rattle.std.specs.Prelude.{◌≡◌, ◌&&◌, not, ◌+◌, ◌≤◌, eqb, length, take, drop};
+#![tactic(auto, using(crate::proofs::Items::items))]
+
+ghost use Rattle.std.specs.Prelude.{◌≡◌, ◌&&◌, not, ◌+◌, ◌≤◌, None, eqb, length, take, drop};
+ghost use Rattle.rfc3550.specs.Answer.{refused};
 ghost use Rattle.rfc3550.specs.Bytes.{store};
 ghost use Rattle.rfc3550.specs.Packet.{priv, item, item_bytes};
-ghost use Rattle.rfc3550.specs.Write.{item_given, item_size, write_item};
-ghost use Rattle.utils.specs.Error.{write_refusal, or_zero};
-ghost use Rattle.utils.specs.Writer.{written_of, size_refusal};
-ghost use Rattle.chunk_write.specs.Sizes.{lent, size_of, item_length, priv_head, ItemFits};
+ghost use Rattle.rfc3550.specs.Write.{item_given, item_size};
+ghost use Rattle.utils.specs.Error.{value_in, write_refusal};
+ghost use Rattle.chunk_write.specs.Sizes.{lent, size_of, priv_head};
 
+use crate::lone_writer::LoneWriter;
 use sdes_chunk::item::SdesItem;
 use utils::error::RtcpWriteError;
 use utils::writer;
@@ -26,59 +29,54 @@ fn has_value_alone(item_type: u8) -> bool
     item_type != SdesItem::PRIV
 }
 
-// The size of an item of a type and two lengths; 0 where it is refused.
-pub fn size_of_lengths(item_type: u8, prefix_len: u64, value_len: u64) -> usize
-    ensures { result ≡ or_zero (size_of item_type prefix_len value_len) }
+// The size of an item of a type and two lengths; None where it is refused.
+pub fn size_of_lengths(item_type: u8, prefix_len: u64, value_len: u64) -> Option<usize>
+    ensures { result ≡ value_in (size_of item_type prefix_len value_len) }
 {
     if has_value_alone(item_type) {
         if MAX_VALUE_LEN < value_len {
-            return 0;
+            return None;
         }
-        return (2 + value_len) as usize;
+        return Some((2 + value_len) as usize);
     }
     if item_type == 0 {
-        return 0;
+        return None;
     }
     if MAX_PRIV_LEN < prefix_len {
-        return 0;
+        return None;
     }
     if MAX_PRIV_LEN - prefix_len < value_len {
-        return 0;
+        return None;
     }
-    (3 + prefix_len + value_len) as usize
+    Some((3 + prefix_len + value_len) as usize)
 }
 
-// Why it is refused; PacketTooLarge where it is not.
+// Why an item that has no size is refused.
 #[cold]
-pub fn why_lengths(item_type: u8, prefix_len: u64, value_len: u64) -> RtcpWriteError
-    ensures { write_refusal result ≡ size_refusal (size_of item_type prefix_len value_len) }
+pub fn why_lengths_unchecked(item_type: u8, prefix_len: u64, value_len: u64) -> RtcpWriteError
+    requires { value_in (size_of item_type prefix_len value_len) ≡ None }
+    ensures { refused (write_refusal result) ≡ size_of item_type prefix_len value_len }
 {
     if item_type == 0 {
         return RtcpWriteError::ItemTypeZero;
     }
-    if item_type == SdesItem::PRIV {
-        if MAX_PRIV_LEN < prefix_len {
-            return RtcpWriteError::SdesPrivPrefixTooLarge {
-                len: prefix_len as usize,
-                max: MAX_PRIV_LEN as u8,
-            };
-        }
-        let max = MAX_PRIV_LEN - prefix_len;
-        if max < value_len {
-            return RtcpWriteError::SdesValueTooLarge {
-                len: value_len as usize,
-                max: max as u8,
-            };
-        }
-        return RtcpWriteError::PacketTooLarge;
-    }
-    if MAX_VALUE_LEN < value_len {
+    if item_type != SdesItem::PRIV {
         return RtcpWriteError::SdesValueTooLarge {
             len: value_len as usize,
             max: MAX_VALUE_LEN as u8,
         };
     }
-    RtcpWriteError::PacketTooLarge
+    if MAX_PRIV_LEN < prefix_len {
+        return RtcpWriteError::SdesPrivPrefixTooLarge {
+            len: prefix_len as usize,
+            max: MAX_PRIV_LEN as u8,
+        };
+    }
+    let max = MAX_PRIV_LEN - prefix_len;
+    RtcpWriteError::SdesValueTooLarge {
+        len: value_len as usize,
+        max: max as u8,
+    }
 }
 
 // Lays what stands before the prefix and the value of a PRIV item.
@@ -120,61 +118,39 @@ pub fn write_other_unchecked(buf: &mut [u8], item_type: u8, value: &[u8])
     writer::write_bytes_unchecked(buf, 2, value);
 }
 
-// Lays an item that has a size at the start of buf, and returns its size.
-pub fn write_into_unchecked(buf: &mut [u8], item_type: u8, prefix: &[u8], value: &[u8]) -> usize
-    requires { ItemFits item_type (length prefix.now) (length value.now) (length buf.old) }
-    ensures { (result ≡ item_length item_type (length prefix.now) (length value.now)) × (buf.new ≡ store 0 (item_bytes (item_given (lent item_type prefix.now value.now))) buf.old) }
-{
-    if item_type == SdesItem::PRIV {
-        write_priv(buf, prefix, value);
-        return 3 + prefix.len() + value.len();
-    }
-    write_other_unchecked(buf, item_type, value);
-    2 + value.len()
+// What an item is written of: a PRIV item of its prefix and its value, any other of its value alone.
+#[derive(Clone, Copy)]
+pub struct SdesItemBuilder<'a> {
+    pub type_: u8,
+    pub prefix: &'a [u8],
+    pub value: &'a [u8],
 }
 
-// The size of a lone item; 0 where it is refused.
-pub fn size_of(item_type: u8, prefix: &[u8], value: &[u8]) -> usize
-    ensures { result ≡ or_zero (item_size (lent item_type prefix.now value.now)) }
-{
-    size_of_lengths(item_type, prefix.len() as u64, value.len() as u64)
-}
+impl<'a> LoneWriter for SdesItemBuilder<'a> {
+    ghost size = { λ i. item_size (lent i.type_ i.prefix.now i.value.now) };
 
-// Why it is refused; PacketTooLarge where it is not.
-#[cold]
-pub fn why_size(item_type: u8, prefix: &[u8], value: &[u8]) -> RtcpWriteError
-    ensures { write_refusal result ≡ size_refusal (item_size (lent item_type prefix.now value.now)) }
-{
-    why_lengths(item_type, prefix.len() as u64, value.len() as u64)
-}
+    ghost bytes = { λ i. item_bytes (item_given (lent i.type_ i.prefix.now i.value.now)) };
 
-// The size of a lone item, or why it is refused.
-pub fn calculate_size(item_type: u8, prefix: &[u8], value: &[u8]) -> Result<usize, RtcpWriteError>
-    ensures { written_of result ≡ item_size (lent item_type prefix.now value.now) }
-{
-    let size = size_of(item_type, prefix, value);
-    if size == 0 {
-        return Err(why_size(item_type, &prefix[0..], &value[0..]));
+    #[inline(always)]
+    fn size_of(self) -> Option<usize> {
+        let prefix_len = self.prefix.len() as u64;
+        let value_len = self.value.len() as u64;
+        size_of_lengths(self.type_, prefix_len, value_len)
     }
-    Ok(size)
-}
 
-// Writes a lone item at the start of buf.
-pub fn write_into(
-    buf: &mut [u8],
-    item_type: u8,
-    prefix: &[u8],
-    value: &[u8],
-) -> Result<usize, RtcpWriteError>
-    ensures { (written_of result, buf.new) ≡ write_item (lent item_type prefix.now value.now) buf.old }
-{
-    let size = size_of(item_type, prefix, value);
-    if size == 0 {
-        return Err(why_size(item_type, &prefix[0..], &value[0..]));
+    #[inline(always)]
+    fn why_size_unchecked(self) -> RtcpWriteError {
+        let prefix_len = self.prefix.len() as u64;
+        let value_len = self.value.len() as u64;
+        why_lengths_unchecked(self.type_, prefix_len, value_len)
     }
-    if buf.len() < size {
-        return Err(RtcpWriteError::OutputTooSmall(size as u64));
+
+    #[inline(always)]
+    fn write_into_unchecked(self, buf: &mut [u8]) {
+        if self.type_ == SdesItem::PRIV {
+            write_priv(buf, self.prefix, self.value);
+            return;
+        }
+        write_other_unchecked(buf, self.type_, self.value);
     }
-    let _ = write_into_unchecked(buf, item_type, prefix, value);
-    Ok(size)
 }

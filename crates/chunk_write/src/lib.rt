@@ -4,3 +4,4 @@
 pub mod chunk;
 pub mod chunks;
 pub mod item;
+pub mod lone_writer;

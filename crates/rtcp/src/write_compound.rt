@@ -13,6 +13,7 @@ ghost use Rattle.rtcp.specs.WriteCompound.{writer_in, writer_out, call_result, c
 use super::refusal::refused;
 use app::write::AppBuilder;
 use bye::write::ByeBuilder;
+use chunk_write::chunks::ItemLists;
 use compound_write::writer::{Call, Writer};
 use report_write::receiver::ReceiverReportBuilder;
 use report_write::report_block::BlockLists;
@@ -152,13 +153,16 @@ pub fn rtcp_writer_add_sdes(
     ensures { (result, writer.new, buf.new) ≡ call_with_buffer writer.old (call (add (give_sdes (lists ssrcs.now counts.now types.now prefixes.now values.now bytes.now) padding)) (writer_in writer.old) buf.old) }
 {
     let w = writer_in(writer);
-    let sdes = SdesBuilder {
-        ssrcs,
-        counts,
+    let items = ItemLists {
         types,
         prefixes,
         values,
         bytes,
+    };
+    let sdes = SdesBuilder {
+        ssrcs,
+        counts,
+        items,
         padding,
     };
     hand_on(writer, w.add(buf, sdes))

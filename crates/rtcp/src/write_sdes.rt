@@ -6,24 +6,39 @@ ghost use Rattle.sdes_write.specs.Packets.{lists};
 ghost use Rattle.rtcp.specs.WriteResult.{written_result, written_with_buffer};
 
 use super::write_result::RtcpWritten;
-use chunk_write::{chunk, item};
+use chunk_write::chunk::SdesChunkBuilder;
+use chunk_write::chunks::ItemLists;
+use chunk_write::item::SdesItemBuilder;
+use chunk_write::lone_writer::LoneWriter;
 use sdes_write::SdesBuilder;
 use utils::packet_writer::RtcpPacketWriter;
 
 // A lone item.
+#[tactic(auto, unfolding(rfc3550::specs::Write::write_item))]
 pub fn rtcp_item_write(buf: &mut [u8], type_: u8, prefix: &[u8], value: &[u8]) -> RtcpWritten
     ensures { (result, buf.new) ≡ written_with_buffer (write_item (lent type_ prefix.now value.now) buf.old) }
 {
-    RtcpWritten::from(item::write_into(buf, type_, prefix, value))
+    let item = SdesItemBuilder {
+        type_,
+        prefix,
+        value,
+    };
+    RtcpWritten::from(item.write_into(buf))
 }
 
 pub fn rtcp_item_size(type_: u8, prefix: &[u8], value: &[u8]) -> RtcpWritten
     ensures { result ≡ written_result (item_size (lent type_ prefix.now value.now)) }
 {
-    RtcpWritten::from(item::calculate_size(type_, prefix, value))
+    let item = SdesItemBuilder {
+        type_,
+        prefix,
+        value,
+    };
+    RtcpWritten::from(item.calculate_size())
 }
 
 // A lone chunk.
+#[tactic(auto, unfolding(rfc3550::specs::Write::write_chunk))]
 pub fn rtcp_chunk_write(
     buf: &mut [u8],
     ssrc: u32,
@@ -34,7 +49,14 @@ pub fn rtcp_chunk_write(
 ) -> RtcpWritten
     ensures { (result, buf.new) ≡ written_with_buffer (write_chunk ssrc types.now prefixes.now values.now bytes.now buf.old) }
 {
-    RtcpWritten::from(chunk::write_into(buf, ssrc, types, prefixes, values, bytes))
+    let items = ItemLists {
+        types,
+        prefixes,
+        values,
+        bytes,
+    };
+    let chunk = SdesChunkBuilder { ssrc, items };
+    RtcpWritten::from(chunk.write_into(buf))
 }
 
 // The size is the same for every SSRC.
@@ -42,7 +64,14 @@ pub fn rtcp_chunk_write(
 pub fn rtcp_chunk_size(types: &[u8], prefixes: &[u64], values: &[u64], bytes: &[u8]) -> RtcpWritten
     ensures { (ssrc : ℕ) → result ≡ written_result (chunk_size ssrc types.now prefixes.now values.now bytes.now) }
 {
-    RtcpWritten::from(chunk::calculate_size(0, types, prefixes, values, bytes))
+    let items = ItemLists {
+        types,
+        prefixes,
+        values,
+        bytes,
+    };
+    let chunk = SdesChunkBuilder { ssrc: 0, items };
+    RtcpWritten::from(chunk.calculate_size())
 }
 
 pub fn rtcp_sdes_write(
@@ -57,13 +86,16 @@ pub fn rtcp_sdes_write(
 ) -> RtcpWritten
     ensures { (result, buf.new) ≡ written_with_buffer (write (give_sdes (lists ssrcs.now counts.now types.now prefixes.now values.now bytes.now) padding) buf.old) }
 {
-    let sdes = SdesBuilder {
-        ssrcs,
-        counts,
+    let items = ItemLists {
         types,
         prefixes,
         values,
         bytes,
+    };
+    let sdes = SdesBuilder {
+        ssrcs,
+        counts,
+        items,
         padding,
     };
     RtcpWritten::from(sdes.write_into(buf))
@@ -80,13 +112,16 @@ pub fn rtcp_sdes_size(
 ) -> RtcpWritten
     ensures { result ≡ written_result (calculate_size (give_sdes (lists ssrcs.now counts.now types.now prefixes.now values.now bytes.now) padding)) }
 {
-    let sdes = SdesBuilder {
-        ssrcs,
-        counts,
+    let items = ItemLists {
         types,
         prefixes,
         values,
         bytes,
+    };
+    let sdes = SdesBuilder {
+        ssrcs,
+        counts,
+        items,
         padding,
     };
     RtcpWritten::from(sdes.calculate_size())

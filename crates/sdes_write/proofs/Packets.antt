@@ -1,17 +1,18 @@
 -- The cases of a packet's lists, of its size and of its bytes, each from what the code has tested or called.
+use Rattle.std.specs.Prelude.{Option, None, Some}
 use Rattle.rfc3550.proofs.Prelude.{ℕ, suc, ◌+◌, ◌-◌, ◌*◌, ◌<◌, ◌≤◌, ◌^◌, ◌≡◌, refl, sym, ap, ◌∙◌, Bool, true, false, ◌&&◌, List, [], ◌∷◌, arith, le-leb, lt-leb, leb-true, leb-false, eq-eqb, ne_eqb, eqb-true, eqb-false, not-true, not-false, length, take, drop, get_or, leb, eqb}
 use Rattle.rfc3550.specs.Answer.{Refusal, Answer, ok, refused, refusal, need, ◌>>◌, pick}
 use Rattle.rfc3550.specs.Bytes.{sum, store}
 use Rattle.rfc3550.specs.Packet.{sdes, content_bytes, layout}
 use Rattle.rfc3550.specs.Write.{LentItem, lent_items, lent_chunks, Given, give_sdes, chunks_given, packet_given, padding_bytes, padding_ok, items_tests, items_agree, lists_agree, own_tests, calculate_size}
 use Rattle.rfc3550.proofs.Answers.{need_inv, then_inv, and_inv, ok_injective}
-use Rattle.utils.specs.Error.{or_zero}
-use Rattle.utils.specs.Writer.{size_refusal, header}
-use Rattle.utils.proofs.WriterPackets.{writes, padding_most, sized, size_ok, size_over, size_refused, header_last, header_long, packet_laid}
-use Rattle.utils.proofs.Sizes.{size_came, why_last}
-use Rattle.chunk_write.specs.Sizes.{SameLengths, items_refusal, at_most, chunks_end, ChunksMeasured}
+use Rattle.utils.specs.Error.{value_in}
+use Rattle.utils.specs.Writer.{header}
+use Rattle.utils.proofs.WriterPackets.{writes, padding_most, sized, size_ok, size_over, size_refused, why_last, header_last, header_long, packet_laid}
+use Rattle.utils.proofs.Values.{value_is, values}
+use Rattle.chunk_write.specs.Sizes.{SameLengths, too_large, items_refused, at_most, chunks_end, ChunksMeasured}
 use Rattle.chunk_write.specs.Lists.{laid_chunks, ChunksFit}
-use Rattle.chunk_write.proofs.Sizes.{Agreed, agreed, chunks_are, refusal_of, EndKnown, end_known, end_none}
+use Rattle.chunk_write.proofs.Sizes.{Agreed, agreed, chunks_are, refusal_of, EndKnown, end_known, end_agreed}
 use Rattle.sdes_write.specs.Packets.{lists, with_padding, EndsFit, SdesFits}
 
 -- ---- 24
@@ -63,84 +64,81 @@ module _ (ss cs ts ps vs bs : List ℕ) (k : ℕ) where
   unfolding own_tests need ◌>>◌
   disagree q = size_refused given (simp q)
 
-  pub why_disagree : (t : Bool) → t ≡ lists_agree (lists ss cs ts ps vs bs) → t ≡ false → refusal 24 0 0 ≡ size_refusal (calculate_size given)
-  why_disagree t e q = ap size_refusal (disagree (sym e ∙ q))
+  pub why_disagree : (t : Bool) → t ≡ lists_agree (lists ss cs ts ps vs bs) → t ≡ false → refused (refusal 24 0 0) ≡ calculate_size given
+  why_disagree t e q = disagree (sym e ∙ q)
 
-  pub size_counts : (length ss ≡ length cs → ⊥) → 0 ≡ or_zero (calculate_size given)
-  size_counts h = ap or_zero (disagree (sym (counts_other ss cs ts ps vs bs h)))
+  pub size_counts : (length ss ≡ length cs → ⊥) → None ≡ value_in (calculate_size given)
+  size_counts h = ap value_in (disagree (sym (counts_other ss cs ts ps vs bs h)))
 
-  pub size_prefixes : (length ts ≡ length ps → ⊥) → 0 ≡ or_zero (calculate_size given)
-  size_prefixes h = ap or_zero (disagree (items_other ss cs ts ps vs bs (simp (ne_eqb _ _ h))))
+  pub size_prefixes : (length ts ≡ length ps → ⊥) → None ≡ value_in (calculate_size given)
+  size_prefixes h = ap value_in (disagree (items_other ss cs ts ps vs bs (simp (ne_eqb _ _ h))))
 
-  pub size_values : length ts ≡ length ps → (length ts ≡ length vs → ⊥) → 0 ≡ or_zero (calculate_size given)
-  size_values f h = ap or_zero (disagree (items_other ss cs ts ps vs bs (simp (eq-eqb _ _ f, ne_eqb _ _ h))))
+  pub size_values : length ts ≡ length ps → (length ts ≡ length vs → ⊥) → None ≡ value_in (calculate_size given)
+  size_values f h = ap value_in (disagree (items_other ss cs ts ps vs bs (simp (eq-eqb _ _ f, ne_eqb _ _ h))))
 
   -- a refusal that lists that agree get; lists that don't get 24
-  either : {x : Refusal} → (lists_agree (lists ss cs ts ps vs bs) ≡ true → refused x ≡ calculate_size given) → 0 ≡ or_zero (calculate_size given)
+  either : {x : Refusal} → (lists_agree (lists ss cs ts ps vs bs) ≡ true → refused x ≡ calculate_size given) → None ≡ value_in (calculate_size given)
   either f = go (lists_agree (lists ss cs ts ps vs bs)) refl
     where
-      go : (t : Bool) → lists_agree (lists ss cs ts ps vs bs) ≡ t → 0 ≡ or_zero (calculate_size given)
-      go true q = ap or_zero (f q)
-      go false q = ap or_zero (disagree q)
+      go : (t : Bool) → lists_agree (lists ss cs ts ps vs bs) ≡ t → None ≡ value_in (calculate_size given)
+      go true q = ap value_in (f q)
+      go false q = ap value_in (disagree q)
 
   many : lists_agree (lists ss cs ts ps vs bs) ≡ true → 31 < length ss → refused (refusal 19 (length ss) 31) ≡ calculate_size given
   unfolding own_tests need ◌>>◌
   many q h = size_refused given (simp (q, lt-leb _ _ h))
 
-  pub size_many : 31 < length ss → 0 ≡ or_zero (calculate_size given)
+  pub size_many : 31 < length ss → None ≡ value_in (calculate_size given)
   size_many h = either (λ q. many q h)
 
-  pub why_many : (t : Bool) → t ≡ lists_agree (lists ss cs ts ps vs bs) → t ≡ true → 31 < length ss → refusal 19 (length ss) 31 ≡ size_refusal (calculate_size given)
-  why_many t e q h = ap size_refusal (many (sym e ∙ q) h)
+  pub why_many : (t : Bool) → t ≡ lists_agree (lists ss cs ts ps vs bs) → t ≡ true → 31 < length ss → refused (refusal 19 (length ss) 31) ≡ calculate_size given
+  why_many t e q h = many (sym e ∙ q) h
 
   module _ (h : length ss ≤ 31) (u : Bool) (eu : u ≡ padding_ok k) where
     unpadded : lists_agree (lists ss cs ts ps vs bs) ≡ true → u ≡ false → refused (refusal 11 k 0) ≡ calculate_size given
     unfolding own_tests need ◌>>◌
     unpadded q p = size_refused given (simp (q, le-leb _ _ h, ← eu, p))
 
-    pub size_padding : u ≡ false → 0 ≡ or_zero (calculate_size given)
+    pub size_padding : u ≡ false → None ≡ value_in (calculate_size given)
     size_padding p = either (λ q. unpadded q p)
 
-    pub why_padding : (t : Bool) → t ≡ lists_agree (lists ss cs ts ps vs bs) → t ≡ true → u ≡ false → refusal 11 k 0 ≡ size_refusal (calculate_size given)
-    why_padding t e q p = ap size_refusal (unpadded (sym e ∙ q) p)
+    pub why_padding : (t : Bool) → t ≡ lists_agree (lists ss cs ts ps vs bs) → t ≡ true → u ≡ false → refused (refusal 11 k 0) ≡ calculate_size given
+    why_padding t e q p = unpadded (sym e ∙ q) p
 
     module _ (qu : u ≡ true) where
       own : lists_agree (lists ss cs ts ps vs bs) ≡ true → own_tests given ≡ items_tests (lent_items ts ps vs bs)
       unfolding own_tests need ◌>>◌
       own q = simp (q, le-leb _ _ h, ← eu, qu)
 
-      pub why_items : (t : Bool) → t ≡ lists_agree (lists ss cs ts ps vs bs) → t ≡ true → (r : Refusal) → r ≡ items_refusal ts ps vs → r ≡ size_refusal (calculate_size given)
+      pub why_items : (t : Bool) → t ≡ lists_agree (lists ss cs ts ps vs bs) → t ≡ true → value_in (calculate_size given) ≡ None → (r : Refusal) → refused r ≡ items_refused ts ps vs → refused r ≡ calculate_size given
       unfolding ◌>>◌
-      why_items t e q r f =
+      why_items t e q z r f =
           let a = all_agreed ss cs ts ps vs bs t e q in
-          f ∙ refusal_of ts ps vs bs 0 a.items.prefixes a.items.values (omega (arith, a.items.bytes)) ∙ go (items_tests (lent_items ts ps vs bs)) (own (sym e ∙ q))
+          go (items_tests (lent_items ts ps vs bs)) (own (sym e ∙ q)) (f ∙ refusal_of ts ps vs bs a.items.prefixes a.items.values (omega (arith, a.items.bytes)))
         where
-          go : (m : Answer (Unit {0})) → own_tests given ≡ m → size_refusal (m >> ok 0) ≡ size_refusal (calculate_size given)
-          go (ok v) i = why_last given i
-          go (refused x) i = ap size_refusal (size_refused given i)
+          go : (m : Answer (Unit {0})) → own_tests given ≡ m → refused r ≡ (m >> too_large) → refused r ≡ calculate_size given
+          go (ok v) i y = y ∙ why_last given i z
+          go (refused x) i y = y ∙ size_refused given i
 
-      module _ (ep : length ts ≡ length ps) (ev : length ts ≡ length vs) (n : ℕ) (g : n ≡ chunks_end 4 (length bs) cs ts ps vs) where
-        d : SameLengths ts ps vs
-        d = record { prefixes = sym ep; values = sym ev }
-
-        size_none : n ≡ 0 → 0 ≡ or_zero (calculate_size given)
+      module _ (ep : length ts ≡ length ps) (ev : length ts ≡ length vs) where
+        size_none : None ≡ chunks_end 4 (length bs) cs ts ps vs → None ≡ value_in (calculate_size given)
         unfolding ◌>>◌
         size_none z = go (lists_agree (lists ss cs ts ps vs bs)) refl
           where
-            passed : (m : Answer (Unit {0})) → own_tests given ≡ m → n ≡ or_zero (m >> ok (4 + length (laid_chunks ss cs ts ps vs bs))) → 0 ≡ or_zero (calculate_size given)
-            passed (ok v) i e = absurd (omega arith)
-            passed (refused x) i e = ap or_zero (size_refused given i)
+            passed : (m : Answer (Unit {0})) → own_tests given ≡ m → None ≡ value_in (m >> ok (4 + length (laid_chunks ss cs ts ps vs bs))) → None ≡ value_in (calculate_size given)
+            passed (ok v) i e = cc
+            passed (refused x) i e = ap value_in (size_refused given i)
 
-            go : (t : Bool) → lists_agree (lists ss cs ts ps vs bs) ≡ t → 0 ≡ or_zero (calculate_size given)
-            go false q = ap or_zero (disagree q)
+            go : (t : Bool) → lists_agree (lists ss cs ts ps vs bs) ≡ t → None ≡ value_in (calculate_size given)
+            go false q = ap value_in (disagree q)
             go true q =
                 let a = all_agreed ss cs ts ps vs bs true (sym q) refl in
                 passed (items_tests (lent_items ts ps vs bs)) (own q)
-                (end_none 4 (length bs) cs ts ps vs d n g a.sums a.items.bytes ∙ ap or_zero (chunks_are 4 ss cs ts ps vs bs refl a.counts a.sums a.items.prefixes a.items.values (omega (arith, a.items.bytes))))
+                (z ∙ end_agreed 4 (length bs) cs ts ps vs a.sums a.items.bytes ∙ ap value_in (chunks_are 4 ss cs ts ps vs bs refl a.counts a.sums a.items.prefixes a.items.values (omega (arith, a.items.bytes))))
 
-        module _ (ec : length ss ≡ length cs) (z : n ≡ 0 → ⊥) where
+        module _ (ec : length ss ≡ length cs) (n : ℕ) (g : Some n ≡ chunks_end 4 (length bs) cs ts ps vs) where
           known : EndKnown 4 (length bs) cs ts ps vs n
-          known = end_known 4 (length bs) cs ts ps vs d n g z
+          known = end_known 4 (length bs) cs ts ps vs n g
 
           all : lists_agree (lists ss cs ts ps vs bs) ≡ true
           all = let y = known in simp (eq-eqb _ _ ec, eq-eqb _ _ y.counts, eq-eqb _ _ ep, eq-eqb _ _ ev, eq-eqb _ _ y.bytes)
@@ -155,20 +153,22 @@ module _ (ss cs ts ps vs bs : List ℕ) (k : ℕ) where
           unfolding content_bytes
           size_is_of = omega (arith, passed.1)
 
-          end_large : 262144 - k < n → 0 ≡ or_zero (calculate_size given)
-          end_large f = ap or_zero (size_over given (n + k) passed.0 size_is_of (omega (arith, padding_most u k eu qu)))
+          end_large : 262144 - k < n → None ≡ value_in (calculate_size given)
+          end_large f = ap value_in (size_over given (n + k) passed.0 size_is_of (omega (arith, padding_most u k eu qu)))
 
-          end_sum : n ≤ 262144 - k → n + k ≡ or_zero (calculate_size given)
-          end_sum f = ap or_zero (size_ok given (n + k) passed.0 size_is_of (omega (arith, padding_most u k eu qu)))
+          end_sum : n ≤ 262144 - k → Some (n + k) ≡ value_in (calculate_size given)
+          end_sum f = ap value_in (size_ok given (n + k) passed.0 size_is_of (omega (arith, padding_most u k eu qu)))
 
-      pub end_is : length ts ≡ length ps → length ts ≡ length vs → length ss ≡ length cs → (n : ℕ) → n ≡ at_most (262144 - k) (chunks_end 4 (length bs) cs ts ps vs) → with_padding k n ≡ or_zero (calculate_size given)
-      end_is ep ev ec n g = rw g (go (eqb (chunks_end 4 (length bs) cs ts ps vs) 0) refl (leb (chunks_end 4 (length bs) cs ts ps vs) (262144 - k)) refl)
+      pub end_is : length ts ≡ length ps → length ts ≡ length vs → length ss ≡ length cs → (o : Option ℕ) → o ≡ at_most (262144 - k) (chunks_end 4 (length bs) cs ts ps vs) → with_padding k o ≡ value_in (calculate_size given)
+      end_is ep ev ec o g = rw g (go (chunks_end 4 (length bs) cs ts ps vs) refl)
         where
-          go : (x : Bool) → eqb (chunks_end 4 (length bs) cs ts ps vs) 0 ≡ x → (y : Bool) → leb (chunks_end 4 (length bs) cs ts ps vs) (262144 - k) ≡ y → with_padding k (pick y (chunks_end 4 (length bs) cs ts ps vs) 0) ≡ or_zero (calculate_size given)
-          go true q true f = rw q (size_none ep ev _ refl (eqb-true _ _ q))
-          go true q false f = size_none ep ev _ refl (eqb-true _ _ q)
-          go false q true f = rw q (end_sum ep ev _ refl ec (eqb-false _ _ q) (leb-true _ _ f))
-          go false q false f = end_large ep ev _ refl ec (eqb-false _ _ q) (leb-false _ _ f)
+          go : (x : Option ℕ) → x ≡ chunks_end 4 (length bs) cs ts ps vs → with_padding k (at_most (262144 - k) x) ≡ value_in (calculate_size given)
+          go None q = size_none ep ev q
+          go (Some n) q = last (leb n (262144 - k)) refl
+            where
+              last : (y : Bool) → leb n (262144 - k) ≡ y → with_padding k (pick y (Some n) None) ≡ value_in (calculate_size given)
+              last true f = end_sum ep ev ec n q (leb-true _ _ f)
+              last false f = end_large ep ev ec n q (leb-false _ _ f)
 
   pub size_measured : length ss ≡ length cs → length ts ≡ length ps → length ts ≡ length vs → length ss ≤ 31 → length bs + 3 * length ts + 252 < 2 ^ 64 → length ts * 8 < 2 ^ 64 → ChunksMeasured 4 cs ts ps vs (length bs)
   size_measured ec ep ev h f g = record { listed = record { prefixes = sym ep; values = sym ev }; room = omega arith; scaled = g }
@@ -203,21 +203,10 @@ module _ (ss cs ts ps vs bs : List ℕ) (k : ℕ) where
         room = h;
       }
 
-  -- ---- from the index after the chunks, or 0
+  -- ---- from the index after the chunks
 
-  module _ (n : ℕ) (e : with_padding k n ≡ or_zero (calculate_size given)) where
-    pub end_zero : n ≡ 0 → 0 ≡ or_zero (calculate_size given)
-    end_zero z = let b : eqb n 0 ≡ true = eq-eqb n 0 z in rw b at e
-
-    module _ (z : n ≡ 0 → ⊥) where
-      pub end_size : n + k ≡ or_zero (calculate_size given)
-      end_size = let b : eqb n 0 ≡ false = ne_eqb n 0 z in rw b at e
-
-      some : n + k ≡ 0 → ⊥
-      some y = z (omega arith)
-
-      pub end_within : n + k < 2 ^ 64
-      end_within = let y = (sized given (n + k) (size_came given (n + k) end_size some)).most in omega arith
+  pub end_within : (n : ℕ) → Some (n + k) ≡ value_in (calculate_size given) → n + k < 2 ^ 64
+  end_within n e = let y = (sized given (n + k) (sym (value_is _ _ e))).most in omega arith
 
   module _ (size : ℕ) (l : List ℕ) (f : SdesFits ss cs ts ps vs bs k size (length l)) where
     pub sdes_chunks : ChunksFit 4 ss cs ts ps vs bs (length l)
@@ -246,4 +235,4 @@ module _ (count k size : ℕ) (l l₁ : List ℕ) (f : EndsFit count k size (len
   pub ends_laid : (l₂ : List ℕ) → l₂ ≡ store (size - k) (padding_bytes k) l₁ → l₂ ≡ store (size - k) (padding_bytes k) (store 0 (header k count 202 size) l)
   ends_laid l₂ q = q ∙ rw e
 
-pub ruleset sdess = (writes, not-true, not-false, counts_other, counts_sum, counts_agree, lists_listed, why_disagree, size_counts, size_prefixes, size_values, size_many, why_many, size_padding, why_padding, why_items, end_is, end_zero, end_size, end_within, size_measured, padding_small, sdes_chunks, sdes_ends, sdes_laid, ends_padding, ends_laid)
+pub ruleset sdess = (writes, values, not-true, not-false, counts_other, counts_sum, counts_agree, lists_listed, why_disagree, size_counts, size_prefixes, size_values, size_many, why_many, size_padding, why_padding, why_items, end_is, end_within, size_measured, padding_small, sdes_chunks, sdes_ends, sdes_laid, ends_padding, ends_laid)

@@ -1,5 +1,5 @@
 // SDES packets, written (sdes.rs, `SdesBuilder`).
-#![tactic(auto)]
+#![tactic(auto, using(crate::proofs::Packets::sdess))]
 
 pub mod cname;
 
@@ -7,11 +7,12 @@ ghost use Rattle.std.specs.Prelude.{◌≡◌, ◌-◌, length};
 ghost use Rattle.rfc3550.specs.Bytes.{store};
 ghost use Rattle.rfc3550.specs.Packet.{layout};
 ghost use Rattle.rfc3550.specs.Write.{lists_agree, packet_given, padding_bytes, calculate_size};
-ghost use Rattle.utils.specs.Error.{or_zero};
+ghost use Rattle.utils.specs.Error.{value_in};
 ghost use Rattle.utils.specs.Writer.{header};
 ghost use Rattle.sdes_write.specs.Packets.{lists_in, sdes_given, with_padding, EndsFit, SdesFits};
 
 use chunk_write::chunks;
+use chunk_write::chunks::ItemLists;
 use sdes::sdes::Sdes;
 use utils::error::RtcpWriteError;
 use utils::packet_writer::RtcpPacketWriter;
@@ -22,10 +23,7 @@ use utils::writer;
 pub struct SdesBuilder<'a> {
     pub ssrcs: &'a [u32],
     pub counts: &'a [u64],
-    pub types: &'a [u8],
-    pub prefixes: &'a [u64],
-    pub values: &'a [u64],
-    pub bytes: &'a [u8],
+    pub items: ItemLists<'a>,
     pub padding: u64,
 }
 
@@ -47,40 +45,37 @@ impl<'a> SdesBuilder<'a> {
         if self.ssrcs.len() != self.counts.len() {
             return false;
         }
-        if !chunks::sum_is(self.counts, self.types.len() as u64) {
+        if !chunks::sum_is(self.counts, self.items.types.len() as u64) {
             return false;
         }
-        chunks::items_agree(self.types, self.prefixes, self.values, self.bytes)
+        chunks::items_agree(self.items)
     }
 
-    // The index after the chunks of an SDES, its header before them; 0 where it is refused.
+    // The index after the chunks of an SDES, its header before them; None where it is refused.
     #[inline(always)]
-    fn end_of(self) -> usize
-        ensures { with_padding self.entry.padding result ≡ or_zero (calculate_size (sdes_given self.entry)) }
+    fn end_of(self) -> Option<usize>
+        ensures { with_padding self.entry.padding result ≡ value_in (calculate_size (sdes_given self.entry)) }
     {
-        if self.types.len() != self.prefixes.len() {
-            return 0;
+        if self.items.types.len() != self.items.prefixes.len() {
+            return None;
         }
-        if self.types.len() != self.values.len() {
-            return 0;
+        if self.items.types.len() != self.items.values.len() {
+            return None;
         }
         if self.ssrcs.len() != self.counts.len() {
-            return 0;
+            return None;
         }
         if writer::MAX_COUNT < self.ssrcs.len() {
-            return 0;
+            return None;
         }
         if !writer::check_padding(self.padding) {
-            return 0;
+            return None;
         }
         chunks::chunks_end_unchecked(
             Sdes::MIN_PACKET_LEN,
             writer::MAX_PACKET_LEN - self.padding as usize,
             self.counts,
-            self.types,
-            self.prefixes,
-            self.values,
-            self.bytes.len(),
+            self.items,
         )
     }
 }
@@ -97,20 +92,17 @@ impl<'a> RtcpPacketWriter for SdesBuilder<'a> {
     }
 
     fn has_cname(self) -> bool {
-        cname::has_cname_unchecked(self.types, self.values)
+        cname::has_cname_unchecked(self.items.types, self.items.values)
     }
 
     #[inline(always)]
-    fn size_of(self) -> usize {
-        let end = self.end_of();
-        if end == 0 {
-            return 0;
-        }
-        end + self.padding as usize
+    fn size_of(self) -> Option<usize> {
+        let end = self.end_of()?;
+        Some(end + self.padding as usize)
     }
 
     #[inline(always)]
-    fn why_size(self) -> RtcpWriteError {
+    fn why_size_unchecked(self) -> RtcpWriteError {
         if !self.lists_agree() {
             return RtcpWriteError::ListsDisagree;
         }
@@ -126,24 +118,16 @@ impl<'a> RtcpPacketWriter for SdesBuilder<'a> {
                 padding: self.padding,
             };
         }
-        chunks::why_items_unchecked(self.types, self.prefixes, self.values)
+        chunks::why_items_unchecked(self.items)
     }
 
     #[inline(always)]
     fn write_into_unchecked(self, buf: &mut [u8], size: usize)
-        requires { SdesFits self.ssrcs.now self.counts.now self.types.now self.prefixes.now self.values.now self.bytes.now self.padding size (length buf.old) }
+        requires { SdesFits self.ssrcs.now self.counts.now self.items.types.now self.items.prefixes.now self.items.values.now self.items.bytes.now self.padding size (length buf.old) }
         ensures { buf.new ≡ store 0 (layout (packet_given (sdes_given self.entry))) buf.old }
     {
-        chunks::write_chunks_unchecked(
-            buf,
-            Sdes::MIN_PACKET_LEN,
-            self.ssrcs,
-            self.counts,
-            self.types,
-            self.prefixes,
-            self.values,
-            self.bytes,
-        );
+        let start = Sdes::MIN_PACKET_LEN;
+        chunks::write_chunks_unchecked(buf, start, self.ssrcs, self.counts, self.items);
         write_ends_unchecked(buf, self.ssrcs.len(), self.padding, size);
     }
 }

@@ -1,5 +1,4 @@
 use Rattle.rfc3550.proofs.Prelude.{length-set, arith}
-use Rattle.chunk_write.proofs.Items.{items}
 use Rattle.chunk_write.proofs.item.write_priv_head.Goals as goal
 
 pub bounds-buf-1 : goal.bounds-buf-1
@@ -7,6 +6,3 @@ bounds-buf-1 c = simp length-set (omega arith)
 
 pub bounds-buf-2 : goal.bounds-buf-2
 bounds-buf-2 c = simp length-set (omega arith)
-
-pub returns : goal.returns
-returns c = search items
