@@ -6,8 +6,8 @@ use Rattle.rfc3550.specs.Bytes.{be, store}
 use Rattle.rfc3550.specs.Packet.{padding_bit, fill}
 use Rattle.rfc3550.specs.Write.{padding_ok, padding_bytes}
 use Rattle.rfc3550.proofs.Bytes.{length_be, length_store}
-use Rattle.utils.specs.Writer.{first_byte, header, reversed}
-use Rattle.utils.proofs.WriterStores.{store_nil, store_store, store_over, store_snoc, store_puts, be_digits, digits}
+use Rattle.utils.specs.Writer.{first_byte, header}
+use Rattle.utils.proofs.WriterStores.{store_nil, store_store, store_over, store_snoc, store_puts, be_bytes}
 
 -- ---- padding
 
@@ -50,35 +50,12 @@ header_laid k n t size first l l₁ e h f =
 
 -- ---- numbers
 
--- the library's `to_be_bytes` takes out the same bytes
-high_first : (w v : ℕ) → bytes_high_first w v ≡ digits w v
-high_first zero v = refl
-high_first (suc zero) v = rw div-one
-high_first (suc (suc w)) v = ap (λ (bs : List ℕ). v / 256 ^ suc w % 256 ∷ bs) (high_first (suc w) v)
-
 pub number_laid : (w at v : ℕ) (bs l l₁ : List ℕ) → v < 256 ^ w → bs ≡ bytes_high_first w v → l₁ ≡ store at bs l → l₁ ≡ store at (be w v) l
-number_laid w at v bs l l₁ h e f = f ∙ ap (λ (x : List ℕ). store at x l) (e ∙ high_first w v ∙ sym (be_digits w v h))
+number_laid w at v bs l l₁ h e f = f ∙ ap (λ (x : List ℕ). store at x l) (e ∙ sym (be_bytes w v h))
 
 -- bytes that are the same
 pub same_laid : (at : ℕ) (bs cs l l₁ : List ℕ) → bs ≡ cs → l₁ ≡ store at bs l → l₁ ≡ store at cs l
 same_laid at bs cs l l₁ e f = f ∙ ap (λ (x : List ℕ). store at x l) e
-
--- the bytes in the other order, reversed
-four : (a b c d : ℕ) → a < 256 → b < 256 → c < 256 → d < 256 → reversed (a + b * 256 + c * 65536 + d * 16777216) ≡ a ∷ b ∷ c ∷ d ∷ []
-four a b c d f g h i =
-    let q₁ : (a + b * 256 + c * 65536 + d * 16777216) / 256 ≡ b + c * 256 + d * 65536 = omega arith in
-    let q₂ : (a + b * 256 + c * 65536 + d * 16777216) / 65536 ≡ c + d * 256 = omega arith in
-    let q₃ : (a + b * 256 + c * 65536 + d * 16777216) / 16777216 ≡ d = omega arith in
-    let e₀ : (a + b * 256 + c * 65536 + d * 16777216) % 256 ≡ a = omega arith in
-    let e₁ : (b + c * 256 + d * 65536) % 256 ≡ b = omega arith in
-    let e₂ : (c + d * 256) % 256 ≡ c = omega arith in
-    let e₃ : d % 256 ≡ d = omega arith in
-    rw (q₁, q₂, q₃, e₀, e₁, e₂, e₃)
-
-pub swapped : (v : ℕ) → v < 2 ^ 32 → reversed (v / 16777216 + v / 65536 % 256 * 256 + v / 256 % 256 * 65536 + v % 256 * 16777216) ≡ be 4 v
-swapped v f =
-    let e : v / 16777216 % 256 ≡ v / 16777216 = omega arith in
-    four (v / 16777216) (v / 65536 % 256) (v / 256 % 256) (v % 256) (omega arith) (omega arith) (omega arith) (omega arith) ∙ sym (rw (div-one, e) at (be_digits 4 v f))
 
 -- ---- bytes
 

@@ -1,5 +1,6 @@
 -- Laws of `store`: a chain of stores is one store, and what straight-line code and loops leave is a store.
 use Rattle.rfc3550.proofs.Prelude.{ℕ, zero, suc, ◌+◌, ◌-◌, ◌*◌, ◌/◌, ◌%◌, ◌^◌, ◌<◌, ◌≤◌, ◌≡◌, refl, sym, ap, ◌∙◌, List, [], ◌∷◌, ◌++◌, append_assoc, append-nil, add_assoc, add-zero, add-suc, pow-suc, zero-add, one-le-pow, mod-lt, mod-eq_of_lt, mul_comm, div-one, add-one, arith, length, take, drop, set, get_or, length-append, length-drop, take-append-drop, drop_of_length-le, sets, sets-eq, length-take-le, take_at, drop_at, drop-drop, drop-append-add, set_at, drop-cons, take_all, take-append-le, take-take, digits_div, digits_mod, mod-mul}
+use Rattle.std.specs.Int.{byte_at, bytes_high_first}
 use Rattle.rfc3550.specs.Bytes.{be, store}
 use Rattle.rfc3550.proofs.Bytes.{length_store}
 
@@ -89,23 +90,23 @@ store_part at bs l h =
 
 -- ---- numbers
 
--- the bytes of a number, as code takes them out
-abbrev pub digits : ℕ → ℕ → List ℕ
-digits zero v = []
-digits (suc w) v = v / 256 ^ w % 256 ∷ digits w v
-
 pow_pos : (w : ℕ) → 0 < 256 ^ w
 pow_pos w = one-le-pow w 256 (omega arith)
 
-be_mod : (w v : ℕ) → be w (v % 256 ^ w) ≡ digits w v
+byte_is : (w v : ℕ) → v / 256 ^ w % 256 ≡ byte_at w v
+byte_is zero v = rw div-one
+byte_is (suc w) v = refl
+
+be_mod : (w v : ℕ) → be w (v % 256 ^ w) ≡ bytes_high_first w v
 unfolding be
 be_mod zero v = refl
 be_mod (suc w) v =
     let e : v % 256 ^ suc w ≡ (v / 256 ^ w % 256) * 256 ^ w + v % 256 ^ w = rw (pow-suc 256 w, mul_comm (256 ^ w) 256) (mod-mul v {m = 256} {c = 256 ^ w} (omega arith) (pow_pos w)) in
-    rw (e, digits_div (v / 256 ^ w % 256) (mod-lt v (pow_pos w)), digits_mod (v / 256 ^ w % 256) (mod-lt v (pow_pos w)), be_mod w v)
+    rw (e, digits_div (v / 256 ^ w % 256) (mod-lt v (pow_pos w)), digits_mod (v / 256 ^ w % 256) (mod-lt v (pow_pos w)), be_mod w v, byte_is w v)
 
-pub be_digits : (w v : ℕ) → v < 256 ^ w → be w v ≡ digits w v
-be_digits w v h = sym (ap (be w) (mod-eq_of_lt h)) ∙ be_mod w v
+-- the library's `to_be_bytes` takes out the same bytes
+pub be_bytes : (w v : ℕ) → v < 256 ^ w → be w v ≡ bytes_high_first w v
+be_bytes w v h = sym (ap (be w) (mod-eq_of_lt h)) ∙ be_mod w v
 
 -- a number whose first byte stands apart
 pub be_cons : (w x y : ℕ) → y < 256 ^ w → be (suc w) (x * 256 ^ w + y) ≡ x ∷ be w y
@@ -131,11 +132,3 @@ sets_puts at b bs l = puts_sets at 1 bs (set l at b) ∙ ap (λ (n : ℕ). sets 
 
 pub store_puts : (at b : ℕ) (bs l : List ℕ) → at + suc (length bs) ≤ length l → puts at 1 bs (set l at b) ≡ store at (b ∷ bs) l
 store_puts at b bs l h = sets_puts at b bs l ∙ store_sets at (b ∷ bs) l h
-
-length_digits : (w v : ℕ) → length (digits w v) ≡ w
-length_digits zero v = refl
-length_digits (suc w) v = ap suc (length_digits w v)
-
--- a number of suc w bytes, byte by byte
-pub store_number : (w at v : ℕ) (l : List ℕ) → v < 256 ^ suc w → at + suc w ≤ length l → puts at 1 (digits w v) (set l at (v / 256 ^ w % 256)) ≡ store at (be (suc w) v) l
-store_number w at v l f h = store_puts at (v / 256 ^ w % 256) (digits w v) l (rw length_digits h) ∙ ap (λ (bs : List ℕ). store at bs l) (sym (be_digits (suc w) v f))

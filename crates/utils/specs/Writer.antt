@@ -1,5 +1,5 @@
 -- What a write answers, and the first four bytes of a packet.
-use Rattle.std.specs.Prelude.{ℕ, ◌+◌, ◌-◌, ◌/◌, ◌%◌, List, [], ◌∷◌, ◌++◌, Result, Ok, Err}
+use Rattle.std.specs.Prelude.{ℕ, ◌+◌, ◌-◌, ◌/◌, List, ◌∷◌, Result, Ok, Err}
 use Rattle.rfc3550.specs.Answer.{Answer, ok, refused}
 use Rattle.rfc3550.specs.Bytes.{be}
 use Rattle.rfc3550.specs.Packet.{padding_bit}
@@ -19,11 +19,3 @@ first_byte padding low = 128 + padding_bit (padding_bytes padding) + low
 -- the type and the length in words less 1 of a packet of so many bytes
 abbrev pub header : ℕ → ℕ → ℕ → ℕ → List ℕ
 header padding low type size = first_byte padding low ∷ type ∷ be 2 (size / 4 - 1)
-
--- the four bytes of a number, least significant first
-abbrev pub reversed : ℕ → List ℕ
-reversed v = v % 256 ∷ v / 256 % 256 ∷ v / 65536 % 256 ∷ v / 16777216 % 256 ∷ []
-
--- of eight bytes
-abbrev pub reversed_eight : ℕ → List ℕ
-reversed_eight v = reversed (v % 4294967296) ++ reversed (v / 4294967296)

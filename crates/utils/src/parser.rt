@@ -1,11 +1,10 @@
 // Numbers, most significant byte first, and the header of a packet.
 ghost use Rattle.std.specs.Prelude.{◌≡◌, ◌||◌, None, ◌+◌, ◌-◌, ◌≤◌, ◌<◌, length, take, drop, eqb};
 ghost use Rattle.rfc3550.specs.Answer.{refused};
-ghost use Rattle.rfc3550.specs.Bytes.{val, be};
+ghost use Rattle.rfc3550.specs.Bytes.{val};
 ghost use Rattle.rfc3550.specs.Read.{version_in, padded, low_in, type_in, stated, check_header};
 ghost use Rattle.utils.specs.Error.{parse_refusal, value_in};
 ghost use Rattle.utils.specs.Parser.{check_padding};
-ghost use Rattle.utils.specs.Writer.{reversed};
 
 use super::error::RtcpParseError;
 
@@ -36,21 +35,6 @@ pub fn u16_from_be_bytes(s: &[u8], at: usize) -> u16
     ensures { result ≡ val (take 2 (drop at s.now)) }
 {
     u16::from_be_bytes(bytes_at(s, at))
-}
-
-// The number whose bytes, least significant first, stand at a place.
-pub fn u32_from_le_unchecked(s: &[u8], at: usize) -> u32
-    requires { at + 4 ≤ length s.now }
-    ensures { reversed result ≡ take 4 (drop at s.now) }
-{
-    u32::from_le_bytes(bytes_at(s, at))
-}
-
-// The number of the same four bytes in the other order.
-pub fn swap_bytes(v: u32) -> u32
-    ensures { reversed result ≡ be 4 v }
-{
-    v.swap_bytes()
 }
 
 pub fn u32_from_be_bytes(s: &[u8], at: usize) -> u32
