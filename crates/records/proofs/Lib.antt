@@ -1,4 +1,2 @@
-pub mod Laid
 pub mod Reports
 pub mod Injective
-pub mod Adds

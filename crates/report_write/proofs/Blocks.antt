@@ -14,10 +14,11 @@ use Rattle.rfc3550.specs.Write.{lent_blocks, blocks_agree, loss_tests}
 use Rattle.rfc3550.proofs.Answers.{and_inv}
 use Rattle.rfc3550.proofs.Bytes.{length_store}
 use Rattle.rfc3550.proofs.Writes.{length_lent_blocks}
+use Rattle.report.specs.declared.report_block.ReportBlock.{ReportBlock}
 use Rattle.report.proofs.Losses.{bits_back, by_magnitude}
 use Rattle.utils.proofs.WriterCases.{writer}
 use Rattle.utils.proofs.WriterStores.{store_nil, store_store, stores, be_cons, be_one}
-use Rattle.report_write.specs.Report.{block_lists, block_given, later_loss, tested_loss}
+use Rattle.report_write.specs.Report.{block_lists, block_of, later_loss, tested_loss}
 
 -- ---- the loss that decides
 
@@ -156,9 +157,13 @@ module _ (fs : List ℕ) (ls : List Loss) (ws : List ℕ) where
     pub agree_words : length ws ≡ 5 * length fs
     agree_words = eqb-true _ _ (and_inv (eqb (length ls) (length fs)) (eqb (length ws) (5 * length fs)) a).1
 
--- the block of index i
+-- the block of index i, with this loss
+abbrev block_given : List ℕ → List ℕ → ℕ → Loss → Block
+block_given fs ws i loss =
+    record { ssrc = get_or ws (i * 5) 0; fraction = get_or fs i 0; lost = loss; sequence = get_or ws (i * 5 + 1) 0; jitter = get_or ws (i * 5 + 2) 0; lsr = get_or ws (i * 5 + 3) 0; dlsr = get_or ws (i * 5 + 4) 0 }
+
 abbrev pub block_at : List ℕ → List Loss → List ℕ → ℕ → Block
-block_at fs ls ws i = block_given (get_or ws (i * 5) 0) (get_or fs i 0) (get_or ls i no_loss) (get_or ws (i * 5 + 1) 0) (get_or ws (i * 5 + 2) 0) (get_or ws (i * 5 + 3) 0) (get_or ws (i * 5 + 4) 0)
+block_at fs ls ws i = block_given fs ws i (get_or ls i no_loss)
 
 at_lent : (i : ℕ) (fs : List ℕ) (ls : List Loss) (ws : List ℕ) (d : Block) → i < length fs → get_or (lent_blocks fs ls ws) i d ≡ block_at fs ls ws i
 unfolding lent_blocks
@@ -194,13 +199,15 @@ loss_word f lost bits r q =
     let h : bits < 16777216 = rw q (loss_bits_lt lost) in
     rw (be_cons 3 f bits h, be_one f, q)
 
-pub block_laid : (at ssrc fraction : ℕ) (lost : Loss) (bits sequence jitter lsr dlsr : ℕ) (l l₁ l₂ l₃ l₄ l₅ l₆ : List ℕ) → at + 24 ≤ length l → mag lost < 2147483648 → bits ≡ loss_bits (to_z w32 (of_z w32 lost))
-    → l₁ ≡ store at (be 4 ssrc) l → l₂ ≡ store (at + 4) (be 4 (fraction * 16777216 + bits)) l₁ → l₃ ≡ store (at + 8) (be 4 sequence) l₂
-    → l₄ ≡ store (at + 12) (be 4 jitter) l₃ → l₅ ≡ store (at + 16) (be 4 lsr) l₄ → l₆ ≡ store (at + 20) (be 4 dlsr) l₅ → l₆ ≡ store at (put block_widths (block_fields (block_given ssrc fraction lost sequence jitter lsr dlsr))) l
+pub block_laid : (at : ℕ) (b : ReportBlock) (bits : ℕ) (l l₁ l₂ l₃ l₄ l₅ l₆ : List ℕ) → at + 24 ≤ length l → mag b.cumulative_lost < 2147483648 → bits ≡ loss_bits (to_z w32 (of_z w32 b.cumulative_lost))
+    → l₁ ≡ store at (be 4 b.ssrc) l → l₂ ≡ store (at + 4) (be 4 (b.fraction_lost * 16777216 + bits)) l₁ → l₃ ≡ store (at + 8) (be 4 b.extended_sequence_number) l₂
+    → l₄ ≡ store (at + 12) (be 4 b.interarrival_jitter) l₃ → l₅ ≡ store (at + 16) (be 4 b.last_sender_report_timestamp) l₄
+    → l₆ ≡ store (at + 20) (be 4 b.delay_since_last_sender_report_timestamp) l₅ → l₆ ≡ store at (put block_widths (block_fields (block_of b))) l
 unfolding put be
-block_laid at ssrc fraction lost bits sequence jitter lsr dlsr l l₁ l₂ l₃ l₄ l₅ l₆ h g q e₁ e₂ e₃ e₄ e₅ e₆ =
-    e₆ ∙ rw (e₅, e₄, e₃, e₂, e₁) (stores at (be 4 ssrc) (be 4 (fraction * 16777216 + bits) ∷ be 4 sequence ∷ be 4 jitter ∷ be 4 lsr ∷ be 4 dlsr ∷ []) l h)
-    ∙ ap (λ (bs : List ℕ). store at (be 4 ssrc ++ bs) l) (loss_word fraction lost bits _ (q ∙ ap loss_bits (bits_back lost g)))
+block_laid at b bits l l₁ l₂ l₃ l₄ l₅ l₆ h g q e₁ e₂ e₃ e₄ e₅ e₆ =
+    e₆
+    ∙ rw (e₅, e₄, e₃, e₂, e₁) (stores at (be 4 b.ssrc) (be 4 (b.fraction_lost * 16777216 + bits) ∷ be 4 b.extended_sequence_number ∷ be 4 b.interarrival_jitter ∷ be 4 b.last_sender_report_timestamp ∷ be 4 b.delay_since_last_sender_report_timestamp ∷ []) l h)
+    ∙ ap (λ (bs : List ℕ). store at (be 4 b.ssrc ++ bs) l) (loss_word b.fraction_lost b.cumulative_lost bits _ (q ∙ ap loss_bits (bits_back b.cumulative_lost g)))
 
 -- ---- the blocks, one after the other
 
@@ -246,7 +253,7 @@ module _ (at : ℕ) (fs : List ℕ) (ls : List Loss) (ws l : List ℕ) where
     lent_room f h = let n = length_lent_blocks fs ls ws in blocks_room at (lent_blocks fs ls ws) l i l₁ w (omega arith) (omega arith)
 
     pub lent_again : (l₂ : List ℕ) → at + length fs * 24 ≤ length l → i < length fs → mag (get_or ls i no_loss) < 2147483648
-        → l₂ ≡ store (at + i * 24) (put block_widths (block_fields (block_given (get_or ws (i * 5) 0) (get_or fs i 0) (to_z w32 (of_z w32 (get_or ls i no_loss))) (get_or ws (i * 5 + 1) 0) (get_or ws (i * 5 + 2) 0) (get_or ws (i * 5 + 3) 0) (get_or ws (i * 5 + 4) 0)))) l₁
+        → l₂ ≡ store (at + i * 24) (put block_widths (block_fields (block_given fs ws i (to_z w32 (of_z w32 (get_or ls i no_loss)))))) l₁
         → Blocks at (lent_blocks fs ls ws) l (i + 1) l₂
     lent_again l₂ f h g e =
         let b = bits_back (get_or ls i no_loss) g in

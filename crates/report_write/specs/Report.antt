@@ -4,12 +4,15 @@ use Rattle.rfc3550.specs.Answer.{Answer, ok, need, pick, ◌>>◌}
 use Rattle.rfc3550.specs.Bytes.{put, store}
 use Rattle.rfc3550.specs.Loss.{Loss, no_loss, loss_in, loss_shown, loss_most}
 use Rattle.rfc3550.specs.Packet.{Block, Reporter, receiver, sender, report, type, reporter_widths, reporter_fields}
-use Rattle.rfc3550.specs.Write.{BlockLists, Given, give_report, blocks_agree, padding_ok}
+use Rattle.rfc3550.specs.Write.{BlockLists, blocks_agree, padding_ok}
 use Rattle.utils.specs.Writer.{header}
+use Rattle.report.specs.declared.report_block.ReportBlock.{ReportBlock}
 use Rattle.report_write.specs.declared.report_block.BlockLists as code
-use Rattle.report_write.specs.declared.receiver.ReceiverReportBuilder.{ReceiverReportBuilder}
+use Rattle.report_write.specs.declared.receiver.ReceiverInfo.{ReceiverInfo}
 use Rattle.report_write.specs.declared.sender.SenderInfo.{SenderInfo}
-use Rattle.report_write.specs.declared.sender.SenderReportBuilder.{SenderReportBuilder}
+
+abbrev pub receiver_of : ReceiverInfo → Reporter
+receiver_of i = receiver i.ssrc
 
 abbrev pub sender_of : SenderInfo → Reporter
 sender_of i = sender i.ssrc i.ntp_timestamp i.rtp_timestamp i.packet_count i.octet_count
@@ -27,15 +30,8 @@ block_lists fs ls ws = record { fractions = fs; losses = ls; words = ws }
 abbrev pub lists_in : code.BlockLists → BlockLists
 lists_in l = block_lists l.fractions.now l.losses.now l.words.now
 
--- what a report is given
-abbrev pub receiver_given : ReceiverReportBuilder → Given
-receiver_given b = give_report (receiver b.ssrc) (lists_in b.blocks) b.padding
-
-abbrev pub sender_given : SenderReportBuilder → Given
-sender_given b = give_report (sender_of b.info) (lists_in b.blocks) b.padding
-
-abbrev pub block_given : ℕ → ℕ → Loss → ℕ → ℕ → ℕ → ℕ → Block
-block_given ssrc fraction lost sequence jitter lsr dlsr = record { ssrc = ssrc; fraction = fraction; lost = lost; sequence = sequence; jitter = jitter; lsr = lsr; dlsr = dlsr }
+abbrev pub block_of : ReportBlock → Block
+block_of b = record { ssrc = b.ssrc; fraction = b.fraction_lost; lost = b.cumulative_lost; sequence = b.extended_sequence_number; jitter = b.interarrival_jitter; lsr = b.last_sender_report_timestamp; dlsr = b.delay_since_last_sender_report_timestamp }
 
 -- ---- the size
 

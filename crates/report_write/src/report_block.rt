@@ -1,12 +1,12 @@
 // Report blocks, written (report_block.rs, `ReportBlockBuilder`).
-ghost use Rattle.std.specs.Prelude.{◌≡◌, true, ◌+◌, ◌*◌, ◌≤◌, length};
+ghost use Rattle.std.specs.Prelude.{◌≡◌, true, None, ◌+◌, ◌*◌, ◌≤◌, length};
+ghost use Rattle.rfc3550.specs.Answer.{refused};
 ghost use Rattle.rfc3550.specs.Bytes.{put, store};
 ghost use Rattle.rfc3550.specs.Loss.{no_loss, loss_in};
-ghost use Rattle.rfc3550.specs.Packet.{receiver, block_widths, block_fields, blocks_bytes};
-ghost use Rattle.rfc3550.specs.Write.{give_report, blocks_lent, blocks_agree, calculate_size};
-ghost use Rattle.utils.specs.Error.{or_zero, write_refusal};
-ghost use Rattle.utils.specs.Writer.{size_refusal};
-ghost use Rattle.report_write.specs.Report.{block_lists, block_given, later_loss, tested_loss, counted_size, lists_size};
+ghost use Rattle.rfc3550.specs.Packet.{block_widths, block_fields, blocks_bytes};
+ghost use Rattle.rfc3550.specs.Write as rfc;
+ghost use Rattle.utils.specs.Error.{value_in, write_refusal};
+ghost use Rattle.report_write.specs.Report.{lists_in, block_of, later_loss, tested_loss, counted_size, lists_size};
 
 use report::loss;
 use report::report_block::ReportBlock;
@@ -22,6 +22,7 @@ pub struct BlockLists<'a> {
 }
 
 // Of a loss and the next one, the first if it does not fit.
+#[tactic(auto, using(crate::proofs::Blocks::blocks))]
 pub fn later_loss(loss: i32, next: i32) -> i32
     ensures { result ≡ later_loss loss next }
 {
@@ -39,6 +40,7 @@ fn tested_loss(losses: &[i32]) -> i32
 }
 
 // The bits of the magnitudes of all losses: it fits exactly if all of them do, and is found without a branch for each.
+#[tactic(auto, using(crate::proofs::Blocks::blocks))]
 fn merged_losses(losses: &[i32]) -> i32
     ensures { loss_in result ≡ loss_in (tested_loss no_loss losses.now) }
 {
@@ -49,26 +51,29 @@ fn merged_losses(losses: &[i32]) -> i32
     bits as i32
 }
 
-// The size of a report of so many blocks with so many bytes before them; 0 where it is refused. One loss decides for all.
-pub fn size_of_count(count: usize, loss: i32, padding: u64, least: u8) -> usize
-    ensures { result ≡ or_zero (counted_size least count loss padding) }
+// The size of a report of so many blocks with so many bytes before them; None where it is refused. One loss decides for all.
+#[tactic(auto, using(crate::proofs::Reports::counts))]
+pub fn size_of_count(count: usize, loss: i32, padding: u64, least: u8) -> Option<usize>
+    ensures { result ≡ value_in (counted_size least count loss padding) }
 {
     if writer::MAX_COUNT < count {
-        return 0;
+        return None;
     }
     if !writer::check_padding(padding) {
-        return 0;
+        return None;
     }
     if !loss::check_loss(loss) {
-        return 0;
+        return None;
     }
-    least as usize + count * ReportBlock::EXPECTED_SIZE + padding as usize
+    Some(least as usize + count * ReportBlock::EXPECTED_SIZE + padding as usize)
 }
 
-// Why such a report has no size, however many bytes stand before its blocks; PacketTooLarge where it has one.
+// Why such a report is refused, however many bytes stand before its blocks.
 #[cold]
-pub fn why_count(count: usize, loss: i32, padding: u64) -> RtcpWriteError
-    ensures { write_refusal result ≡ size_refusal (counted_size 0 count loss padding) }
+#[tactic(auto, using(crate::proofs::Reports::whys))]
+pub fn why_count_unchecked(count: usize, loss: i32, padding: u64) -> RtcpWriteError
+    requires { value_in (counted_size 0 count loss padding) ≡ None }
+    ensures { refused (write_refusal result) ≡ counted_size 0 count loss padding }
 {
     if writer::MAX_COUNT < count {
         return RtcpWriteError::TooManyReportBlocks {
@@ -79,107 +84,114 @@ pub fn why_count(count: usize, loss: i32, padding: u64) -> RtcpWriteError
     if !writer::check_padding(padding) {
         return RtcpWriteError::InvalidPadding { padding };
     }
-    if !loss::check_loss(loss) {
-        return RtcpWriteError::CumulativeLostTooLarge {
-            value: loss::loss_shown(loss),
-            max: loss::MAX_LOSS,
-        };
+    RtcpWriteError::CumulativeLostTooLarge {
+        value: loss::loss_shown(loss),
+        max: loss::MAX_LOSS,
     }
-    RtcpWriteError::PacketTooLarge
 }
 
-// There are one loss and five words for each fraction.
-fn check_lists(fractions: &[u8], losses: &[i32], words: &[u32]) -> bool
-    ensures { result ≡ blocks_agree (block_lists fractions.now losses.now words.now) }
-{
-    let n = fractions.len();
-    if losses.len() != n {
-        return false;
-    }
-    if words.len() % 5 != 0 {
-        return false;
-    }
-    words.len() / 5 == n
-}
-
-// The size of a report of lent blocks with so many bytes before them; 0 where it is refused.
-pub fn size_of(fractions: &[u8], losses: &[i32], words: &[u32], padding: u64, least: u8) -> usize
-    ensures { result ≡ or_zero (lists_size least (block_lists fractions.now losses.now words.now) padding) }
-{
-    let n = fractions.len();
-    if writer::MAX_COUNT < n {
-        return 0;
-    }
-    if losses.len() != n {
-        return 0;
-    }
-    if words.len() != n * ReportBlock::WORDS {
-        return 0;
-    }
-    size_of_count(n, merged_losses(losses), padding, least)
-}
-
-// Why a report of lent blocks has no size, whoever reports; PacketTooLarge where it has one.
-#[cold]
-pub fn why_size(fractions: &[u8], losses: &[i32], words: &[u32], padding: u64) -> RtcpWriteError
-    ensures { write_refusal result ≡ size_refusal (calculate_size (give_report (receiver 0) (block_lists fractions.now losses.now words.now) padding)) }
-{
-    if !check_lists(fractions, losses, words) {
-        return RtcpWriteError::ListsDisagree;
-    }
-    why_count(fractions.len(), tested_loss(losses), padding)
-}
-
-// Lays a block of these seven numbers at index at: fraction lost and the 24 bits of cumulative lost are one word.
-pub fn write_block_unchecked(
-    buf: &mut [u8],
-    at: usize,
-    ssrc: u32,
-    fraction: u8,
-    loss: i32,
-    sequence: u32,
-    jitter: u32,
-    lsr: u32,
-    dlsr: u32,
-)
+// Lays a block at index at: fraction lost and the 24 bits of cumulative lost are one word.
+#[tactic(auto, using(crate::proofs::Blocks::blocks))]
+pub fn write_block_unchecked(buf: &mut [u8], at: usize, block: ReportBlock)
     requires { at + 24 ≤ length buf.old }
-    ensures { buf.new ≡ store at (put block_widths (block_fields (block_given ssrc fraction loss sequence jitter lsr dlsr))) buf.old }
+    ensures { buf.new ≡ store at (put block_widths (block_fields (block_of block))) buf.old }
 {
-    writer::write_u32_unchecked(buf, at, ssrc);
-    writer::write_u32_unchecked(
-        buf,
-        at + 4,
-        fraction as u32 * 16777216 + loss::loss_bits(loss),
-    );
-    writer::write_u32_unchecked(buf, at + 8, sequence);
-    writer::write_u32_unchecked(buf, at + 12, jitter);
-    writer::write_u32_unchecked(buf, at + 16, lsr);
-    writer::write_u32_unchecked(buf, at + 20, dlsr);
+    let loss = block.fraction_lost as u32 * 16777216 + loss::loss_bits(block.cumulative_lost);
+    writer::write_u32_unchecked(buf, at, block.ssrc);
+    writer::write_u32_unchecked(buf, at + 4, loss);
+    writer::write_u32_unchecked(buf, at + 8, block.extended_sequence_number);
+    writer::write_u32_unchecked(buf, at + 12, block.interarrival_jitter);
+    writer::write_u32_unchecked(buf, at + 16, block.last_sender_report_timestamp);
+    writer::write_u32_unchecked(buf, at + 20, block.delay_since_last_sender_report_timestamp);
 }
 
-// Lays the blocks of lists that agree from index at on.
-pub fn write_blocks_unchecked(
-    buf: &mut [u8],
-    at: usize,
-    fractions: &[u8],
-    losses: &[i32],
-    words: &[u32],
-)
-    requires { (blocks_agree (block_lists fractions.now losses.now words.now) ≡ true) × (at + length fractions.now * 24 ≤ length buf.old) }
-    ensures { buf.new ≡ store at (blocks_bytes (blocks_lent (block_lists fractions.now losses.now words.now))) buf.old }
-{
-    for (i, fraction) in fractions.iter().enumerate() {
-        let k = i * ReportBlock::WORDS;
-        write_block_unchecked(
-            buf,
-            at + i * ReportBlock::EXPECTED_SIZE,
-            words[k],
-            *fraction,
-            losses[i],
-            words[k + 1],
-            words[k + 2],
-            words[k + 3],
-            words[k + 4],
-        );
+// The blocks of a report, however they are lent.
+pub trait ReportBlocks: Copy {
+    // The lists that hold the same blocks.
+    ghost lists: { Self → rfc.BlockLists };
+
+    // How many they are.
+    fn count(self) -> usize
+        ensures { result ≡ length (lists self).fractions };
+
+    // The size of a report of them with so many bytes before them; None where it is refused.
+    fn size_of(self, padding: u64, least: u8) -> Option<usize>
+        ensures { result ≡ value_in (lists_size least (lists self) padding) };
+
+    // Why such a report is refused, however many bytes stand before them.
+    fn why_size_unchecked(self, padding: u64) -> RtcpWriteError
+        requires { value_in (lists_size 0 (lists self) padding) ≡ None }
+        ensures { refused (write_refusal result) ≡ lists_size 0 (lists self) padding };
+
+    // Lays them from index at on, where they agree.
+    fn write_blocks_unchecked(self, buf: &mut [u8], at: usize)
+        requires { (rfc.blocks_agree (lists self) ≡ true) × (at + length (lists self).fractions * 24 ≤ length buf.old) }
+        ensures { buf.new ≡ store at (blocks_bytes (rfc.blocks_lent (lists self))) buf.old };
+}
+
+impl BlockLists<'_> {
+    // There are one loss and five words for each fraction.
+    #[tactic(auto, using(crate::proofs::Blocks::blocks))]
+    fn agree(self) -> bool
+        ensures { result ≡ rfc.blocks_agree (lists_in self.entry) }
+    {
+        let n = self.fractions.len();
+        if self.losses.len() != n {
+            return false;
+        }
+        if self.words.len() % ReportBlock::WORDS != 0 {
+            return false;
+        }
+        self.words.len() / ReportBlock::WORDS == n
+    }
+}
+
+impl ReportBlocks for BlockLists<'_> {
+    ghost lists = { lists_in };
+
+    fn count(self) -> usize {
+        self.fractions.len()
+    }
+
+    #[tactic(auto, using(crate::proofs::Reports::reports))]
+    fn size_of(self, padding: u64, least: u8) -> Option<usize> {
+        // Once the number is tested, the words are compared with a product: `agree` divides, since a product may be past 64 bits.
+        let n = self.fractions.len();
+        if writer::MAX_COUNT < n {
+            return None;
+        }
+        if self.losses.len() != n {
+            return None;
+        }
+        if self.words.len() != n * ReportBlock::WORDS {
+            return None;
+        }
+        size_of_count(n, merged_losses(self.losses), padding, least)
+    }
+
+    #[cold]
+    #[tactic(auto, using(crate::proofs::Reports::reports))]
+    fn why_size_unchecked(self, padding: u64) -> RtcpWriteError {
+        if !self.agree() {
+            return RtcpWriteError::ListsDisagree;
+        }
+        why_count_unchecked(self.fractions.len(), tested_loss(self.losses), padding)
+    }
+
+    #[tactic(auto, using(crate::proofs::Blocks::blocks))]
+    fn write_blocks_unchecked(self, buf: &mut [u8], at: usize) {
+        for (i, fraction) in self.fractions.iter().enumerate() {
+            let k = i * ReportBlock::WORDS;
+            let block = ReportBlock {
+                ssrc: self.words[k],
+                fraction_lost: *fraction,
+                cumulative_lost: self.losses[i],
+                extended_sequence_number: self.words[k + 1],
+                interarrival_jitter: self.words[k + 2],
+                last_sender_report_timestamp: self.words[k + 3],
+                delay_since_last_sender_report_timestamp: self.words[k + 4],
+            };
+            write_block_unchecked(buf, at + i * ReportBlock::EXPECTED_SIZE, block);
+        }
     }
 }

@@ -5,8 +5,9 @@ use super::print::numbers;
 use super::row::Row;
 use super::write::{Blocks, Request};
 use compound_write::writer::{Call, Writer};
-use records::Reporter;
+use records::{Records, RecordsBuilder};
 use report::report_block::ReportBlock;
+use report_write::reporter::Reporter;
 use rtcp::write_result::RtcpWritten;
 use sdes::sdes::ChunkWalk;
 use sdes_chunk::chunk::SdesChunk;
@@ -14,6 +15,7 @@ use sdes_walk::SdesWalk;
 use std::alloc::{AllocError, Global};
 use std::io;
 use utils::error::{Code, RtcpParseError};
+use utils::packet_writer::RtcpPacketWriter;
 
 // So many blocks are lent at most.
 const MOST: usize = 33;
@@ -74,22 +76,24 @@ fn writer_in(state: &[u64; 4]) -> Writer {
 pub fn report(
     request: &mut Request,
     way: Way,
-    reporter: Reporter,
+    reporter: impl Reporter,
     blocks: &Blocks,
 ) -> io::Result<()> {
     let padding = blocks.padding;
-    let blocks = records(blocks)?;
+    let records = records(blocks)?;
+    let report = RecordsBuilder {
+        reporter,
+        blocks: Records { blocks: &records },
+        padding,
+    };
     match way {
         Way::Alone => {
-            let size = records::calculate_size(reporter, &blocks, padding);
-            RtcpWritten::from(size).print(request.to)?;
-            let answer = records::write_into(request.buf, reporter, &blocks, padding);
-            RtcpWritten::from(answer).print(request.to)
+            RtcpWritten::from(report.calculate_size()).print(request.to)?;
+            RtcpWritten::from(report.write_into(request.buf)).print(request.to)
         }
         Way::Added => {
             let writer = writer_in(request.writer);
-            let call = records::add_report(writer, request.buf, reporter, &blocks, padding);
-            called(request.to, call)
+            called(request.to, writer.add(request.buf, report))
         }
     }
 }

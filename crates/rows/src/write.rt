@@ -5,7 +5,7 @@ use super::forms;
 use super::operation::{Packet, Way, Writing};
 use super::print::{bytes, numbers};
 use super::row::{Row, SPACE};
-use records::Reporter;
+use report_write::receiver::ReceiverInfo;
 use report_write::sender::SenderInfo;
 use rtcp::write_compound::RtcpCall;
 use rtcp::{read_lookup, write_app, write_bye, write_compound, write_report, write_sdes};
@@ -254,11 +254,13 @@ impl Request<'_, '_> {
             Packet::Bye => self.bye(way),
             Packet::App => self.app(way),
             Packet::RrRecords => {
-                let reporter = Reporter::Receiver(self.row.number(2));
+                let reporter = ReceiverInfo {
+                    ssrc: self.row.number(2),
+                };
                 forms::report(self, way, reporter, &Blocks::of_rr(self.row)?)
             }
             Packet::SrRecords => {
-                let reporter = Reporter::Sender(sender_info(self.row));
+                let reporter = sender_info(self.row);
                 forms::report(self, way, reporter, &Blocks::of_sr(self.row)?)
             }
         }

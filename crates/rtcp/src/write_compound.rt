@@ -15,7 +15,7 @@ use app::write::AppBuilder;
 use bye::write::ByeBuilder;
 use chunk_write::chunks::ItemLists;
 use compound_write::writer::{Call, Writer};
-use report_write::receiver::ReceiverReportBuilder;
+use report_write::receiver::{ReceiverInfo, ReceiverReportBuilder};
 use report_write::report_block::BlockLists;
 use report_write::sender::{SenderInfo, SenderReportBuilder};
 use sdes_write::SdesBuilder;
@@ -96,7 +96,7 @@ pub fn rtcp_writer_add_rr(
         words,
     };
     let rr = ReceiverReportBuilder {
-        ssrc,
+        reporter: ReceiverInfo { ssrc },
         blocks,
         padding,
     };
@@ -119,7 +119,7 @@ pub fn rtcp_writer_add_sr(
     ensures { (result, writer.new, buf.new) ≡ call_with_buffer writer.old (call (add (give_report (sender ssrc ntp_timestamp rtp_timestamp packet_count octet_count) (block_lists fractions.now losses.now words.now) padding)) (writer_in writer.old) buf.old) }
 {
     let w = writer_in(writer);
-    let info = SenderInfo {
+    let reporter = SenderInfo {
         ssrc,
         ntp_timestamp,
         rtp_timestamp,
@@ -132,7 +132,7 @@ pub fn rtcp_writer_add_sr(
         words,
     };
     let sr = SenderReportBuilder {
-        info,
+        reporter,
         blocks,
         padding,
     };

@@ -6,7 +6,7 @@ ghost use Rattle.report_write.specs.Report.{block_lists};
 ghost use Rattle.rtcp.specs.WriteResult.{written_result, written_with_buffer};
 
 use super::write_result::RtcpWritten;
-use report_write::receiver::ReceiverReportBuilder;
+use report_write::receiver::{ReceiverInfo, ReceiverReportBuilder};
 use report_write::report_block::BlockLists;
 use report_write::sender::{SenderInfo, SenderReportBuilder};
 use utils::packet_writer::RtcpPacketWriter;
@@ -27,7 +27,7 @@ pub fn rtcp_rr_write(
         words,
     };
     let report = ReceiverReportBuilder {
-        ssrc,
+        reporter: ReceiverInfo { ssrc },
         blocks,
         padding,
     };
@@ -45,7 +45,7 @@ pub fn rtcp_rr_size(fractions: &[u8], losses: &[i32], words: &[u32], padding: u6
         words,
     };
     let report = ReceiverReportBuilder {
-        ssrc: 0,
+        reporter: ReceiverInfo { ssrc: 0 },
         blocks,
         padding,
     };
@@ -66,7 +66,7 @@ pub fn rtcp_sr_write(
 ) -> RtcpWritten
     ensures { (result, buf.new) ≡ written_with_buffer (write (give_report (sender ssrc ntp_timestamp rtp_timestamp packet_count octet_count) (block_lists fractions.now losses.now words.now) padding) buf.old) }
 {
-    let info = SenderInfo {
+    let reporter = SenderInfo {
         ssrc,
         ntp_timestamp,
         rtp_timestamp,
@@ -79,7 +79,7 @@ pub fn rtcp_sr_write(
         words,
     };
     let report = SenderReportBuilder {
-        info,
+        reporter,
         blocks,
         padding,
     };
@@ -91,7 +91,7 @@ pub fn rtcp_sr_write(
 pub fn rtcp_sr_size(fractions: &[u8], losses: &[i32], words: &[u32], padding: u64) -> RtcpWritten
     ensures { (ssrc ntp rtp packets octets : ℕ) → result ≡ written_result (calculate_size (give_report (sender ssrc ntp rtp packets octets) (block_lists fractions.now losses.now words.now) padding)) }
 {
-    let info = SenderInfo {
+    let reporter = SenderInfo {
         ssrc: 0,
         ntp_timestamp: 0,
         rtp_timestamp: 0,
@@ -104,7 +104,7 @@ pub fn rtcp_sr_size(fractions: &[u8], losses: &[i32], words: &[u32], padding: u6
         words,
     };
     let report = SenderReportBuilder {
-        info,
+        reporter,
         blocks,
         padding,
     };

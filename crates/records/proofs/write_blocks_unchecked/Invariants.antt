@@ -1,6 +1,0 @@
-use Rattle.report_write.proofs.Blocks.{Blocks}
-use Rattle.records.specs.Records.{records_of}
-use Rattle.records.proofs.write_blocks_unchecked.Given as goal
-
-abbrev pub invariant-loop-i : goal.invariant-loop-i
-invariant-loop-i l = Blocks l.at (records_of l.b-items) l.initial.buf l.i l.buf
