@@ -1,24 +1,24 @@
 // The compound writer. It holds the length so far, and the buffer is lent again at each call.
-ghost use Rattle.std.specs.Prelude.{◌≡◌, ◌||◌, [], ◌+◌, ◌^◌, ◌<◌, ltb};
-ghost use Rattle.rfc3550.specs.Answer.{ok, refused, capped};
+ghost use Rattle.std.specs.Prelude.{◌≡◌, ◌||◌, None, [], ◌+◌, ◌^◌, ◌<◌, ltb};
+ghost use Rattle.rfc3550.specs.Answer.{ok, refused};
 ghost use Rattle.rfc3550.specs.Packet.{is_report};
-ghost use Rattle.rfc3550.specs.Writer.{fresh, add, close, call};
+ghost use Rattle.rfc3550.specs.Writer.{fresh, add, add_tests, close, call};
 ghost use Rattle.utils.specs.Writer.{written_of};
-ghost use Rattle.utils.specs.Error.{write_refusal};
-ghost use Rattle.compound_write.specs.Writer.{writer_of, call_of, admits, why_not, advanced};
+ghost use Rattle.utils.specs.Error.{value_in, write_refusal};
+ghost use Rattle.compound_write.specs.Writer.{writer_of, call_of, size_added, advanced};
 
 use report::receiver::ReceiverReport;
 use report::report::Report;
 use report::sender::SenderReport;
 use utils::error::RtcpWriteError;
 use utils::packet_writer::RtcpPacketWriter;
-use utils::parser::either;
 
 #[derive(Clone, Copy)]
 pub struct Writer {
     pub len: usize,
     pub padded: bool,
     pub cname: bool,
+    // No Option: what stands beside it says something in both cases.
     pub closed: bool,
 }
 
@@ -29,14 +29,8 @@ pub struct Call {
     pub writer: Writer,
 }
 
-// A sum past 64 bits is given as 2^64 - 1.
-fn capped_sum(a: u64, b: u64) -> u64
-    ensures { result ≡ capped (a + b) }
-{
-    a.saturating_add(b)
-}
-
 // Where a packet of this type may stand: behind another, or first if it is a report.
+#[tactic(auto, using(crate::proofs::Writers::starts))]
 fn may_start(len: usize, packet_type: u8) -> bool
     ensures { result ≡ (ltb 0 len || is_report packet_type) }
 {
@@ -61,39 +55,36 @@ impl Writer {
         }
     }
 
-    // Whether a packet of this type and size may be laid down in so much space. Its size is 0 where its own order refuses it.
-    pub fn admit(self, packet_type: u8, size: usize, space: usize) -> bool
-        ensures { result ≡ admits (writer_of self) packet_type size space }
+    // The size of the packet, where it may be laid down in so much space.
+    #[tactic(auto, using(crate::proofs::Writers::admits))]
+    #[inline(always)]
+    pub fn admit<P: RtcpPacketWriter>(self, packet: P, space: usize) -> Option<usize>
+        ensures { result ≡ value_in (size_added (writer_of self) (P.given packet) space) }
     {
-        if self.closed {
-            return false;
+        if self.closed || self.padded {
+            return None;
         }
-        if self.padded {
-            return false;
+        if !may_start(self.len, packet.packet_type()) {
+            return None;
         }
-        let len = self.len;
-        if !may_start(len, packet_type) {
-            return false;
+        let size = packet.size_of()?;
+        if space < self.len {
+            return None;
         }
-        if size == 0 {
-            return false;
+        let room = space - self.len;
+        if room < size {
+            return None;
         }
-        if space < len {
-            return false;
-        }
-        size <= space - len
+        Some(size)
     }
 
-    // Why it may not: 26, 29, 27, the packet's own refusal, then 10.
+    // Why it may not: 26, 29, 27, the packet's own refusal, then 10. A sum past 64 bits is given as 2^64 - 1.
     #[cold]
-    pub fn why(
-        self,
-        packet_type: u8,
-        size: usize,
-        own: RtcpWriteError,
-        space: usize,
-    ) -> RtcpWriteError
-        ensures { write_refusal result ≡ why_not (writer_of self) packet_type size (write_refusal own) space }
+    #[tactic(auto, using(crate::proofs::Writers::refuses))]
+    #[inline(always)]
+    pub fn why_unchecked<P: RtcpPacketWriter>(self, packet: P, space: usize) -> RtcpWriteError
+        requires { value_in (add_tests (writer_of self) (P.given packet) space) ≡ None }
+        ensures { refused (write_refusal result) ≡ add_tests (writer_of self) (P.given packet) space }
     {
         if self.closed {
             return RtcpWriteError::WriterClosed;
@@ -101,17 +92,17 @@ impl Writer {
         if self.padded {
             return RtcpWriteError::AlreadyPadded;
         }
-        let len = self.len;
-        if !may_start(len, packet_type) {
+        if !may_start(self.len, packet.packet_type()) {
             return RtcpWriteError::FirstPacketNoReport;
         }
-        if size == 0 {
-            return own;
+        let Some(size) = packet.size_of() else {
+            return packet.why_size_unchecked();
+        };
+        let len = self.len as u64;
+        if space < self.len {
+            return RtcpWriteError::OutputTooSmall(len);
         }
-        if space < len {
-            return RtcpWriteError::OutputTooSmall(len as u64);
-        }
-        RtcpWriteError::OutputTooSmall(capped_sum(len as u64, size as u64))
+        RtcpWriteError::OutputTooSmall(len.saturating_add(size as u64))
     }
 
     // A refusal leaves the writer as it was.
@@ -134,28 +125,28 @@ impl Writer {
             writer: Writer {
                 len: self.len + size,
                 padded: 0 < padding,
-                cname: either(self.cname, cname),
+                cname: self.cname || cname,
                 ..self
             },
         }
     }
 
     // Lays the packet behind those that are there.
+    #[tactic(auto, using(crate::proofs::Writers::rooms))]
     #[inline(always)]
     pub fn add<P: RtcpPacketWriter>(self, buf: &mut [u8], packet: P) -> Call
         ensures { (written_of result.answer, writer_of result.writer, buf.new) ≡ call (add (P.given packet)) (writer_of self) buf.old }
     {
-        let packet_type = packet.packet_type();
-        let size = packet.size_of();
-        if !self.admit(packet_type, size, buf.len()) {
-            return self.refuse(self.why(packet_type, size, packet.why_size(), buf.len()));
-        }
+        let Some(size) = self.admit(packet, buf.len()) else {
+            return self.refuse(self.why_unchecked(packet, buf.len()));
+        };
         let at = self.len;
         packet.write_into_unchecked(&mut buf[at..], size);
         self.advance_unchecked(size, packet.padding(), packet.has_cname())
     }
 
     // 26, then 28.
+    #[tactic(auto, using(crate::proofs::Writers::closes))]
     pub fn close(self) -> Call
         ensures { (written_of result.answer, writer_of result.writer, []) ≡ call close (writer_of self) [] }
     {
