@@ -36,7 +36,7 @@ struct Place {
     at: usize,
 }
 
-// The first place of the chunk that starts here. Behind the last chunk there is no SSRC.
+// The first place of the chunk that starts here. Behind the last chunk there is no SSRC, and none is asked for: a place there ends the walk.
 fn chunk_place(body: &[u8], start: usize) -> Place
     requires { start ≤ 262148 }
     ensures { result ≡ chunk_place body.now start }

@@ -627,6 +627,8 @@ module _ (s : List ℕ) where
   chunk_parsed c e = value_is (map_ok chunk_first (read_chunk s)) c e
 
 -- the whole, and its parts where one of them is enough
+pub ruleset whys = (rules, boundary_is, why_short, chunk_within, chunk_inside, chunk_zero, why_ended, item_asked, why_item, why_zeros)
+
 pub ruleset ends_of_chunks = (rules, not-true, not-false, none_short, none_open, none_cut, none_zeros, chunk_ends, chunk_within, chunk_inside, chunk_zero)
 
 pub ruleset chunks = (rules, not-true, not-false, boundary_is, cname_here, cname_none, zero_behind, zero_inside, items_start, items_halt, items_rest, items_inside, items_after, items_two, items_less, items_again, zeros_behind, zeros_below, zeros_short, zeros_stop, zeros_more, zeros_all, filled_one, second_inside, second_not, filled_two, third_inside, third_not, filled_three, fourth_inside, filled_last, chunk_within, chunk_inside, chunk_zero, none_short, why_short, none_open, none_cut, why_ended, item_asked, why_item, none_zeros, why_zeros, chunk_ends, run_start, run_inside, run_done, run_refused, run_fits, run_again, lone_refused, lone_long, lone_read, chunk_none, chunk_refused, chunk_parsed)

@@ -207,6 +207,7 @@ impl SdesChunk {
 
     // Why a chunk that is refused is.
     #[cold]
+    #[tactic(auto, using(crate::proofs::Chunks::whys))]
     pub fn why_unchecked(rest: &[u8]) -> RtcpParseError
         requires { value_in (read_chunk rest.now) ≡ None }
         ensures { refused (parse_refusal result) ≡ read_chunk rest.now }

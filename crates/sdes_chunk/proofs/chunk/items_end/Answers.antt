@@ -1,5 +1,5 @@
 use Rattle.rfc3550.proofs.Prelude.{rules}
-use Rattle.sdes_chunk.proofs.Chunks.{chunks, items_halt, items_after, items_two, items_less}
+use Rattle.sdes_chunk.proofs.Chunks.{items_halt, items_after, items_two, items_less, items_rest}
 use Rattle.sdes_chunk.proofs.chunk.items_end.Goals as goal
 
 pub overflow_sub-end : goal.overflow_sub-end
@@ -15,4 +15,4 @@ pub loop-at-smaller : goal.loop-at-smaller
 loop-at-smaller c = items_less _ _ _ _ c.loop-at.invariant _ c.in-Some.ensures
 
 pub returns : goal.returns
-returns c = search chunks
+returns c = items_rest _ _ _ _ c.loop-at.invariant _ c.loop-at-test.false c.zero_at-closed.ensures
