@@ -42,6 +42,7 @@ fn report_first(first: bool, packet_type: u8) -> bool
 }
 
 // The packet's length by the steps of its frame; 0 where one refuses.
+#[tactic(auto, using(crate::proofs::Compounds::frames))]
 fn frame_len(rest: &[u8], first: bool) -> usize
     ensures { result ≡ or_zero (frame first rest.now) }
 {
@@ -66,6 +67,7 @@ fn frame_len(rest: &[u8], first: bool) -> usize
 
 // Why it is 0; NothingLeft where it is not.
 #[cold]
+#[tactic(auto, using(crate::proofs::Compounds::frames))]
 fn why_frame(rest: &[u8], first: bool) -> RtcpParseError
     ensures { parse_refusal result ≡ refusal_in (frame first rest.now) }
 {
@@ -97,6 +99,7 @@ fn why_frame(rest: &[u8], first: bool) -> RtcpParseError
 }
 
 // The length of the packet at a place of a datagram, by the steps of its frame; 0 where none is left, or a step refuses.
+#[tactic(auto, using(crate::proofs::Compounds::compounds))]
 pub fn packet_len(s: &[u8], at: usize) -> usize
     ensures { result ≡ or_zero (frame_at s.now at) }
 {
@@ -108,6 +111,7 @@ pub fn packet_len(s: &[u8], at: usize) -> usize
 
 // Why packet_len is 0; NothingLeft where it is not.
 #[cold]
+#[tactic(auto, using(crate::proofs::Compounds::compounds))]
 pub fn why_len(s: &[u8], at: usize) -> RtcpParseError
     ensures { parse_refusal result ≡ refusal_in (frame_at s.now at) }
 {
@@ -118,6 +122,7 @@ pub fn why_len(s: &[u8], at: usize) -> RtcpParseError
 }
 
 // Whether the packet at the start of the bytes left has a CNAME, and its length.
+#[tactic(auto, using(crate::proofs::Compounds::frames))]
 fn check_packet(rest: &[u8], first: bool) -> Result<(bool, usize), RtcpParseError>
     ensures { parsed_of result ≡ map_ok (with_length has_cname rest.now) (read_packet first rest.now) }
 {
@@ -141,6 +146,7 @@ impl Compound {
     // How many numbers of a lent list one packet takes.
     pub const PACKET_ROW: usize = 3;
 
+    #[tactic(auto, using(crate::proofs::Compounds::compounds))]
     pub fn parse(s: &[u8]) -> Result<Compound, RtcpParseError>
         ensures { parsed_of result ≡ map_ok compound_view (read_compound s.now) }
     {
@@ -167,6 +173,7 @@ impl Compound {
     }
 
     // Three numbers for each packet, in order, into a lent list: its type, its offset in the datagram and its length.
+    #[tactic(auto, using(crate::proofs::Listing::listings))]
     pub fn packets(s: &[u8], packets: &mut [u64]) -> Result<usize, ListError>
         ensures { (listed_of result, packets.new) ≡ lay_list (map_ok packet_rows (read_compound s.now)) packets.old }
     {
@@ -181,6 +188,7 @@ impl Compound {
 }
 
 // The three numbers of the packet at a place, into a list from index to on, and the packet's length.
+#[tactic(auto, using(crate::proofs::Listing::listings))]
 fn list_packet_unchecked(s: &[u8], at: usize, list: &mut [u64], to: usize) -> usize
     requires { (at + 4 ≤ length s.now) × (to + 3 ≤ length list.old) }
     ensures { (result ≡ stated (drop at s.now)) × (list.new ≡ store to (type_in (drop at s.now) ∷ at ∷ result ∷ []) list.old) }
@@ -194,6 +202,7 @@ fn list_packet_unchecked(s: &[u8], at: usize, list: &mut [u64], to: usize) -> us
 }
 
 // The packets of an accepted datagram, into a list that is long enough.
+#[tactic(auto, using(crate::proofs::Listing::listings))]
 fn list_all_unchecked(s: &[u8], compound: Compound, list: &mut [u64])
     requires { (map_ok compound_view (read_compound s.now) ≡ ok compound) × (compound.n_packets * 3 ≤ length list.old) }
     ensures { (ok (compound.n_packets * 3), list.new) ≡ lay_list (map_ok packet_rows (read_compound s.now)) list.old }
@@ -212,6 +221,7 @@ pub struct Walk {
 
 impl Walk {
     // Opens only on an accepted datagram.
+    #[tactic(auto, using(crate::proofs::Compounds::compounds))]
     pub fn open(s: &[u8]) -> Result<Walk, RtcpParseError>
         ensures { parsed_of result ≡ map_ok walk_at (open_walk s.now) }
     {
@@ -220,6 +230,7 @@ impl Walk {
     }
 
     // The packet at the walk's place, and the walk after it.
+    #[tactic(auto, using(crate::proofs::Compounds::compounds))]
     pub fn step(self, s: &[u8]) -> Result<(Packet, Walk), RtcpParseError>
         ensures { parsed_of result ≡ map_ok step_view (step s.now self.at) }
     {

@@ -21,6 +21,7 @@ pub enum Kind {
     Unknown,
 }
 
+#[tactic(auto, using(crate::proofs::PacketKinds::kinds_by_type))]
 pub fn kind_of(s: &[u8]) -> Kind
     ensures { kind_in result ≡ kind_of (type_in s.now) (low_in s.now) }
 {

@@ -65,6 +65,7 @@ impl Packet {
     }
 
     // Whether the packet has a CNAME; None where it is refused.
+    #[tactic(auto, using(crate::proofs::Packets::verdicts))]
     pub fn verdict(s: &[u8]) -> Option<bool>
         ensures { result ≡ value_or None verdict (read_as (kind_of (type_in s.now) (low_in s.now)) s.now) }
     {

@@ -22,6 +22,7 @@ impl Unknown {
     pub const MIN_PACKET_LEN: usize = 4;
 
     // All 0, where the packet is refused.
+    #[tactic(auto, using(crate::proofs::Unknowns::unknowns))]
     pub fn read(s: &[u8]) -> Unknown
         ensures { result ≡ value_or no_unknown unknown_view (read_as UNKNOWN s.now) }
     {
@@ -44,6 +45,7 @@ impl Unknown {
 
     // Why it is refused; NothingLeft where it is not.
     #[cold]
+    #[tactic(auto, using(crate::proofs::Unknowns::unknowns))]
     pub fn why(s: &[u8]) -> RtcpParseError
         ensures { parse_refusal result ≡ refusal_in (read_as UNKNOWN s.now) }
     {

@@ -12,8 +12,5 @@ list_packet_unchecked-at-requires c = search listings
 pub overflow_add-at : goal.overflow_add-at
 overflow_add-at c = search listings
 
-pub loop-i-preserved : goal.loop-i-preserved
-loop-i-preserved c = search listings
-
 pub returns : goal.returns
 returns c = search listings

@@ -1,5 +1,4 @@
 use Rattle.rfc3550.proofs.Prelude.{arith, length-set}
-use Rattle.compound.proofs.Listing.{listings}
 use Rattle.compound.proofs.compound.list_packet_unchecked.Goals as goal
 
 pub bounds-list-to-2 : goal.bounds-list-to-2
@@ -7,6 +6,3 @@ bounds-list-to-2 c = simp length-set (omega arith)
 
 pub bounds-list-to-3 : goal.bounds-list-to-3
 bounds-list-to-3 c = simp length-set (omega arith)
-
-pub returns : goal.returns
-returns c = search listings

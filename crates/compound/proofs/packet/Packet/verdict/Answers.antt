@@ -1,12 +1,6 @@
 use Rattle.compound.proofs.Packets.{verdicts}
 use Rattle.compound.proofs.packet.Packet.verdict.Goals as goal
 
-pub returns-in-Sr : goal.returns-in-Sr
-returns-in-Sr c = search verdicts
-
-pub returns-in-Rr : goal.returns-in-Rr
-returns-in-Rr c = search verdicts
-
 pub returns-in-Bye : goal.returns-in-Bye
 returns-in-Bye c = search verdicts
 
