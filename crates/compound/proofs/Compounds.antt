@@ -8,11 +8,11 @@ use Rattle.rfc3550.specs.Compound.{read_packet, read_packets, read_compound}
 use Rattle.rfc3550.specs.Walk.{open_walk, step}
 use Rattle.rfc3550.proofs.Answers.{true≢false, need_inv, ok_injective, map_ok_inv, or_assoc}
 use Rattle.rfc3550.proofs.Compounds.{packet_span, packets_turns}
-use Rattle.utils.specs.Error.{refusal_in, value_or, or_zero}
+use Rattle.utils.specs.Error.{value_in}
 use Rattle.utils.proofs.Reading.{map_ok_refused}
 use Rattle.utils.proofs.Errors.{parse_handed}
-use Rattle.utils.proofs.Values.{number_came}
-use Rattle.compound.specs.Packet.{packet_view, verdict}
+use Rattle.utils.proofs.Values.{value_is, none_below}
+use Rattle.compound.specs.Packet.{packet_view}
 use Rattle.compound.specs.Compound.{padding_last, report_first, frame, frame_at, with_length, compound_view, walk_at, step_view}
 use Rattle.compound.specs.declared.packet.Packet.{Packet}
 use Rattle.compound.specs.declared.compound.Compound.{Compound}
@@ -40,69 +40,59 @@ module _ (t : ℕ) where
 -- ---- the frame
 
 module _ (first : Bool) (s : List ℕ) where
-  frame_short : length s < 4 → refuse 2 4 (length s) ≡ frame first s
+  pub frame_short : length s < 4 → refuse 2 4 (length s) ≡ frame first s
   unfolding frame need ◌>>◌
   frame_short h = simp (lt-leb _ _ h)
 
-  pub frame_short_len : length s < 4 → 0 ≡ or_zero (frame first s)
-  frame_short_len h = ap or_zero (frame_short h)
-
-  pub frame_short_why : length s < 4 → refusal 2 4 (length s) ≡ refusal_in (frame first s)
-  frame_short_why h = ap refusal_in (frame_short h)
+  pub frame_short_none : length s < 4 → None ≡ value_in (frame first s)
+  frame_short_none h = ap value_in (frame_short h)
 
   module _ (v : ℕ) (h : 4 ≤ length s) (e : v ≡ version_in s) where
-    frame_version : (v ≡ 2 → ⊥) → refuse 1 v 0 ≡ frame first s
+    pub frame_version : (v ≡ 2 → ⊥) → refuse 1 v 0 ≡ frame first s
     unfolding frame need ◌>>◌
     frame_version w = simp (le-leb _ _ h, ← e, ne_eqb _ _ w)
 
-    pub frame_version_len : (v ≡ 2 → ⊥) → 0 ≡ or_zero (frame first s)
-    frame_version_len w = ap or_zero (frame_version w)
-
-    pub frame_version_why : (v ≡ 2 → ⊥) → refusal 1 v 0 ≡ refusal_in (frame first s)
-    frame_version_why w = ap refusal_in (frame_version w)
+    pub frame_version_none : (v ≡ 2 → ⊥) → None ≡ value_in (frame first s)
+    frame_version_none w = ap value_in (frame_version w)
 
     module _ (n : ℕ) (w : v ≡ 2) (g : n ≡ stated s) where
-      frame_past : length s < n → refuse 2 n (length s) ≡ frame first s
+      pub frame_past : length s < n → refuse 2 n (length s) ≡ frame first s
       unfolding frame need ◌>>◌
       frame_past l = simp (le-leb _ _ h, ← e, eq-eqb _ _ w, ← g, lt-leb _ _ l)
 
-      pub frame_past_len : length s < n → 0 ≡ or_zero (frame first s)
-      frame_past_len l = ap or_zero (frame_past l)
-
-      pub frame_past_why : length s < n → refusal 2 n (length s) ≡ refusal_in (frame first s)
-      frame_past_why l = ap refusal_in (frame_past l)
+      pub frame_past_none : length s < n → None ≡ value_in (frame first s)
+      frame_past_none l = ap value_in (frame_past l)
 
       module _ (p : Bool) (l : n ≤ length s) (q : p ≡ padding_last s n) where
-        frame_padding : p ≡ false → refuse 9 0 0 ≡ frame first s
+        pub frame_padding : p ≡ false → refuse 9 0 0 ≡ frame first s
         unfolding frame need ◌>>◌
         frame_padding z = simp (le-leb _ _ h, ← e, eq-eqb _ _ w, ← g, le-leb _ _ l, ← q, z)
 
-        pub frame_padding_len : p ≡ false → 0 ≡ or_zero (frame first s)
-        frame_padding_len z = ap or_zero (frame_padding z)
-
-        pub frame_padding_why : p ≡ false → refusal 9 0 0 ≡ refusal_in (frame first s)
-        frame_padding_why z = ap refusal_in (frame_padding z)
+        pub frame_padding_none : p ≡ false → None ≡ value_in (frame first s)
+        frame_padding_none z = ap value_in (frame_padding z)
 
         module _ (t : ℕ) (r : Bool) (y : p ≡ true) (f : t ≡ type_in s) (o : r ≡ report_first first t) where
           frame_report : r ≡ false → refuse 7 t 0 ≡ frame first s
           unfolding frame need ◌>>◌
           frame_report z = simp (le-leb _ _ h, ← e, eq-eqb _ _ w, ← g, le-leb _ _ l, ← q, y, ← f, ← o, z)
 
-          pub frame_report_len : r ≡ false → 0 ≡ or_zero (frame first s)
-          frame_report_len z = ap or_zero (frame_report z)
-
-          pub frame_report_why : r ≡ false → refusal 7 t 0 ≡ refusal_in (frame first s)
-          frame_report_why z = ap refusal_in (frame_report z)
+          pub frame_report_none : r ≡ false → None ≡ value_in (frame first s)
+          frame_report_none z = ap value_in (frame_report z)
 
           frame_passed : r ≡ true → ok n ≡ frame first s
           unfolding frame need ◌>>◌
           frame_passed z = simp (le-leb _ _ h, ← e, eq-eqb _ _ w, ← g, le-leb _ _ l, ← q, y, ← f, ← o, z)
 
-          pub frame_passed_len : r ≡ true → n ≡ or_zero (frame first s)
-          frame_passed_len z = ap or_zero (frame_passed z)
+          pub frame_passed_len : r ≡ true → Some n ≡ value_in (frame first s)
+          frame_passed_len z = ap value_in (frame_passed z)
 
-          pub frame_passed_why : r ≡ true → refusal 25 0 0 ≡ refusal_in (frame first s)
-          frame_passed_why z = ap refusal_in (frame_passed z)
+        -- no test is left but the last
+        pub frame_left : (t : ℕ) → p ≡ true → t ≡ type_in s → value_in (frame first s) ≡ None → refused (refusal 7 t 0) ≡ frame first s
+        frame_left t y f z = go (report_first first t) refl
+          where
+            go : (r : Bool) → report_first first t ≡ r → refused (refusal 7 t 0) ≡ frame first s
+            go true e = let x = frame_passed_len t (report_first first t) y f refl e ∙ z in cc
+            go false e = frame_report t (report_first first t) y f refl e
 
 -- ---- the packet behind the frame
 
@@ -140,26 +130,19 @@ kind_cut : (n : ℕ) (s : List ℕ) → 4 ≤ n → kind_of (type_in (take n s))
 unfolding type_in low_in
 kind_cut n s h = rw (get_or-take n s 0 0 (omega arith), get_or-take n s 1 0 (omega arith))
 
-verdict_none : (a : Answer Read) → None ≡ value_or None verdict a → a ≡ refused (refusal_in a)
-verdict_none (ok p) e = absurd (let z : true ≡ false = cc in true≢false z)
-verdict_none (refused r) e = refl
-
-module _ (first : Bool) (s : List ℕ) (n : ℕ) (h : n ≡ or_zero (frame first s)) where
-  unframed : n ≡ 0 → read_packet first s ≡ refused (refusal_in (frame first s))
+module _ (first : Bool) (s : List ℕ) where
+  -- the frame refuses, and so the packet is refused
+  unframed : (r : Refusal) → refused r ≡ frame first s → read_packet first s ≡ refused r
   unfolding ◌>>=◌
-  unframed z = framed first s ∙ go (frame first s) refl
-    where
-      go : (m : Answer ℕ) → frame first s ≡ m → (m >>= λ (n : ℕ). read_as (kind_of (type_in s) (low_in s)) (take n s)) ≡ refused (refusal_in m)
-      go (ok k) q = absurd (omega (arith, (frame_inv first s k (sym q)).long, h ∙ ap or_zero q))
-      go (refused r) q = refl
+  unframed r e = framed first s ∙ rw (sym e)
 
-  pub frame_refused : {B : Type 0} (f : Read → B) (r : Refusal) → n ≡ 0 → r ≡ refusal_in (frame first (take (length s - 0) (drop 0 s))) → refused r ≡ map_ok (with_length f s) (read_packet first s)
+  pub frame_refused : {B : Type 0} (f : Read → B) (r : Refusal) → refused r ≡ frame first s → refused r ≡ map_ok (with_length f s) (read_packet first s)
   unfolding map_ok
-  frame_refused f r z q = rw (unframed z) (ap refused (q ∙ ap (λ (s : List ℕ). refusal_in (frame first s)) (take_all (length s - 0) s (omega arith))))
+  frame_refused f r e = rw (unframed r e)
 
-  module _ (z : n ≡ 0 → ⊥) where
+  module _ (n : ℕ) (h : Some n ≡ value_in (frame first s)) where
     frame_is : Framed first s n
-    frame_is = frame_inv first s n (sym (number_came (frame first s) n h z))
+    frame_is = frame_inv first s n (value_is (frame first s) n h)
 
     pub frame_within : n ≤ length s
     frame_within = frame_is.within
@@ -175,20 +158,22 @@ module _ (first : Bool) (s : List ℕ) (n : ℕ) (h : n ≡ or_zero (frame first
 
     behind : read_packet first s ≡ within
     unfolding ◌>>=◌
-    behind = framed first s ∙ rw (number_came (frame first s) n h z, kind_cut n s frame_is.long)
+    behind = framed first s ∙ rw (sym (value_is (frame first s) n h), kind_cut n s frame_is.long)
 
-    module _ (m : Option Bool) (g : m ≡ value_or None verdict (read_as (kind_of (type_in (take n s)) (low_in (take n s))) (take n s))) where
-      pub verdict_refused : (r : Refusal) → m ≡ None → r ≡ refusal_in (read_as (kind_of (type_in (take n s)) (low_in (take n s))) (take n s)) → refused r ≡ map_ok (with_length has_cname s) (read_packet first s)
-      unfolding map_ok
-      verdict_refused r e k = let w = verdict_none within (sym e ∙ g) in rw (behind, w) (ap refused k)
+    pub verdict_below : None ≡ value_in (map_ok has_cname within) → value_in within ≡ None
+    verdict_below = none_below has_cname within
 
-      pub verdict_passed : (b : Bool) → m ≡ Some b → ok (b, n) ≡ map_ok (with_length has_cname s) (read_packet first s)
-      unfolding map_ok
-      verdict_passed b e = rw behind (go within (sym e ∙ g))
-        where
-          go : (a : Answer Read) → Some b ≡ value_or None verdict a → ok (b, n) ≡ map_ok (with_length has_cname s) a
-          go (ok p) q = let y : b ≡ has_cname p = cc in rw (y, frame_is.stated)
-          go (refused r) q = absurd (let z : true ≡ false = cc in true≢false z)
+    pub verdict_refused : (r : Refusal) → refused r ≡ within → refused r ≡ map_ok (with_length has_cname s) (read_packet first s)
+    unfolding map_ok
+    verdict_refused r e = rw (behind, sym e)
+
+    pub verdict_passed : (b : Bool) → Some b ≡ value_in (map_ok has_cname within) → ok (b, n) ≡ map_ok (with_length has_cname s) (read_packet first s)
+    unfolding map_ok
+    verdict_passed b e = rw behind (go within e)
+      where
+        go : (a : Answer Read) → Some b ≡ value_in (map_ok has_cname a) → ok (b, n) ≡ map_ok (with_length has_cname s) a
+        go (ok p) q = let y : b ≡ has_cname p = cc in rw (y, frame_is.stated)
+        go (refused r) q = cc
 
 -- ---- the loop: from a place on
 
@@ -371,45 +356,40 @@ module _ (s : List ℕ) (at n : ℕ) (c : Bool) (g : Loop s at n c) where
 -- ---- a walk
 
 module _ (s : List ℕ) (at : ℕ) where
-  at_end : length s ≤ at → refuse 25 0 0 ≡ frame_at s at
+  pub at_end : length s ≤ at → refuse 25 0 0 ≡ frame_at s at
   unfolding frame_at need ◌>>◌
   at_end h = simp (le-ltb _ _ h)
 
-  pub len_none : length s ≤ at → 0 ≡ or_zero (frame_at s at)
-  len_none h = ap or_zero (at_end h)
-
-  pub len_none_why : length s ≤ at → refusal 25 0 0 ≡ refusal_in (frame_at s at)
-  len_none_why h = ap refusal_in (at_end h)
+  pub len_none : length s ≤ at → None ≡ value_in (frame_at s at)
+  len_none h = ap value_in (at_end h)
 
   module _ (h : at < length s) where
     at_place : frame (eqb at 0) (take (length s - at) (drop at s)) ≡ frame_at s at
     unfolding frame_at need ◌>>◌
     at_place = rw (rest_is s at, lt-ltb at (length s) h)
 
-    pub len_here : (n : ℕ) → n ≡ or_zero (frame (eqb at 0) (take (length s - at) (drop at s))) → n ≡ or_zero (frame_at s at)
-    len_here n q = q ∙ ap or_zero at_place
+    pub len_here : (o : Option ℕ) → o ≡ value_in (frame (eqb at 0) (take (length s - at) (drop at s))) → o ≡ value_in (frame_at s at)
+    len_here o q = q ∙ ap value_in at_place
 
-    pub len_here_why : (r : Refusal) → r ≡ refusal_in (frame (eqb at 0) (take (length s - at) (drop at s))) → r ≡ refusal_in (frame_at s at)
-    len_here_why r q = q ∙ ap refusal_in at_place
+    pub len_here_none : value_in (frame_at s at) ≡ None → value_in (frame (eqb at 0) (take (length s - at) (drop at s))) ≡ None
+    len_here_none q = ap value_in at_place ∙ q
 
-  module _ (n : ℕ) (h : n ≡ or_zero (frame_at s at)) where
-    -- none is left, or the frame refuses
-    step_unframed : n ≡ 0 → step s at ≡ refused (refusal_in (frame_at s at))
-    unfolding step frame_at need ◌>>◌ ◌>>=◌
-    step_unframed z = go (ltb at (length s)) refl
-      where
-        go : (b : Bool) → ltb at (length s) ≡ b → step s at ≡ refused (refusal_in (frame_at s at))
-        go false e = rw e
-        go true e = rw (e, unframed (eqb at 0) (drop at s) n (rw e at h) z)
+    pub len_here_why : (r : Refusal) → refused r ≡ frame (eqb at 0) (take (length s - at) (drop at s)) → refused r ≡ frame_at s at
+    len_here_why r q = q ∙ at_place
 
-    pub step_none : (r : Refusal) → n ≡ 0 → r ≡ refusal_in (frame_at (take (length s - 0) (drop 0 s)) at) → refused r ≡ map_ok step_view (step s at)
-    unfolding map_ok
-    step_none r z q = rw (step_unframed z) (ap refused (q ∙ ap (λ (s : List ℕ). refusal_in (frame_at s at)) (rest_is s 0)))
+  -- none is left, or the frame refuses
+  pub step_none : (r : Refusal) → refused r ≡ frame_at s at → refused r ≡ map_ok step_view (step s at)
+  unfolding step frame_at need ◌>>◌ ◌>>=◌ map_ok
+  step_none r q = go (ltb at (length s)) refl
+    where
+      go : (b : Bool) → ltb at (length s) ≡ b → refused r ≡ map_ok step_view (step s at)
+      go false e = q ∙ rw e
+      go true e = let w : refused r ≡ frame (eqb at 0) (drop at s) = q ∙ rw e in rw (e, unframed (eqb at 0) (drop at s) r w)
 
-    module _ (z : n ≡ 0 → ⊥) where
+  module _ (n : ℕ) (h : Some n ≡ value_in (frame_at s at)) where
       came_at : (at < length s) × (frame (eqb at 0) (drop at s) ≡ ok n)
       unfolding frame_at
-      came_at = let a = need_inv _ _ _ _ _ (number_came (frame_at s at) n h z) in (ltb-true at (length s) a.0, a.1)
+      came_at = let a = need_inv _ _ _ _ _ (sym (value_is (frame_at s at) n h)) in (ltb-true at (length s) a.0, a.1)
 
       here_framed : Framed (eqb at 0) (drop at s) n
       here_framed = frame_inv (eqb at 0) (drop at s) n (sym came_at.1)
@@ -431,7 +411,7 @@ module _ (s : List ℕ) (at : ℕ) where
       unfolding step need ◌>>◌
       step_is =
           let m : at + n - at ≡ n = omega arith in
-          rw (lt-ltb at (length s) came_at.0, m, behind (eqb at 0) (drop at s) n (sym (ap or_zero came_at.1)) z, ← here_framed.stated)
+          rw (lt-ltb at (length s) came_at.0, m, behind (eqb at 0) (drop at s) n (sym (ap value_in came_at.1)), ← here_framed.stated)
 
       pub stepped : (a : Answer Packet) → a ≡ map_ok packet_view there_read → map_ok (λ (p : Packet). (p, walk_at (at + n))) a ≡ map_ok step_view (step s at)
       unfolding map_ok ◌>>=◌
@@ -458,6 +438,6 @@ module _ (s : List ℕ) where
   unfolding open_walk ◌>>=◌ map_ok
   open_ok x g = rw (map_ok_inv compound_view (read_compound s) (sym g)).1
 
-pub ruleset frames = (rules, not-true, not-false, padding_set, padding_clear, later, sender_first, receiver_first, frame_short_len, frame_short_why, frame_version_len, frame_version_why, frame_past_len, frame_past_why, frame_padding_len, frame_padding_why, frame_report_len, frame_report_why, frame_passed_len, frame_passed_why, frame_refused, frame_within, frame_length, verdict_refused, verdict_passed)
+pub ruleset frames = (rules, not-true, not-false, padding_set, padding_clear, later, sender_first, receiver_first, frame_short, frame_short_none, frame_version, frame_version_none, frame_past, frame_past_none, frame_padding, frame_padding_none, frame_report_none, frame_left, frame_passed_len, frame_refused, frame_within, frame_length, verdict_below, verdict_refused, verdict_passed)
 
-pub ruleset compounds = (rules, parse_handed, not-true, not-false, no_byte, loop_start, loop_named, loop_unnamed, loop_refused, loop_fits, loop_counts, loop_less, loop_again, len_none, len_none_why, len_here, len_here_why, step_none, step_start, step_within, step_fits, step_refused, step_some, open_refused, open_ok)
+pub ruleset compounds = (rules, parse_handed, not-true, not-false, no_byte, loop_start, loop_named, loop_unnamed, loop_refused, loop_fits, loop_counts, loop_less, loop_again, at_end, len_none, len_here, len_here_none, len_here_why, step_none, step_start, step_within, step_fits, step_refused, step_some, open_refused, open_ok)

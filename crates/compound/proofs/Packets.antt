@@ -1,27 +1,26 @@
 -- A packet of any kind, from the answer of its kind's reader.
-use Rattle.std.specs.Prelude.{Option, None, not}
-use Rattle.std.specs.Bool.{then_some}
+use Rattle.std.specs.Prelude.{Option, None, Some}
 use Rattle.rfc3550.proofs.Prelude.{rules, ◌≡◌, refl, sym, ap, ◌∙◌, arith, eqb, Bool, true, false, List, ℕ, ◌<◌, ne_eqb}
 use Rattle.rfc3550.specs.Answer.{Refusal, Answer, ok, refused, map_ok, pick}
 use Rattle.rfc3550.specs.Packet.{Content, report, sdes, bye, app, unknown, receiver, sender, Packet as Read, has_cname}
 use Rattle.rfc3550.specs.Read.{Kind, SR, RR, SDES, BYE, APP, UNKNOWN, kind_for, kind_of, type_in, low_in, read_as}
 use Rattle.rfc3550.proofs.Packets.{read_as_kind}
-use Rattle.utils.specs.Error.{refusal_in, value_or}
-use Rattle.report.proofs.Reports.{body_some}
+use Rattle.utils.specs.Error.{value_in}
+use Rattle.utils.proofs.Values.{none_viewed, none_below}
 use Rattle.report.specs.Report.{sender_view, receiver_view, report_body}
-use Rattle.sdes.specs.Sdes.{sdes_view, no_sdes}
+use Rattle.sdes.specs.Sdes.{sdes_view}
 use Rattle.sdes.specs.declared.sdes.Sdes.{Sdes}
-use Rattle.bye.specs.Bye.{bye_view, no_bye}
+use Rattle.bye.specs.Bye.{bye_view}
 use Rattle.bye.specs.declared.Bye.{Bye}
-use Rattle.app.specs.App.{app_view, no_app}
+use Rattle.app.specs.App.{app_view}
 use Rattle.app.specs.declared.App.{App}
-use Rattle.compound.specs.Unknown.{unknown_view, no_unknown}
+use Rattle.compound.specs.Unknown.{unknown_view}
 use Rattle.compound.specs.declared.unknown.Unknown.{Unknown}
 use Rattle.compound.specs.Kind.{kind_in}
 use Rattle.compound.specs.declared.kind.Kind.{Kind as Kinds}
 use Rattle.compound.specs.declared.kind.Kind.TheVariants as kind
 use Rattle.compound.proofs.PacketKinds.{kind_found}
-use Rattle.compound.specs.Packet.{sr_packet, rr_packet, sdes_packet, bye_packet, app_packet, unknown_packet, view_as, packet_view, verdict}
+use Rattle.compound.specs.Packet.{sr_packet, rr_packet, sdes_packet, bye_packet, app_packet, unknown_packet, view_as, packet_view}
 use Rattle.compound.specs.declared.packet.Packet.{Packet}
 
 -- ---- an answer whose constructor is known
@@ -63,11 +62,16 @@ module _ (s : List ℕ) (c : Kinds) (h : kind_in c ≡ kind_of (type_in s) (low_
   pub unknown_read : (a : Answer _) → c ≡ kind.Unknown → o ≡ map_ok unknown_packet a → a ≡ map_ok unknown_view (read_as UNKNOWN s) → o ≡ whole s
   unknown_read a e = dispatched UNKNOWN unknown_view unknown_packet (λ p. refl) s o a (sym (kind_found s c kind.Unknown h e))
 
--- why, of a kind that a match found
-pub why_found : (s : List ℕ) (c d : Kinds) (r : Refusal) → kind_in c ≡ kind_of (type_in s) (low_in s) → c ≡ d → r ≡ refusal_in (read_as (kind_in d) s) → r ≡ refusal_in (read_as (kind_of (type_in s) (low_in s)) s)
-why_found s c d r h e q = q ∙ ap (λ (k : Kind). refusal_in (read_as k s)) (kind_found s c d h e)
+-- ---- of a kind that a match found
 
-pub ruleset packets = (rules, why_found, sr_read, rr_read, sdes_read, bye_read, app_read, unknown_read)
+module _ (s : List ℕ) (c d : Kinds) (h : kind_in c ≡ kind_of (type_in s) (low_in s)) (e : c ≡ d) where
+  pub none_found : value_in (read_as (kind_of (type_in s) (low_in s)) s) ≡ None → value_in (read_as (kind_in d) s) ≡ None
+  none_found z = rw (sym (kind_found s c d h e)) z
+
+  pub why_found : (r : Refusal) → refused r ≡ read_as (kind_in d) s → refused r ≡ read_as (kind_of (type_in s) (low_in s)) s
+  why_found r q = q ∙ ap (λ (k : Kind). read_as k s) (kind_found s c d h e)
+
+pub ruleset packets = (rules, none_found, why_found, sr_read, rr_read, sdes_read, bye_read, app_read, unknown_read)
 
 -- ---- what the check of a datagram asks of a packet
 
@@ -91,48 +95,65 @@ unnamed p = go p.content
     go (app subtype ssrc name d) h = refl
     go (unknown t low b) h = refl
 
-abbrev verdict_in : Kind → List ℕ → Option Bool
-verdict_in k s = value_or None verdict (read_as k s)
+abbrev verdict : List ℕ → Kind → Option Bool
+verdict s k = value_in (map_ok has_cname (read_as k s))
 
--- from what was read of the packet, a number of it that is its body and whether it has a CNAME
-module _ {A : Type 0} (none : A) (view : Read → A) (body : A → ℕ) (named : A → Bool) (z : body none ≡ 0) (k : Kind) (s : List ℕ) where
-  by_body : ((p : Read) → read_as k s ≡ ok p → (0 < body (view p)) × (named (view p) ≡ has_cname p)) → (o : A) (r : Option Bool)
-      → o ≡ value_or none view (read_as k s) → r ≡ then_some (not (eqb (body o) 0)) (named o) → r ≡ verdict_in k s
-  by_body h o r e q = go (read_as k s) refl
+-- from what was read of the packet, of which a match found the kind
+module _ {A : Type 0} (view : Read → A) (d : Kinds) (s : List ℕ) (c : Kinds) (h : kind_in c ≡ kind_of (type_in s) (low_in s)) (e : c ≡ d) where
+  here : (o : Option Bool) → o ≡ verdict s (kind_in d) → o ≡ verdict s (kind_of (type_in s) (low_in s))
+  here o q = q ∙ ap (verdict s) (kind_found s c d h e)
+
+  none : None ≡ value_in (map_ok view (read_as (kind_in d) s)) → None ≡ verdict s (kind_of (type_in s) (low_in s))
+  none q = here None (none_viewed has_cname (read_as (kind_in d) s) (none_below view (read_as (kind_in d) s) q))
+
+  some : (named : A → Bool) → ((p : Read) → read_as (kind_in d) s ≡ ok p → named (view p) ≡ has_cname p)
+      → (a : A) → Some a ≡ value_in (map_ok view (read_as (kind_in d) s)) → Some (named a) ≡ verdict s (kind_of (type_in s) (low_in s))
+  unfolding map_ok
+  some named f a q = here (Some (named a)) (go (read_as (kind_in d) s) refl)
     where
-      go : (a : Answer Read) → read_as k s ≡ a → r ≡ value_or None verdict a
-      go (ok p) w =
-          let v : o ≡ view p = e ∙ ap (value_or none view) w in
-          let n : body (view p) ≡ 0 → ⊥ = λ x. omega (arith, (h p w).0) in
-          q ∙ rw (v, ne_eqb (body (view p)) 0 n, (h p w).1)
-      go (refused x) w = let v : o ≡ none = e ∙ ap (value_or none view) w in q ∙ rw (v, z)
+      go : (m : Answer Read) → read_as (kind_in d) s ≡ m → Some (named a) ≡ value_in (map_ok has_cname m)
+      go (ok p) w = let x : a ≡ view p = let y = q ∙ ap (λ (m : Answer Read). value_in (map_ok view m)) w in cc in rw (x, f p w)
+      go (refused r) w = let y = q ∙ ap (λ (m : Answer Read). value_in (map_ok view m)) w in cc
 
   -- a kind without a CNAME
-  by_body_alone : is_sdes k ≡ false → ((p : Read) → read_as k s ≡ ok p → 0 < body (view p)) → ((a : A) → named a ≡ false) → (o : A) (r : Option Bool)
-      → o ≡ value_or none view (read_as k s) → r ≡ then_some (not (eqb (body o) 0)) (named o) → r ≡ verdict_in k s
-  by_body_alone i l f = by_body (λ p w. (l p w, f (view p) ∙ sym (unnamed p (ap is_sdes (read_as_kind k s w) ∙ i))))
+  alone : is_sdes (kind_in d) ≡ false → (a : A) → Some a ≡ value_in (map_ok view (read_as (kind_in d) s)) → Some false ≡ verdict s (kind_of (type_in s) (low_in s))
+  alone i = some (λ a. false) (λ p w. sym (unnamed p (ap is_sdes (read_as_kind (kind_in d) s w) ∙ i)))
 
-module _ (s : List ℕ) where
-  pub sr_verdict : (b : ℕ) (r : Option Bool) → b ≡ value_or 0 report_body (read_as SR s) → r ≡ then_some (not (eqb b 0)) false → r ≡ verdict_in SR s
-  sr_verdict = by_body_alone 0 report_body (λ b. b) (λ b. false) refl SR s refl (λ p w. body_some p) (λ b. refl)
+module _ (s : List ℕ) (c : Kinds) (h : kind_in c ≡ kind_of (type_in s) (low_in s)) where
+  pub sr_none : c ≡ kind.Sr → None ≡ value_in (map_ok report_body (read_as SR s)) → None ≡ verdict s (kind_of (type_in s) (low_in s))
+  sr_none = none report_body kind.Sr s c h
 
-  pub rr_verdict : (b : ℕ) (r : Option Bool) → b ≡ value_or 0 report_body (read_as RR s) → r ≡ then_some (not (eqb b 0)) false → r ≡ verdict_in RR s
-  rr_verdict = by_body_alone 0 report_body (λ b. b) (λ b. false) refl RR s refl (λ p w. body_some p) (λ b. refl)
+  pub sr_some : c ≡ kind.Sr → (a : ℕ) → Some a ≡ value_in (map_ok report_body (read_as SR s)) → Some false ≡ verdict s (kind_of (type_in s) (low_in s))
+  sr_some e = alone report_body kind.Sr s c h e refl
 
-  pub sdes_verdict : (o : Sdes) (r : Option Bool) → o ≡ value_or no_sdes sdes_view (read_as SDES s) → r ≡ then_some (not (eqb o.body 0)) o.has_cname → r ≡ verdict_in SDES s
-  sdes_verdict = by_body no_sdes sdes_view (λ o. o.body) (λ o. o.has_cname) refl SDES s (λ p w. (omega arith, refl))
+  pub rr_none : c ≡ kind.Rr → None ≡ value_in (map_ok report_body (read_as RR s)) → None ≡ verdict s (kind_of (type_in s) (low_in s))
+  rr_none = none report_body kind.Rr s c h
 
-  pub bye_verdict : (o : Bye) (r : Option Bool) → o ≡ value_or no_bye bye_view (read_as BYE s) → r ≡ then_some (not (eqb o.body 0)) false → r ≡ verdict_in BYE s
-  bye_verdict = by_body_alone no_bye bye_view (λ o. o.body) (λ o. false) refl BYE s refl (λ p w. omega arith) (λ o. refl)
+  pub rr_some : c ≡ kind.Rr → (a : ℕ) → Some a ≡ value_in (map_ok report_body (read_as RR s)) → Some false ≡ verdict s (kind_of (type_in s) (low_in s))
+  rr_some e = alone report_body kind.Rr s c h e refl
 
-  pub app_verdict : (o : App) (r : Option Bool) → o ≡ value_or no_app app_view (read_as APP s) → r ≡ then_some (not (eqb o.body 0)) false → r ≡ verdict_in APP s
-  app_verdict = by_body_alone no_app app_view (λ o. o.body) (λ o. false) refl APP s refl (λ p w. omega arith) (λ o. refl)
+  pub sdes_none : c ≡ kind.Sdes → None ≡ value_in (map_ok sdes_view (read_as SDES s)) → None ≡ verdict s (kind_of (type_in s) (low_in s))
+  sdes_none = none sdes_view kind.Sdes s c h
 
-  pub unknown_verdict : (o : Unknown) (r : Option Bool) → o ≡ value_or no_unknown unknown_view (read_as UNKNOWN s) → r ≡ then_some (not (eqb o.body 0)) false → r ≡ verdict_in UNKNOWN s
-  unknown_verdict = by_body_alone no_unknown unknown_view (λ o. o.body) (λ o. false) refl UNKNOWN s refl (λ p w. omega arith) (λ o. refl)
+  pub sdes_some : c ≡ kind.Sdes → (a : Sdes) → Some a ≡ value_in (map_ok sdes_view (read_as SDES s)) → Some a.has_cname ≡ verdict s (kind_of (type_in s) (low_in s))
+  sdes_some e = some sdes_view kind.Sdes s c h e (λ a. a.has_cname) (λ p w. refl)
 
-  -- of a kind that a match found
-  pub verdict_found : (c d : Kinds) (r : Option Bool) → kind_in c ≡ kind_of (type_in s) (low_in s) → c ≡ d → r ≡ verdict_in (kind_in d) s → r ≡ verdict_in (kind_of (type_in s) (low_in s)) s
-  verdict_found c d r h e q = q ∙ ap (λ (k : Kind). verdict_in k s) (kind_found s c d h e)
+  pub bye_none : c ≡ kind.Bye → None ≡ value_in (map_ok bye_view (read_as BYE s)) → None ≡ verdict s (kind_of (type_in s) (low_in s))
+  bye_none = none bye_view kind.Bye s c h
 
-pub ruleset verdicts = (rules, sr_verdict, rr_verdict, sdes_verdict, bye_verdict, app_verdict, unknown_verdict, verdict_found)
+  pub bye_some : c ≡ kind.Bye → (a : Bye) → Some a ≡ value_in (map_ok bye_view (read_as BYE s)) → Some false ≡ verdict s (kind_of (type_in s) (low_in s))
+  bye_some e = alone bye_view kind.Bye s c h e refl
+
+  pub app_none : c ≡ kind.App → None ≡ value_in (map_ok app_view (read_as APP s)) → None ≡ verdict s (kind_of (type_in s) (low_in s))
+  app_none = none app_view kind.App s c h
+
+  pub app_some : c ≡ kind.App → (a : App) → Some a ≡ value_in (map_ok app_view (read_as APP s)) → Some false ≡ verdict s (kind_of (type_in s) (low_in s))
+  app_some e = alone app_view kind.App s c h e refl
+
+  pub unknown_none : c ≡ kind.Unknown → None ≡ value_in (map_ok unknown_view (read_as UNKNOWN s)) → None ≡ verdict s (kind_of (type_in s) (low_in s))
+  unknown_none = none unknown_view kind.Unknown s c h
+
+  pub unknown_some : c ≡ kind.Unknown → (a : Unknown) → Some a ≡ value_in (map_ok unknown_view (read_as UNKNOWN s)) → Some false ≡ verdict s (kind_of (type_in s) (low_in s))
+  unknown_some e = alone unknown_view kind.Unknown s c h e refl
+
+pub ruleset verdicts = (rules, sr_none, sr_some, rr_none, rr_some, sdes_none, sdes_some, bye_none, bye_some, app_none, app_some, unknown_none, unknown_some)

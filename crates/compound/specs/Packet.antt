@@ -1,6 +1,5 @@
 -- What the code hands over of a packet of any kind: its kind's fields, as functions of the packet.
-use Rattle.std.specs.Prelude.{Bool, Option, Some}
-use Rattle.rfc3550.specs.Packet.{Packet as Read, has_cname}
+use Rattle.rfc3550.specs.Packet.{Packet as Read}
 use Rattle.rfc3550.specs.Read.{Kind, SR, RR, SDES, BYE, APP, UNKNOWN, kind_for}
 use Rattle.report.specs.Report.{sender_view, receiver_view}
 use Rattle.report.specs.declared.sender.SenderReport.{SenderReport}
@@ -15,10 +14,6 @@ use Rattle.compound.specs.Unknown.{unknown_view}
 use Rattle.compound.specs.declared.unknown.Unknown.{Unknown}
 use Rattle.compound.specs.declared.packet.Packet.{Packet}
 use Rattle.compound.specs.declared.packet.Packet.TheVariants as packet
-
--- of a packet that is accepted, whether it has a CNAME
-abbrev pub verdict : Read → Option Bool
-verdict p = Some (has_cname p)
 
 -- ---- each kind as a packet
 

@@ -19,7 +19,3 @@ unknown_view p =
       body = 4 + length (body_of p.content);
       padding_len = length p.padding;
     }
-
--- what stands for a packet that is refused
-abbrev pub no_unknown : Unknown
-no_unknown = record { packet_type = 0; count = 0; body = 0; padding_len = 0 }

@@ -1,12 +1,12 @@
 // A datagram: packets laid end to end, a report first, a CNAME in some SDES chunk, padding in the last packet only.
-ghost use Rattle.std.specs.Prelude.{◌≡◌, [], ◌∷◌, ◌+◌, ◌*◌, ◌≤◌, length, drop};
-ghost use Rattle.rfc3550.specs.Answer.{ok, map_ok};
+ghost use Rattle.std.specs.Prelude.{◌≡◌, None, [], ◌∷◌, ◌+◌, ◌*◌, ◌≤◌, length, drop};
+ghost use Rattle.rfc3550.specs.Answer.{ok, refused, map_ok};
 ghost use Rattle.rfc3550.specs.Bytes.{store};
 ghost use Rattle.rfc3550.specs.Packet.{has_cname};
 ghost use Rattle.rfc3550.specs.Read.{type_in, stated};
 ghost use Rattle.rfc3550.specs.Compound.{read_packet, read_compound};
 ghost use Rattle.rfc3550.specs.Walk.{open_walk, step};
-ghost use Rattle.utils.specs.Error.{parse_refusal, refusal_in, or_zero, parsed_of};
+ghost use Rattle.utils.specs.Error.{parse_refusal, value_in, parsed_of};
 ghost use Rattle.utils.specs.List.{listed_of, lay_list};
 ghost use Rattle.compound.specs.Compound.{frame, padding_last, report_first, frame_at, with_length, compound_view, packet_rows, walk_at, step_view};
 
@@ -41,35 +41,36 @@ fn report_first(first: bool, packet_type: u8) -> bool
     packet_type == ReceiverReport::PACKET_TYPE
 }
 
-// The packet's length by the steps of its frame; 0 where one refuses.
+// The packet's length by the steps of its frame; None where one refuses.
 #[tactic(auto, using(crate::proofs::Compounds::frames))]
-fn frame_len(rest: &[u8], first: bool) -> usize
-    ensures { result ≡ or_zero (frame first rest.now) }
+fn frame_len(rest: &[u8], first: bool) -> Option<usize>
+    ensures { result ≡ value_in (frame first rest.now) }
 {
     if rest.len() < 4 {
-        return 0;
+        return None;
     }
     if utils::parser::parse_version(rest) != 2 {
-        return 0;
+        return None;
     }
     let stated = utils::parser::parse_length(rest);
     if rest.len() < stated {
-        return 0;
+        return None;
     }
     if !padding_last(rest, stated) {
-        return 0;
+        return None;
     }
     if !report_first(first, utils::parser::parse_packet_type(rest)) {
-        return 0;
+        return None;
     }
-    stated
+    Some(stated)
 }
 
-// Why it is 0; NothingLeft where it is not.
+// Why a step of the frame refuses.
 #[cold]
 #[tactic(auto, using(crate::proofs::Compounds::frames))]
-fn why_frame(rest: &[u8], first: bool) -> RtcpParseError
-    ensures { parse_refusal result ≡ refusal_in (frame first rest.now) }
+fn why_frame_unchecked(rest: &[u8], first: bool) -> RtcpParseError
+    requires { value_in (frame first rest.now) ≡ None }
+    ensures { refused (parse_refusal result) ≡ frame first rest.now }
 {
     if rest.len() < 4 {
         return RtcpParseError::Truncated {
@@ -91,34 +92,31 @@ fn why_frame(rest: &[u8], first: bool) -> RtcpParseError
     if !padding_last(rest, stated) {
         return RtcpParseError::NonLastCompoundPacketPadding;
     }
-    let packet_type = utils::parser::parse_packet_type(rest);
-    if !report_first(first, packet_type) {
-        return RtcpParseError::FirstPacketNoReport(packet_type);
-    }
-    RtcpParseError::NothingLeft
+    RtcpParseError::FirstPacketNoReport(utils::parser::parse_packet_type(rest))
 }
 
-// The length of the packet at a place of a datagram, by the steps of its frame; 0 where none is left, or a step refuses.
+// The length of the packet at a place of a datagram, by the steps of its frame; None where none is left, or a step refuses.
 #[tactic(auto, using(crate::proofs::Compounds::compounds))]
-pub fn packet_len(s: &[u8], at: usize) -> usize
-    ensures { result ≡ or_zero (frame_at s.now at) }
+pub fn packet_len(s: &[u8], at: usize) -> Option<usize>
+    ensures { result ≡ value_in (frame_at s.now at) }
 {
     if s.len() <= at {
-        return 0;
+        return None;
     }
     frame_len(&s[at..], at == 0)
 }
 
-// Why packet_len is 0; NothingLeft where it is not.
+// Why packet_len is None.
 #[cold]
 #[tactic(auto, using(crate::proofs::Compounds::compounds))]
-pub fn why_len(s: &[u8], at: usize) -> RtcpParseError
-    ensures { parse_refusal result ≡ refusal_in (frame_at s.now at) }
+pub fn why_len_unchecked(s: &[u8], at: usize) -> RtcpParseError
+    requires { value_in (frame_at s.now at) ≡ None }
+    ensures { refused (parse_refusal result) ≡ frame_at s.now at }
 {
     if s.len() <= at {
         return RtcpParseError::NothingLeft;
     }
-    why_frame(&s[at..], at == 0)
+    why_frame_unchecked(&s[at..], at == 0)
 }
 
 // Whether the packet at the start of the bytes left has a CNAME, and its length.
@@ -126,12 +124,11 @@ pub fn why_len(s: &[u8], at: usize) -> RtcpParseError
 fn check_packet(rest: &[u8], first: bool) -> Result<(bool, usize), RtcpParseError>
     ensures { parsed_of result ≡ map_ok (with_length has_cname rest.now) (read_packet first rest.now) }
 {
-    let len = frame_len(rest, first);
-    if len == 0 {
-        return Err(why_frame(&rest[0..], first));
-    }
+    let Some(len) = frame_len(rest, first) else {
+        return Err(why_frame_unchecked(rest, first));
+    };
     let Some(has_cname) = Packet::verdict(&rest[..len]) else {
-        return Err(Packet::why(&rest[..len]));
+        return Err(Packet::why_unchecked(&rest[..len]));
     };
     Ok((has_cname, len))
 }
@@ -235,10 +232,9 @@ impl Walk {
         ensures { parsed_of result ≡ map_ok step_view (step s.now self.at) }
     {
         let at = self.at;
-        let len = packet_len(s, at);
-        if len == 0 {
-            return Err(why_len(&s[0..], at));
-        }
+        let Some(len) = packet_len(s, at) else {
+            return Err(why_len_unchecked(s, at));
+        };
         let end = at + len;
         let packet = Packet::parse(&s[at..end])?;
         Ok((packet, Walk { at: end }))

@@ -1,10 +1,10 @@
 // A packet of any kind.
-ghost use Rattle.std.specs.Prelude.{◌≡◌, None, not, eqb};
-ghost use Rattle.std.specs.Bool.{then_some};
-ghost use Rattle.rfc3550.specs.Answer.{map_ok};
+ghost use Rattle.std.specs.Prelude.{◌≡◌, None};
+ghost use Rattle.rfc3550.specs.Answer.{refused, map_ok};
+ghost use Rattle.rfc3550.specs.Packet.{has_cname};
 ghost use Rattle.rfc3550.specs.Read.{kind_of, type_in, low_in, read_as};
-ghost use Rattle.utils.specs.Error.{parse_refusal, refusal_in, value_or, parsed_of};
-ghost use Rattle.compound.specs.Packet.{packet_view, verdict};
+ghost use Rattle.utils.specs.Error.{parse_refusal, value_in, parsed_of};
+ghost use Rattle.compound.specs.Packet.{packet_view};
 
 use super::kind::{Kind, kind_of};
 use super::unknown::Unknown;
@@ -26,13 +26,6 @@ pub enum Packet {
     Unknown(Unknown),
 }
 
-// Whether a packet has a CNAME; None where the body is 0, since it is refused.
-fn verdict_of(body: usize, has_cname: bool) -> Option<bool>
-    ensures { result ≡ then_some (not (eqb body 0)) has_cname }
-{
-    (body != 0).then_some(has_cname)
-}
-
 impl Packet {
     // The packet that the bytes are, from the first to the last.
     pub fn parse(s: &[u8]) -> Result<Packet, RtcpParseError>
@@ -49,36 +42,53 @@ impl Packet {
         Ok(packet)
     }
 
-    // Why it is refused; NothingLeft where it is not.
+    // Why a packet that is refused is.
     #[cold]
-    pub fn why(s: &[u8]) -> RtcpParseError
-        ensures { parse_refusal result ≡ refusal_in (read_as (kind_of (type_in s.now) (low_in s.now)) s.now) }
+    #[tactic(auto, using(crate::proofs::Packets::packets))]
+    pub fn why_unchecked(s: &[u8]) -> RtcpParseError
+        requires { value_in (read_as (kind_of (type_in s.now) (low_in s.now)) s.now) ≡ None }
+        ensures { refused (parse_refusal result) ≡ read_as (kind_of (type_in s.now) (low_in s.now)) s.now }
     {
         match kind_of(s) {
-            Kind::Sr => SenderReport::why(s),
-            Kind::Rr => ReceiverReport::why(s),
-            Kind::Sdes => Sdes::why(s),
-            Kind::Bye => Bye::why(s),
-            Kind::App => App::why(s),
-            Kind::Unknown => Unknown::why(s),
+            Kind::Sr => SenderReport::why_unchecked(s),
+            Kind::Rr => ReceiverReport::why_unchecked(s),
+            Kind::Sdes => Sdes::why_unchecked(s),
+            Kind::Bye => Bye::why_unchecked(s),
+            Kind::App => App::why_unchecked(s),
+            Kind::Unknown => Unknown::why_unchecked(s),
         }
     }
 
     // Whether the packet has a CNAME; None where it is refused.
     #[tactic(auto, using(crate::proofs::Packets::verdicts))]
     pub fn verdict(s: &[u8]) -> Option<bool>
-        ensures { result ≡ value_or None verdict (read_as (kind_of (type_in s.now) (low_in s.now)) s.now) }
+        ensures { result ≡ value_in (map_ok has_cname (read_as (kind_of (type_in s.now) (low_in s.now)) s.now)) }
     {
         match kind_of(s) {
-            Kind::Sr => verdict_of(SenderReport::body_of(s), false),
-            Kind::Rr => verdict_of(ReceiverReport::body_of(s), false),
-            Kind::Sdes => {
-                let sdes = Sdes::read(s);
-                verdict_of(sdes.body, sdes.has_cname)
+            Kind::Sr => {
+                let _ = SenderReport::body_of(s)?;
+                Some(false)
             }
-            Kind::Bye => verdict_of(Bye::read(s).body, false),
-            Kind::App => verdict_of(App::read(s).body, false),
-            Kind::Unknown => verdict_of(Unknown::read(s).body, false),
+            Kind::Rr => {
+                let _ = ReceiverReport::body_of(s)?;
+                Some(false)
+            }
+            Kind::Sdes => {
+                let sdes = Sdes::read(s)?;
+                Some(sdes.has_cname)
+            }
+            Kind::Bye => {
+                let _ = Bye::read(s)?;
+                Some(false)
+            }
+            Kind::App => {
+                let _ = App::read(s)?;
+                Some(false)
+            }
+            Kind::Unknown => {
+                let _ = Unknown::read(s)?;
+                Some(false)
+            }
         }
     }
 }

@@ -1,9 +1,9 @@
 // A packet of a type outside 200 to 204: it has no layout of its own.
-ghost use Rattle.std.specs.Prelude.{◌≡◌, ◌-◌, take, drop};
-ghost use Rattle.rfc3550.specs.Answer.{map_ok};
+ghost use Rattle.std.specs.Prelude.{◌≡◌, None, ◌-◌, take, drop};
+ghost use Rattle.rfc3550.specs.Answer.{refused, map_ok};
 ghost use Rattle.rfc3550.specs.Read.{UNKNOWN, read_as};
-ghost use Rattle.utils.specs.Error.{parse_refusal, refusal_in, value_or, parsed_of};
-ghost use Rattle.compound.specs.Unknown.{unknown_view, no_unknown};
+ghost use Rattle.utils.specs.Error.{parse_refusal, value_in, parsed_of};
+ghost use Rattle.compound.specs.Unknown.{unknown_view};
 
 use super::kind::is_unknown;
 use utils::error::RtcpParseError;
@@ -21,47 +21,40 @@ pub struct Unknown {
 impl Unknown {
     pub const MIN_PACKET_LEN: usize = 4;
 
-    // All 0, where the packet is refused.
+    // None where the packet is refused.
     #[tactic(auto, using(crate::proofs::Unknowns::unknowns))]
-    pub fn read(s: &[u8]) -> Unknown
-        ensures { result ≡ value_or no_unknown unknown_view (read_as UNKNOWN s.now) }
+    pub fn read(s: &[u8]) -> Option<Unknown>
+        ensures { result ≡ value_in (map_ok unknown_view (read_as UNKNOWN s.now)) }
     {
-        let body = parser::body_if(s, Unknown::MIN_PACKET_LEN, is_unknown(s));
-        if body == 0 {
-            return Unknown {
-                packet_type: 0,
-                count: 0,
-                body: 0,
-                padding_len: 0,
-            };
-        }
-        Unknown {
+        let body = parser::body_if(s, Unknown::MIN_PACKET_LEN, is_unknown(s))?;
+        Some(Unknown {
             packet_type: parser::parse_packet_type(s),
             count: parser::parse_count(s),
             body,
             padding_len: s.len() - body,
-        }
+        })
     }
 
-    // Why it is refused; NothingLeft where it is not.
+    // Why a packet that is refused is.
     #[cold]
     #[tactic(auto, using(crate::proofs::Unknowns::unknowns))]
-    pub fn why(s: &[u8]) -> RtcpParseError
-        ensures { parse_refusal result ≡ refusal_in (read_as UNKNOWN s.now) }
+    pub fn why_unchecked(s: &[u8]) -> RtcpParseError
+        requires { value_in (read_as UNKNOWN s.now) ≡ None }
+        ensures { refused (parse_refusal result) ≡ read_as UNKNOWN s.now }
     {
         let actual = parser::parse_packet_type(s);
-        parser::why_header_if(s, Unknown::MIN_PACKET_LEN, is_unknown(s), actual, 0)
+        parser::why_header_if_unchecked(s, Unknown::MIN_PACKET_LEN, is_unknown(s), actual, 0)
     }
 
     // In each kind by hand, like padding_bytes: a trait with both would ask nine items of a kind (five ghost members, two laws, body, padding_len), which are longer.
+    #[tactic(auto, using(utils::proofs::Values::values))]
     pub fn parse(s: &[u8]) -> Result<Unknown, RtcpParseError>
         ensures { parsed_of result ≡ map_ok unknown_view (read_as UNKNOWN s.now) }
     {
-        let unknown = Unknown::read(s);
-        if unknown.body == 0 {
-            return Err(Unknown::why(&s[0..]));
+        match Unknown::read(s) {
+            Some(unknown) => Ok(unknown),
+            None => Err(Unknown::why_unchecked(s)),
         }
-        Ok(unknown)
     }
 
     // The bytes between the header and the padding, of the packet that was parsed.
