@@ -15,6 +15,7 @@ use report::report::Report;
 use report::sender::SenderReport;
 use sdes::sdes::Sdes;
 use utils::error::RtcpParseError;
+use utils::packet_parser::RtcpPacketParser;
 
 #[derive(Clone, Copy)]
 pub enum Packet {

@@ -1,4 +1,5 @@
 -- What a step of a walk hands over starts a walk over its parts: to open one on those bytes would answer the same numbers.
+use Rattle.std.specs.Prelude.{Some}
 use Rattle.rfc3550.proofs.Prelude.{ℕ, ◌+◌, ◌-◌, ◌*◌, ◌<◌, ◌≡◌, refl, sym, ap, ◌∙◌, List, [], append-nil, arith, length, take, drop, length-drop, length-take-le}
 use Rattle.rfc3550.specs.Answer.{Answer, ok, refused, need, ◌>>◌, ◌>>=◌, map_ok}
 use Rattle.rfc3550.specs.Bytes.{Bytes, sum}
@@ -10,11 +11,11 @@ use Rattle.rfc3550.proofs.Packets.{length_layout}
 use Rattle.rfc3550.proofs.Chunks.{chunk_complete}
 use Rattle.rfc3550.proofs.Places.{packet_at_lem, chunk_at_lem}
 use Rattle.rfc3550.proofs.Claims.{reading}
-use Rattle.utils.specs.Error.{value_or}
+use Rattle.utils.specs.Error.{value_in}
 use Rattle.utils.proofs.Parts.{get_take}
 use Rattle.report.specs.Block.{block_view}
 use Rattle.report.specs.Report.{report_body}
-use Rattle.report.proofs.Reports.{body_some, index_there, index_within}
+use Rattle.report.proofs.Reports.{index_there, index_within}
 use Rattle.report.specs.Reporter.{ReporterKind}
 use Rattle.sdes.specs.Walk.{chunk_stepped}
 use Rattle.sdes.proofs.Returned.{short}
@@ -32,11 +33,10 @@ pub block_handed : {k : Kind} {ws : List ℕ} {who : List ℕ → Reporter} → 
     → map_ok block_view (read_block (take 24 (drop (least k + 24 * i) s))) ≡ map_ok block_view (read_block_at k s i)
 unfolding read_block map_ok need ◌>>◌ sum
 block_handed {k} m s p e i l =
-    let h : report_body p ≡ value_or 0 report_body (read_as k s) = sym (ap (value_or 0 report_body) e) in
-    let z : report_body p ≡ 0 → ⊥ = λ q. omega (arith, body_some p) in
-    let w = index_within m s (report_body p) h z (low_in s) refl i l (least k + 24 * i) refl in
+    let h : Some (report_body p) ≡ value_in (map_ok report_body (read_as k s)) = rw e in
+    let w = index_within m s (report_body p) h (low_in s) refl i l (least k + 24 * i) refl in
     let n : length (take 24 (drop (least k + 24 * i) s)) ≡ 24 = length-take-le 24 (drop (least k + 24 * i) s) (rw length-drop (omega arith)) in
-    rw (n, get_take block_widths 0 24 (drop (least k + 24 * i) s) (omega arith)) (index_there m s (report_body p) h z (low_in s) refl i l _ refl)
+    rw (n, get_take block_widths 0 24 (drop (least k + 24 * i) s) (omega arith)) (index_there m s (report_body p) h (low_in s) refl i l _ refl)
 
 -- ---- the chunks of an SDES packet
 

@@ -1,15 +1,10 @@
 -- Datagrams and their walk as C gets them. A packet is the numbers of its kind, with 0 where the kind has no such field; its kind is its type,
 -- or 0 where the type has no layout. A step hands on the walk after it, on a refusal the walk that went in.
-use Rattle.std.specs.Prelude.{ℕ, ◌-◌, List}
+use Rattle.std.specs.Prelude.{ℕ, ◌-◌}
 use Rattle.rfc3550.specs.Answer.{Answer}
-use Rattle.rfc3550.specs.Read.{Kind, SR, RR, SDES, BYE, APP, UNKNOWN, read_as}
+use Rattle.rfc3550.specs.Packet.{Packet as Read}
 use Rattle.rfc3550.specs.Walk.{walk_after}
-use Rattle.utils.specs.Error.{value_or}
-use Rattle.report.specs.Report.{sender_view, no_sender, receiver_view, no_receiver}
-use Rattle.sdes.specs.Sdes.{sdes_view, no_sdes}
-use Rattle.bye.specs.Bye.{bye_view, no_bye}
-use Rattle.app.specs.App.{app_view, no_app}
-use Rattle.compound.specs.Unknown.{unknown_view, no_unknown}
+use Rattle.compound.specs.Packet.{packet_view}
 use Rattle.report.specs.declared.sender.SenderReport.{SenderReport}
 use Rattle.report.specs.declared.receiver.ReceiverReport.{ReceiverReport}
 use Rattle.sdes.specs.declared.sdes.Sdes.{Sdes}
@@ -81,14 +76,9 @@ numbers_of (packet.Bye x) = bye_numbers x
 numbers_of (packet.App x) = app_numbers x
 numbers_of (packet.Unknown x) = unknown_numbers x
 
--- of what is read as a kind: with body 0 where it is refused
-abbrev pub numbers_read : Kind → List ℕ → PacketNumbers
-numbers_read SR s = sr_numbers (value_or no_sender sender_view (read_as SR s))
-numbers_read RR s = rr_numbers (value_or no_receiver receiver_view (read_as RR s))
-numbers_read SDES s = sdes_numbers (value_or no_sdes sdes_view (read_as SDES s))
-numbers_read BYE s = bye_numbers (value_or no_bye bye_view (read_as BYE s))
-numbers_read APP s = app_numbers (value_or no_app app_view (read_as APP s))
-numbers_read UNKNOWN s = unknown_numbers (value_or no_unknown unknown_view (read_as UNKNOWN s))
+-- of a packet that is read
+abbrev pub packet_numbers : Read → PacketNumbers
+packet_numbers p = numbers_of (packet_view p)
 
 -- ---- a datagram, and its walk
 

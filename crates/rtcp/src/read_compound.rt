@@ -4,17 +4,17 @@ ghost use Rattle.rfc3550.specs.Answer.{map_ok, refused};
 ghost use Rattle.rfc3550.specs.Read.{kind_of, type_in, low_in};
 ghost use Rattle.rfc3550.specs.Compound.{read_compound};
 ghost use Rattle.rfc3550.specs.Walk.{open_walk, step};
-ghost use Rattle.utils.specs.Error.{code_refusal, parsed_of};
+ghost use Rattle.utils.specs.Error.{code_refusal, value_in, parsed_of};
 ghost use Rattle.utils.specs.List.{lay_list};
 ghost use Rattle.compound.specs.Compound.{compound_view, packet_rows, walk_at, step_view};
-ghost use Rattle.rtcp.specs.Compound.{bare_numbers, sr_numbers, rr_numbers, sdes_numbers, bye_numbers, app_numbers, unknown_numbers, numbers_read, compound_result, walk_result, step_result};
+ghost use Rattle.rtcp.specs.Compound.{bare_numbers, sr_numbers, rr_numbers, sdes_numbers, bye_numbers, app_numbers, unknown_numbers, packet_numbers, compound_result, walk_result, step_result};
 ghost use Rattle.rtcp.specs.WriteResult.{written_with_buffer};
 
 use super::refusal::refused;
 use super::write_result::RtcpWritten;
 use app::App;
 use bye::Bye;
-use compound::compound::{Compound, Walk, packet_len, why_len};
+use compound::compound::{Compound, Walk, packet_len, why_len_unchecked};
 use compound::kind::{Kind, kind_of};
 use compound::packet::Packet;
 use compound::unknown::Unknown;
@@ -23,6 +23,7 @@ use report::report::Report;
 use report::sender::SenderReport;
 use sdes::sdes::Sdes;
 use utils::error::{Code, RtcpParseError};
+use utils::packet_parser::RtcpPacketParser;
 
 #[repr(C)]
 #[derive(Clone, Copy, Default)]
@@ -117,17 +118,18 @@ impl PacketNumbers {
         }
     }
 
-    // With body 0, where the packet is refused.
-    fn read(s: &[u8]) -> PacketNumbers
-        ensures { result ≡ numbers_read (kind_of (type_in s.now) (low_in s.now)) s.now }
+    // None where the packet is refused.
+    #[tactic(auto, using(crate::proofs::Datagrams::kinds))]
+    fn read(s: &[u8]) -> Option<PacketNumbers>
+        ensures { result ≡ value_in (map_ok packet_numbers (read_as (kind_of (type_in s.now) (low_in s.now)) s.now)) }
     {
         match kind_of(s) {
-            Kind::Sr => Self::from(SenderReport::read(s)),
-            Kind::Rr => Self::from(ReceiverReport::read(s)),
-            Kind::Sdes => Self::from(Sdes::read(s)),
-            Kind::Bye => Self::from(Bye::read(s)),
-            Kind::App => Self::from(App::read(s)),
-            Kind::Unknown => Self::from(Unknown::read(s)),
+            Kind::Sr => Some(Self::from(SenderReport::read(s)?)),
+            Kind::Rr => Some(Self::from(ReceiverReport::read(s)?)),
+            Kind::Sdes => Some(Self::from(Sdes::read(s)?)),
+            Kind::Bye => Some(Self::from(Bye::read(s)?)),
+            Kind::App => Some(Self::from(App::read(s)?)),
+            Kind::Unknown => Some(Self::from(Unknown::read(s)?)),
         }
     }
 }
@@ -283,17 +285,15 @@ pub fn rtcp_walk_step(s: &[u8], at: u64) -> RtcpStep
     ensures { result ≡ step_result at (map_ok step_view (step s.now at)) }
 {
     let from = at as usize;
-    let len = packet_len(s, from);
-    if len == 0 {
-        let why = why_len(&s[0..], from);
+    let Some(len) = packet_len(s, from) else {
+        let why = why_len_unchecked(s, from);
         return RtcpStep::coded(Code::from(why), at);
-    }
+    };
     let end = from + len;
-    let n = PacketNumbers::read(&s[from..end]);
-    if n.body == 0 {
-        let why = Packet::why(&s[from..end]);
+    let Some(n) = PacketNumbers::read(&s[from..end]) else {
+        let why = Packet::why_unchecked(&s[from..end]);
         return RtcpStep::coded(Code::from(why), at);
-    }
+    };
     RtcpStep {
         kind: n.kind,
         packet_type: n.packet_type,
