@@ -11,7 +11,7 @@ use super::refusal::refused;
 use super::write_result::RtcpWritten;
 use report::receiver::ReceiverReport;
 use report::report::Report;
-use report::report_block::{ReportBlock, list_blocks_unchecked};
+use report::report_block::{LentLists, ReportBlock};
 use report::sender::SenderReport;
 use utils::error::{Code, RtcpParseError};
 
@@ -115,7 +115,12 @@ trait RtcpReport: Copy {
             Err(e) => return Self::refused(Code::from(e)),
         };
         let n = report.places().n_reports;
-        match list_blocks_unchecked(s, Self::Parsed::MIN_PACKET_LEN, n, fractions, losses, words) {
+        let mut lists = LentLists {
+            fractions,
+            losses,
+            words,
+        };
+        match lists.list_blocks_unchecked(s, Self::Parsed::MIN_PACKET_LEN, n) {
             Ok(_) => Self::accepted(report),
             Err(e) => Self::refused(Code::from(e)),
         }
@@ -210,7 +215,12 @@ pub fn rtcp_rr_report_blocks(
 ) -> RtcpWritten
     ensures { (result, fractions.new, losses.new, words.new) ≡ blocks_out (lay_blocks (map_ok report_blocks (read_as RR s.now)) fractions.old losses.old words.old) }
 {
-    RtcpWritten::from(ReceiverReport::report_blocks(s, fractions, losses, words))
+    let mut lists = LentLists {
+        fractions,
+        losses,
+        words,
+    };
+    RtcpWritten::from(ReceiverReport::report_blocks(s, &mut lists))
 }
 
 pub fn rtcp_sr_report_blocks(
@@ -221,7 +231,12 @@ pub fn rtcp_sr_report_blocks(
 ) -> RtcpWritten
     ensures { (result, fractions.new, losses.new, words.new) ≡ blocks_out (lay_blocks (map_ok report_blocks (read_as SR s.now)) fractions.old losses.old words.old) }
 {
-    RtcpWritten::from(SenderReport::report_blocks(s, fractions, losses, words))
+    let mut lists = LentLists {
+        fractions,
+        losses,
+        words,
+    };
+    RtcpWritten::from(SenderReport::report_blocks(s, &mut lists))
 }
 
 // The report's own numbers, and its blocks as rtcp_rr_report_blocks lays them, in one reading of the packet.
