@@ -14,6 +14,7 @@ use super::sdes::Sdes;
 use sdes_chunk::item::SdesItem;
 use sdes_chunk::{chunk, item};
 use utils::list::ListError;
+use utils::packet_parser::RtcpPacketParser;
 use utils::parser;
 
 // How many numbers a row has.

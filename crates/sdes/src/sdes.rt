@@ -1,17 +1,18 @@
 // A source description packet.
 #![tactic(auto, using(crate::proofs::Packets::packets))]
 
-ghost use Rattle.std.specs.Prelude.{◌≡◌, None, take, drop};
-ghost use Rattle.rfc3550.specs.Answer.{refused, map_ok};
-ghost use Rattle.rfc3550.specs.Read.{SDES, read_as};
+ghost use Rattle.std.specs.Prelude.{◌≡◌, take, drop};
+ghost use Rattle.rfc3550.specs.Answer.{map_ok};
+ghost use Rattle.rfc3550.specs.Read.{SDES};
 ghost use Rattle.rfc3550.specs.Walk.{open_sdes, sdes_step};
-ghost use Rattle.utils.specs.Error.{parse_refusal, value_in, parsed_of};
+ghost use Rattle.utils.specs.Error.{parsed_of};
 ghost use Rattle.sdes.specs.Sdes.{sdes_view};
 ghost use Rattle.sdes.specs.Walk.{chunk_walk, sdes_walk, chunk_stepped};
 
 use sdes_chunk::chunk;
 use sdes_chunk::chunk::SdesChunk;
 use utils::error::RtcpParseError;
+use utils::packet_parser::RtcpPacketParser;
 use utils::parser;
 use utils::writer::MAX_PACKET_LEN;
 
@@ -29,11 +30,21 @@ impl Sdes {
 
     pub const PACKET_TYPE: u8 = 202;
 
-    // None where the packet is refused.
-    #[inline(always)]
-    pub fn read(s: &[u8]) -> Option<Sdes>
-        ensures { result ≡ value_in (map_ok sdes_view (read_as SDES s.now)) }
+    // The padding, of the bytes that were parsed.
+    pub fn padding_bytes(self, s: &[u8]) -> &[u8]
+        ensures { result.now ≡ take self.padding_len (drop self.body s.now) }
     {
+        parser::part(s, self.body, self.padding_len)
+    }
+}
+
+impl RtcpPacketParser for Sdes {
+    ghost kind = { SDES };
+
+    ghost view = { sdes_view };
+
+    #[inline(always)]
+    fn read(s: &[u8]) -> Option<Sdes> {
         let body = parser::body_of(s, Sdes::MIN_PACKET_LEN, Sdes::PACKET_TYPE)?;
         let n_chunks = parser::parse_count(s) as usize;
         let chunks = chunk::chunks_end(&s[Sdes::MIN_PACKET_LEN..body], n_chunks);
@@ -52,12 +63,8 @@ impl Sdes {
         })
     }
 
-    // Why a packet that is refused is.
     #[cold]
-    pub fn why_unchecked(s: &[u8]) -> RtcpParseError
-        requires { value_in (read_as SDES s.now) ≡ None }
-        ensures { refused (parse_refusal result) ≡ read_as SDES s.now }
-    {
+    fn why_unchecked(s: &[u8]) -> RtcpParseError {
         let Some(body) = parser::body_of(s, Sdes::MIN_PACKET_LEN, Sdes::PACKET_TYPE) else {
             return parser::why_header_unchecked(s, Sdes::MIN_PACKET_LEN, Sdes::PACKET_TYPE);
         };
@@ -72,25 +79,6 @@ impl Sdes {
             expected: Sdes::MIN_PACKET_LEN + at,
             actual: body,
         }
-    }
-
-    // By hand in each kind, as `App::parse`, which says why.
-    #[tactic(auto, using(utils::proofs::Values::values))]
-    #[inline(always)]
-    pub fn parse(s: &[u8]) -> Result<Sdes, RtcpParseError>
-        ensures { parsed_of result ≡ map_ok sdes_view (read_as SDES s.now) }
-    {
-        match Sdes::read(s) {
-            Some(sdes) => Ok(sdes),
-            None => Err(Sdes::why_unchecked(s)),
-        }
-    }
-
-    // The padding, of the bytes that were parsed.
-    pub fn padding_bytes(self, s: &[u8]) -> &[u8]
-        ensures { result.now ≡ take self.padding_len (drop self.body s.now) }
-    {
-        parser::part(s, self.body, self.padding_len)
     }
 }
 

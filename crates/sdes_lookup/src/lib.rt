@@ -12,6 +12,7 @@ ghost use Rattle.sdes_lookup.specs.Lookup.{marked, unanswered_in, Answered};
 use sdes::sdes::Sdes;
 use sdes_chunk::chunk::SdesChunk;
 use utils::error::RtcpParseError;
+use utils::packet_parser::RtcpPacketParser;
 
 // The answer for an SSRC that no chunk names.
 pub const NO_CHUNK: u8 = 255;

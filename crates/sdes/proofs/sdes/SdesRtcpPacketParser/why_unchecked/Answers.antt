@@ -1,6 +1,6 @@
 use Rattle.rfc3550.proofs.Prelude.{rules, arith}
 use Rattle.sdes.proofs.Packets.{chunks_inside, chunks_fit, why_at_end}
-use Rattle.sdes.proofs.sdes.Sdes.why_unchecked.Goals as goal
+use Rattle.sdes.proofs.sdes.SdesRtcpPacketParser.why_unchecked.Goals as goal
 
 pub slice_bounds-why_unchecked-count : goal.slice_bounds-why_unchecked-count
 slice_bounds-why_unchecked-count c = chunks_inside _ _ c.in-Some.ensures _ _ c.chunks_end-chunks.ensures c.parse_count-n_chunks.ensures.0
