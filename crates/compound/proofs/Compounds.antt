@@ -6,7 +6,7 @@ use Rattle.rfc3550.specs.Packet.{Packet as Read, has_cname, some}
 use Rattle.rfc3550.specs.Read.{kind_of, version_in, padded, type_in, low_in, stated, read_as}
 use Rattle.rfc3550.specs.Compound.{read_packet, read_packets, read_compound}
 use Rattle.rfc3550.specs.Walk.{open_walk, step}
-use Rattle.rfc3550.proofs.Answers.{true≢false, need_inv, ok_injective, map_ok_inv, or_assoc}
+use Rattle.rfc3550.proofs.Answers.{need_inv, ok_injective, map_ok_inv, or_assoc}
 use Rattle.rfc3550.proofs.Compounds.{packet_span, packets_turns}
 use Rattle.utils.specs.Error.{value_in}
 use Rattle.utils.proofs.Reading.{map_ok_refused}
@@ -383,51 +383,54 @@ module _ (s : List ℕ) (at : ℕ) where
   step_none r q = go (ltb at (length s)) refl
     where
       go : (b : Bool) → ltb at (length s) ≡ b → refused r ≡ map_ok step_view (step s at)
-      go false e = q ∙ rw e
+      go false e =
+          let w : ◌≡◌ {A = Answer ℕ} (refused r) (refused (refusal 25 0 0)) = q ∙ rw e in
+          let x : r ≡ refusal 25 0 0 = cc in
+          rw (e, x)
       go true e = let w : refused r ≡ frame (eqb at 0) (drop at s) = q ∙ rw e in rw (e, unframed (eqb at 0) (drop at s) r w)
 
   module _ (n : ℕ) (h : Some n ≡ value_in (frame_at s at)) where
-      came_at : (at < length s) × (frame (eqb at 0) (drop at s) ≡ ok n)
-      unfolding frame_at
-      came_at = let a = need_inv _ _ _ _ _ (sym (value_is (frame_at s at) n h)) in (ltb-true at (length s) a.0, a.1)
+    came_at : (at < length s) × (frame (eqb at 0) (drop at s) ≡ ok n)
+    unfolding frame_at
+    came_at = let a = need_inv _ _ _ _ _ (sym (value_is (frame_at s at) n h)) in (ltb-true at (length s) a.0, a.1)
 
-      here_framed : Framed (eqb at 0) (drop at s) n
-      here_framed = frame_inv (eqb at 0) (drop at s) n (sym came_at.1)
+    here_framed : Framed (eqb at 0) (drop at s) n
+    here_framed = frame_inv (eqb at 0) (drop at s) n (sym came_at.1)
 
-      pub step_start : at ≤ length s
-      step_start = let l = came_at.0 in omega arith
+    pub step_start : at ≤ length s
+    step_start = let l = came_at.0 in omega arith
 
-      pub step_within : at + n ≤ length s
-      step_within = let f = here_framed in let l = came_at.0 in omega (arith, f.within, length-drop at s)
+    pub step_within : at + n ≤ length s
+    step_within = let f = here_framed in let l = came_at.0 in omega (arith, f.within, length-drop at s)
 
-      pub step_fits : length s < 2 ^ 64 → at + n < 2 ^ 64
-      step_fits l = let w = step_within in omega arith
+    pub step_fits : length s < 2 ^ 64 → at + n < 2 ^ 64
+    step_fits l = let w = step_within in omega arith
 
-      abbrev there_read : Answer Read
-      there_read = read_as (kind_of (type_in (take (at + n - at) (drop at s))) (low_in (take (at + n - at) (drop at s)))) (take (at + n - at) (drop at s))
+    abbrev there_read : Answer Read
+    there_read = read_as (kind_of (type_in (take (at + n - at) (drop at s))) (low_in (take (at + n - at) (drop at s)))) (take (at + n - at) (drop at s))
 
-      -- the step is the reading of the packet there
-      step_is : step s at ≡ (there_read >>= λ (p : Read). ok (p, at + n))
-      unfolding step need ◌>>◌
-      step_is =
-          let m : at + n - at ≡ n = omega arith in
-          rw (lt-ltb at (length s) came_at.0, m, behind (eqb at 0) (drop at s) n (sym (ap value_in came_at.1)), ← here_framed.stated)
+    -- the step is the reading of the packet there
+    step_is : step s at ≡ (there_read >>= λ (p : Read). ok (p, at + n))
+    unfolding step need ◌>>◌
+    step_is =
+        let m : at + n - at ≡ n = omega arith in
+        rw (lt-ltb at (length s) came_at.0, m, behind (eqb at 0) (drop at s) n (sym (ap value_in came_at.1)), ← here_framed.stated)
 
-      pub stepped : (a : Answer Packet) → a ≡ map_ok packet_view there_read → map_ok (λ (p : Packet). (p, walk_at (at + n))) a ≡ map_ok step_view (step s at)
-      unfolding map_ok ◌>>=◌
-      stepped a e = rw (step_is, e) (go there_read)
-        where
-          go : (m : Answer Read) → map_ok (λ (p : Packet). (p, walk_at (at + n))) (map_ok packet_view m) ≡ map_ok step_view (m >>= λ (p : Read). ok (p, at + n))
-          go (ok p) = refl
-          go (refused r) = refl
+    pub stepped : (a : Answer Packet) → a ≡ map_ok packet_view there_read → map_ok (λ (p : Packet). (p, walk_at (at + n))) a ≡ map_ok step_view (step s at)
+    unfolding map_ok ◌>>=◌
+    stepped a e = rw (step_is, e) (go there_read)
+      where
+        go : (m : Answer Read) → map_ok (λ (p : Packet). (p, walk_at (at + n))) (map_ok packet_view m) ≡ map_ok step_view (m >>= λ (p : Read). ok (p, at + n))
+        go (ok p) = refl
+        go (refused r) = refl
 
-      pub step_refused : (r : Refusal) → refused r ≡ map_ok packet_view there_read → refused r ≡ map_ok step_view (step s at)
-      unfolding map_ok
-      step_refused r e = stepped (refused r) e
+    pub step_refused : (r : Refusal) → refused r ≡ map_ok packet_view there_read → refused r ≡ map_ok step_view (step s at)
+    unfolding map_ok
+    step_refused r e = stepped (refused r) e
 
-      pub step_some : (p : Packet) → ok p ≡ map_ok packet_view there_read → ok (p, walk_at (at + n)) ≡ map_ok step_view (step s at)
-      unfolding map_ok
-      step_some p e = stepped (ok p) e
+    pub step_some : (p : Packet) → ok p ≡ map_ok packet_view there_read → ok (p, walk_at (at + n)) ≡ map_ok step_view (step s at)
+    unfolding map_ok
+    step_some p e = stepped (ok p) e
 
 module _ (s : List ℕ) where
   pub open_refused : (r : Refusal) → refused r ≡ answer s → refused r ≡ map_ok walk_at (open_walk s)

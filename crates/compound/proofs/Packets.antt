@@ -66,7 +66,7 @@ module _ (s : List ℕ) (c : Kinds) (h : kind_in c ≡ kind_of (type_in s) (low_
 
 module _ (s : List ℕ) (c d : Kinds) (h : kind_in c ≡ kind_of (type_in s) (low_in s)) (e : c ≡ d) where
   pub none_found : value_in (read_as (kind_of (type_in s) (low_in s)) s) ≡ None → value_in (read_as (kind_in d) s) ≡ None
-  none_found z = rw (sym (kind_found s c d h e)) z
+  none_found z = rw (kind_found s c d h e) z
 
   pub why_found : (r : Refusal) → refused r ≡ read_as (kind_in d) s → refused r ≡ read_as (kind_of (type_in s) (low_in s)) s
   why_found r q = q ∙ ap (λ (k : Kind). read_as k s) (kind_found s c d h e)

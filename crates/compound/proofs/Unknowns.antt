@@ -9,7 +9,6 @@ use Rattle.utils.specs.Error.{value_in}
 use Rattle.utils.proofs.Headers.{unnamed}
 use Rattle.utils.proofs.Reading.{content_in, got, none_viewed_at_header, why_at_header, none_read, body_accepted, body_content, padding_here}
 use Rattle.utils.proofs.Parts.{drop_take}
-use Rattle.compound.specs.declared.unknown.Unknown.{Unknown}
 use Rattle.compound.specs.Unknown.{body_of, unknown_view}
 
 content : (s : List ℕ) (b : ℕ) → content_in UNKNOWN s b ≡ ok (unknown (type_in s) (low_in s) (take (b - 4) (drop 4 s)))
