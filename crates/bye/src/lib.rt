@@ -12,7 +12,8 @@ use utils::error::RtcpParseError;
 use utils::packet_parser::RtcpPacketParser;
 
 // reason is the place of the reason's first byte or, where there is none, the end of the sources; the tail lies between the reason's end
-// and body, where the padding starts. has_reason stands beside them, and they are no Option: where there is no reason, the tail starts at the place all the same.
+// and body, where the padding starts. has_reason stands beside them, and they are no Option: where there is no reason, the tail starts at
+// their sum all the same, and C is given both.
 #[derive(Clone, Copy)]
 pub struct Bye {
     pub n_sources: usize,
