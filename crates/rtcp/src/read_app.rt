@@ -7,6 +7,7 @@ ghost use Rattle.rtcp.specs.App.{app_result};
 
 use super::refusal::refused;
 use app::App;
+use utils::packet_parser::RtcpPacketParser;
 
 #[repr(C)]
 #[derive(Clone, Copy, Default)]

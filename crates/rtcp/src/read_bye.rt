@@ -9,6 +9,7 @@ ghost use Rattle.rtcp.specs.Bye.{bye_result, source_result};
 use super::refusal::refused;
 use bye::Bye;
 use utils::error::RtcpParseError;
+use utils::packet_parser::RtcpPacketParser;
 
 #[repr(C)]
 #[derive(Clone, Copy, Default)]

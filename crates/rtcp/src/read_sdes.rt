@@ -16,6 +16,7 @@ use sdes::sdes::{ChunkWalk, Sdes};
 use sdes_chunk::chunk::{ItemWalk, SdesChunk};
 use sdes_chunk::item::SdesItem;
 use utils::error::RtcpParseError;
+use utils::packet_parser::RtcpPacketParser;
 
 #[repr(C)]
 #[derive(Clone, Copy, Default)]

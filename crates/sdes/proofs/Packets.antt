@@ -12,10 +12,10 @@ use Rattle.utils.proofs.Parts.{drop_take}
 use Rattle.utils.proofs.Headers.{Accepted}
 use Rattle.utils.proofs.Reading.{packet_of, content_in, Got, got, none_viewed_at_header, why_at_header, body_accepted, body_content, padding_is}
 use Rattle.sdes_chunk.specs.declared.chunk.Chunks.{Chunks}
-use Rattle.sdes_chunk.specs.Chunk.{chunk_first, chunks_from}
+use Rattle.sdes_chunk.specs.Chunk.{cname_found, chunks_from}
 use Rattle.sdes.specs.Sdes.{sdes_view}
 use Rattle.sdes_chunk.proofs.Answers.{rest_is}
-use Rattle.sdes_chunk.proofs.Chunks.{chunk_cname}
+use Rattle.sdes_chunk.proofs.Chunks.{chunk_named}
 use Rattle.sdes_chunk.proofs.Readings.{chunk_in, chunks_in}
 
 -- ---- a run over chunks, and reading them
@@ -67,7 +67,7 @@ ran_refused n cname at s r k q e =
     }
 
 ran_more : (n : ℕ) (cname : Option ℕ) (at : ℕ) (s : List ℕ) (r : Chunks) (x : Chunk × List ℕ) → read_chunk s ≡ ok x
-    → Ran n (option_or cname (chunk_first x).cname) (at + length (chunk_bytes x.0)) x.1 r → Ran (suc n) cname at s r
+    → Ran n (option_or cname (cname_found 4 x.0.items)) (at + length (chunk_bytes x.0)) x.1 r → Ran (suc n) cname at s r
 unfolding read_chunks ◌>>=◌
 ran_more n cname at s r x q w =
     let g = chunk_in s q in
@@ -88,8 +88,8 @@ ran_more n cname at s r x q w =
             x.0 ∷ y.0,
             rw (q, y.1),
             sym (or_assoc (is_some cname) (chunk_has_cname x.0) (some chunk_has_cname y.0))
-                ∙ ap (λ (b : Bool). (is_some cname || b) || some chunk_has_cname y.0) (sym (chunk_cname x.0))
-                ∙ ap (λ (b : Bool). b || some chunk_has_cname y.0) (sym (first_or cname (chunk_first x).cname))
+                ∙ ap (λ (b : Bool). (is_some cname || b) || some chunk_has_cname y.0) (sym (chunk_named x.0))
+                ∙ ap (λ (b : Bool). b || some chunk_has_cname y.0) (sym (first_or cname (cname_found 4 x.0.items)))
                 ∙ y.2,
           );
     }

@@ -2,7 +2,7 @@
 use Rattle.std.specs.Prelude.{Option, None, Some, is_some, option_map, unwrap_or}
 use Rattle.std.specs.Option.{option_or}
 use Rattle.std.proofs.lemmas.Option.{none-some}
-use Rattle.rfc3550.proofs.Prelude.{ℕ, zero, suc, ◌+◌, ◌-◌, ◌*◌, ◌/◌, ◌%◌, ◌^◌, ◌<◌, ◌≤◌, ◌≡◌, refl, sym, ap, ◌∙◌, subst, ◌≢◌, Bool, true, false, ◌&&◌, ◌||◌, ltb, eqb, List, [], ◌∷◌, arith, add-zero, add_assoc, add-one, rules, le-leb, lt-leb, lt-ltb, le-ltb, ltb-true, ltb-false, eq-eqb, ne_eqb, eqb-true, eqb-false, not-true, not-false, length, get_or, take, drop, length-append, length-drop, length-replicate, drop_of_length-le, drop-cons, drop-drop, get_or-drop}
+use Rattle.rfc3550.proofs.Prelude.{ℕ, zero, suc, ◌+◌, ◌-◌, ◌*◌, ◌/◌, ◌%◌, ◌^◌, ◌<◌, ◌≤◌, ◌≡◌, refl, sym, ap, ◌∙◌, subst, ◌≢◌, Bool, true, false, ◌&&◌, ◌||◌, ltb, eqb, List, [], ◌∷◌, arith, add-zero, add_assoc, add-one, rules, le-leb, lt-leb, lt-ltb, le-ltb, ◌↔◌, ltb-true, ltb-false, eq-eqb, ne_eqb, eqb-true, eqb-false, not-true, not-false, length, get_or, take, drop, length-append, length-drop, length-replicate, drop_of_length-le, drop-cons, drop-drop, get_or-drop}
 use Rattle.rfc3550.specs.Answer.{Refusal, refusal, Answer, ok, refused, refuse, need, ◌>>◌, ◌>>=◌, map_ok, pick}
 use Rattle.rfc3550.specs.Bytes.{val}
 use Rattle.rfc3550.specs.Packet.{Item, item_type, item_rest, item_bytes, items_bytes, is_cname, some, Chunk, chunk_bytes, chunk_has_cname, fill}
@@ -15,7 +15,7 @@ use Rattle.sdes_chunk.specs.declared.chunk.SdesChunk.{SdesChunk}
 use Rattle.sdes_chunk.specs.declared.chunk.ChunkEnd.{ChunkEnd}
 use Rattle.sdes_chunk.specs.declared.chunk.Chunks.{Chunks}
 use Rattle.sdes_chunk.specs.Item.{item_end, step_end}
-use Rattle.sdes_chunk.specs.Chunk.{cname_place, chunk_view, chunk_first, zero_at, first_cname, boundary, filled, chunk_end, closed_at, filled_at, ItemsEnd, ZerosEnd, chunks_from}
+use Rattle.sdes_chunk.specs.Chunk.{cname_place, cname_found, chunk_view, chunk_first, zero_at, first_cname, boundary, filled, chunk_end, closed_at, filled_at, ItemsEnd, ZerosEnd, chunks_from}
 use Rattle.sdes_chunk.proofs.Answers.{rest_is, map_ok_lem, map_refused, map_refusal, map_same, map_bind}
 use Rattle.sdes_chunk.proofs.Items.{Steps, steps_not, steps, end_last}
 use Rattle.sdes_chunk.proofs.Readings.{item_in, item_length_lem, item_rest_lem, chunk_in}
@@ -49,20 +49,46 @@ place_step true at p c e = refl
 place_step false at p c e = e
 
 -- there is a place of a CNAME exactly if some item is one
-pub place_some : (at : ℕ) (is : List Item) → is_some (cname_place at is) ≡ some (λ (i : Item). is_cname (item_type i) (length (item_rest i))) is
-unfolding cname_place
+pub place_some : (at : ℕ) (is : List Item) → is_some (cname_found at is) ≡ some (λ (i : Item). is_cname (item_type i) (length (item_rest i))) is
+unfolding cname_found
 place_some at [] = refl
 place_some at (i ∷ is) =
-    place_step (is_cname (item_type i) (length (item_rest i))) at (cname_place (at + length (item_bytes i)) is) _ (place_some (at + length (item_bytes i)) is)
+    place_step (is_cname (item_type i) (length (item_rest i))) at (cname_found (at + length (item_bytes i)) is) _ (place_some (at + length (item_bytes i)) is)
 
-pub chunk_cname : (c : Chunk) → is_some (chunk_view c).cname ≡ chunk_has_cname c
-chunk_cname c = place_some 4 c.items
+pub chunk_named : (c : Chunk) → is_some (cname_found 4 c.items) ≡ chunk_has_cname c
+chunk_named c = place_some 4 c.items
+
+-- as a number: no CNAME stands at 0
+number_step : (b : Bool) (at : ℕ) (p : Option ℕ) (n : ℕ) → unwrap_or p 0 ≡ n → unwrap_or (pick b (Some at) p) 0 ≡ pick b at n
+number_step true at p n e = refl
+number_step false at p n e = e
+
+pub place_number : (at : ℕ) (is : List Item) → unwrap_or (cname_found at is) 0 ≡ cname_place at is
+unfolding cname_found cname_place
+place_number at [] = refl
+place_number at (i ∷ is) = number_step (is_cname (item_type i) (length (item_rest i))) at (cname_found (at + length (item_bytes i)) is) _ (place_number (at + length (item_bytes i)) is)
+
+above_step : (b : Bool) (at n : ℕ) (c : Bool) → 0 < at → ltb 0 n ≡ c → ltb 0 (pick b at n) ≡ (b || c)
+above_step true at n c h e = lt-ltb 0 at h
+above_step false at n c h e = e
+
+place_above : (at : ℕ) (is : List Item) → 0 < at → ltb 0 (cname_place at is) ≡ some (λ (i : Item). is_cname (item_type i) (length (item_rest i))) is
+unfolding cname_place
+place_above at [] h = refl
+place_above at (i ∷ is) h =
+    above_step (is_cname (item_type i) (length (item_rest i))) at (cname_place (at + length (item_bytes i)) is) _ h (place_above (at + length (item_bytes i)) is (omega arith))
+
+pub chunk_cname : (c : Chunk) → ltb 0 (chunk_view c).cname ≡ chunk_has_cname c
+chunk_cname c = place_above 4 c.items (omega arith)
+
+pub cname_iff : (c : Chunk) → (0 < (chunk_view c).cname) ↔ (chunk_has_cname c ≡ true)
+cname_iff c = (λ h. sym (chunk_cname c) ∙ lt-ltb 0 (chunk_view c).cname h, λ e. ltb-true 0 (chunk_view c).cname (chunk_cname c ∙ e))
 
 -- ---- the turns over the items
 
 -- the chunk's end, where the items left are those of x and the first of them stands at `at`
 abbrev seen_at : ℕ → Option ℕ → List Item × List ℕ → ChunkEnd
-seen_at at cname x = record { length = at + length (items_bytes x.0) + fill (at + length (items_bytes x.0)); cname = option_or cname (cname_place at x.0) }
+seen_at at cname x = record { length = at + length (items_bytes x.0) + fill (at + length (items_bytes x.0)); cname = option_or cname (cname_found at x.0) }
 
 -- what is known before each turn: the items that are left give the answer. An item takes two bytes at least, so the bytes left are enough turns
 pub record Going (s : List ℕ) (known : Option ℕ) (at : ℕ) (cname : Option ℕ) : Type 0 where
@@ -91,7 +117,7 @@ items_start s known h =
 
 items_closed₁ : (t : ℕ) (s : List ℕ) (at : ℕ) (cname : Option ℕ) → length s - at ≤ t → at < length s → get_or s at 0 ≡ 0
     → map_ok (closed_at at cname) (read_fill (fill at) at (drop at s)) ≡ map_ok (seen_at at cname) (read_items t at (drop at s))
-unfolding read_items items_bytes cname_place
+unfolding read_items items_bytes cname_found
 items_closed₁ zero s at cname h l z = absurd (omega arith)
 items_closed₁ (suc t) s at cname h l z =
     let e : drop at s ≡ 0 ∷ drop (suc at) s = rw (← z) (drop-cons s at 0 l) in
@@ -125,7 +151,7 @@ module _ (t : ℕ) (s : List ℕ) (at : ℕ) (cname : Option ℕ) (l : at < leng
   items_again₁ : (x : Item × List ℕ) → read_item (drop at s) ≡ ok x
       → map_ok (seen_at at cname) (read_items (suc t) at (drop at s))
       ≡ map_ok (seen_at (at + length (item_bytes x.0)) (first_cname cname at (item_type x.0) (length (item_rest x.0)))) (read_items t (at + length (item_bytes x.0)) (drop (at + length (item_bytes x.0)) s))
-  unfolding ◌>>=◌ items_bytes cname_place
+  unfolding ◌>>=◌ items_bytes cname_found
   items_again₁ x e =
       let r : x.1 ≡ drop (at + length (item_bytes x.0)) s = item_rest_lem (drop at s) e ∙ drop-drop (length (item_bytes x.0)) at s in
       rw (first_here, e)
@@ -134,7 +160,7 @@ module _ (t : ℕ) (s : List ℕ) (at : ℕ) (cname : Option ℕ) (l : at < leng
       rw (
         length-append (item_bytes x.0) (items_bytes y.0),
         ← add_assoc at (length (item_bytes x.0)) (length (items_bytes y.0)),
-        first_step cname at (cname_place (at + length (item_bytes x.0)) y.0) (is_cname (item_type x.0) (length (item_rest x.0))),
+        first_step cname at (cname_found (at + length (item_bytes x.0)) y.0) (is_cname (item_type x.0) (length (item_rest x.0))),
       ))
       ∙ ap (λ (bs : List ℕ). map_ok (seen_at (at + length (item_bytes x.0)) (first_cname cname at (item_type x.0) (length (item_rest x.0)))) (read_items t (at + length (item_bytes x.0)) bs)) r)
 
@@ -569,7 +595,7 @@ module _ (s : List ℕ) (n at left : ℕ) (cname : Option ℕ) (g : Running s n 
 abbrev lone : Answer (Chunk × List ℕ) → Chunks
 lone m =
     unwrap_or
-    (option_map (λ (x : Chunk × List ℕ). record { at = 0 + length (chunk_bytes x.0); left = 0; cname = cname_place 4 x.0.items }) (value_in m))
+    (option_map (λ (x : Chunk × List ℕ). record { at = 0 + length (chunk_bytes x.0); left = 0; cname = cname_found 4 x.0.items }) (value_in m))
     (record { at = 0; left = 1; cname = None })
 
 lone_is : (s : List ℕ) → chunks_from 1 0 None s ≡ lone (read_chunk s)
@@ -591,27 +617,27 @@ module _ (s : List ℕ) (r : Chunks) (h : r ≡ chunks_from 1 0 None s) where
       go (refused k) e = refl
 
   module _ (l : r.left ≤ 0) where
-    lone_came : (x : Chunk × List ℕ) × (read_chunk s ≡ ok x) × (r ≡ record { at = 0 + length (chunk_bytes x.0); left = 0; cname = cname_place 4 x.0.items })
+    lone_came : (x : Chunk × List ℕ) × (read_chunk s ≡ ok x) × (r ≡ record { at = 0 + length (chunk_bytes x.0); left = 0; cname = cname_found 4 x.0.items })
     lone_came = go (read_chunk s) refl (h ∙ lone_is s)
       where
         go : (m : Answer (Chunk × List ℕ)) → read_chunk s ≡ m → r ≡ lone m
-            → (x : Chunk × List ℕ) × (read_chunk s ≡ ok x) × (r ≡ record { at = 0 + length (chunk_bytes x.0); left = 0; cname = cname_place 4 x.0.items })
+            → (x : Chunk × List ℕ) × (read_chunk s ≡ ok x) × (r ≡ record { at = 0 + length (chunk_bytes x.0); left = 0; cname = cname_found 4 x.0.items })
         go (ok x) q e = (x, q, e)
         go (refused k) q e = absurd (omega (arith, ap (λ (r : Chunks). r.left) e))
 
     pub lone_long : 0 + 4 ≤ length s
     lone_long = let w = lone_came in omega (arith, chunk_size_lem w.0.0, (chunk_in s w.1).size)
 
-    pub lone_read : (ssrc : ℕ) → ssrc ≡ val (take 4 (drop 0 s)) → Some (record { ssrc = ssrc; length = r.at; cname = r.cname }) ≡ value_in (map_ok chunk_first (read_chunk s))
+    pub lone_read : (ssrc n : ℕ) → ssrc ≡ val (take 4 (drop 0 s)) → n ≡ unwrap_or r.cname 0 → Some (record { ssrc = ssrc; length = r.at; cname = n }) ≡ value_in (map_ok chunk_first (read_chunk s))
     unfolding map_ok
-    lone_read ssrc q = go lone_came.0 lone_came.1 lone_came.2
+    lone_read ssrc place q f = rw f (go lone_came.0 lone_came.1 lone_came.2)
       where
-        go : (x : Chunk × List ℕ) → read_chunk s ≡ ok x → r ≡ record { at = 0 + length (chunk_bytes x.0); left = 0; cname = cname_place 4 x.0.items }
-            → Some (record { ssrc = ssrc; length = r.at; cname = r.cname }) ≡ value_in (map_ok chunk_first (read_chunk s))
+        go : (x : Chunk × List ℕ) → read_chunk s ≡ ok x → r ≡ record { at = 0 + length (chunk_bytes x.0); left = 0; cname = cname_found 4 x.0.items }
+            → Some (record { ssrc = ssrc; length = r.at; cname = unwrap_or r.cname 0 }) ≡ value_in (map_ok chunk_first (read_chunk s))
         go x e m =
             let n : r.at ≡ length (chunk_bytes x.0) = omega (arith, ap (λ (r : Chunks). r.at) m) in
-            let c : r.cname ≡ cname_place 4 x.0.items = ap (λ (r : Chunks). r.cname) m in
-            rw (e, n, c, q, first_four s e)
+            let c : r.cname ≡ cname_found 4 x.0.items = ap (λ (r : Chunks). r.cname) m in
+            rw (e, n, c, place_number 4 x.0.items, q, first_four s e)
 
 pub chunk_long : (x : Chunk × List ℕ) → 0 < (chunk_first x).length
 chunk_long x = omega (arith, chunk_size_lem x.0)

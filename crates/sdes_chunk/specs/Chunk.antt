@@ -20,10 +20,15 @@ use Rattle.sdes_chunk.specs.declared.chunk.Chunks.{Chunks}
 
 -- ---- views
 
--- the place of the first CNAME among items of which the first stands at `at`
-unfoldable pub cname_place : ℕ → List Item → Option ℕ
-cname_place at [] = None
-cname_place at (i ∷ is) = pick (is_cname (item_type i) (length (item_rest i))) (Some at) (cname_place (at + length (item_bytes i)) is)
+-- the place of the first CNAME among items of which the first stands at `at`; 0 where there is none
+unfoldable pub cname_place : ℕ → List Item → ℕ
+cname_place at [] = 0
+cname_place at (i ∷ is) = pick (is_cname (item_type i) (length (item_rest i))) at (cname_place (at + length (item_bytes i)) is)
+
+-- the same place, or none
+unfoldable pub cname_found : ℕ → List Item → Option ℕ
+cname_found at [] = None
+cname_found at (i ∷ is) = pick (is_cname (item_type i) (length (item_rest i))) (Some at) (cname_found (at + length (item_bytes i)) is)
 
 abbrev pub chunk_view : Chunk → SdesChunk
 chunk_view c = record { ssrc = c.ssrc; length = length (chunk_bytes c); cname = cname_place 4 c.items }
@@ -49,7 +54,7 @@ filled end at = pick (ltb at end) (refuse 2 end at) (ok end)
 
 -- where a chunk ends, and the first CNAME up to there, where the place of one before the chunk may be known
 abbrev pub chunk_end : Option ℕ → Chunk × List ℕ → ChunkEnd
-chunk_end known x = record { length = length (chunk_bytes x.0); cname = option_or known (cname_place 4 x.0.items) }
+chunk_end known x = record { length = length (chunk_bytes x.0); cname = option_or known (cname_found 4 x.0.items) }
 
 -- the chunk whose items end at `at`
 abbrev pub closed_at : ℕ → Option ℕ → List ℕ → ChunkEnd

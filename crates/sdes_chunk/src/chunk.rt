@@ -14,12 +14,13 @@ use super::item::SdesItem;
 use utils::error::RtcpParseError;
 use utils::parser;
 
-// The SSRC, the number of bytes that the chunk takes, and the place of its first CNAME, counted from its start.
+// The SSRC, the number of bytes that the chunk takes, and the place of its first CNAME, counted from its start: 0 where there is none, and no Option,
+// since C is given this number and has to lose nothing by it.
 #[derive(Clone, Copy)]
 pub struct SdesChunk {
     pub ssrc: u32,
     pub length: usize,
-    pub cname: Option<usize>,
+    pub cname: usize,
 }
 
 // The next word boundary above a place.
@@ -201,7 +202,7 @@ impl SdesChunk {
         Some(SdesChunk {
             ssrc,
             length: chunks.at,
-            cname: chunks.cname,
+            cname: chunks.cname.unwrap_or(0),
         })
     }
 

@@ -1,5 +1,4 @@
 -- The turns that mark the answers of one chunk.
-use Rattle.std.specs.Prelude.{is_some}
 use Rattle.rfc3550.proofs.Prelude.{ℕ, zero, suc, ◌+◌, ◌-◌, ◌<◌, ◌≤◌, ◌≡◌, refl, sym, ap, ◌∙◌, Bool, true, false, not, ◌&&◌, List, [], ◌∷◌, ◌++◌, append_assoc, add-one, arith, rules, eq-eqb, ne_eqb, lt-ltb, eqb, ltb, length, get_or, set, take, drop, replicate, length-replicate, length-set, replicate-append-replicate, drop_of_length-le, drop-cons, set_at, take-append-drop}
 use lib.Seq.{take-suc, take-suc-set, drop-set-lt}
 use Rattle.rfc3550.specs.Answer.{pick}
@@ -83,10 +82,10 @@ module _ (k ssrc : ℕ) (ssrcs l₀ : List ℕ) (i left : ℕ) (l : List ℕ) (g
       })
 
 module _ (k : ℕ) (c : SdesChunk) (ssrcs l : List ℕ) where
-  pub visit_passes : (b : Bool) → is_some c.cname ≡ not b → b ≡ true → l ≡ pick (is_some c.cname) (marked k c.ssrc ssrcs l) l
-  visit_passes b q e = rw (q, e)
+  pub visit_passes : c.cname ≡ 0 → l ≡ pick (ltb 0 c.cname) (marked k c.ssrc ssrcs l) l
+  visit_passes e = rw e
 
-  pub visit_answers : (l₁ : List ℕ) (b : Bool) → is_some c.cname ≡ not b → b ≡ false → l₁ ≡ marked k c.ssrc ssrcs l → l₁ ≡ pick (is_some c.cname) (marked k c.ssrc ssrcs l) l
-  visit_answers l₁ b q e h = rw (q, e) h
+  pub visit_answers : (l₁ : List ℕ) → (c.cname ≡ 0 → ⊥) → l₁ ≡ marked k c.ssrc ssrcs l → l₁ ≡ pick (ltb 0 c.cname) (marked k c.ssrc ssrcs l) l
+  visit_answers l₁ z e = rw (lt-ltb 0 c.cname (omega arith)) e
 
 pub ruleset marks = (rules, mark_start, mark_long, mark_room, mark_some, visit_passes, visit_answers)

@@ -205,7 +205,7 @@ module _ (n : ℕ) (body ssrcs l₀ : List ℕ) (unanswered : ℕ) (s : List ℕ
         pub pass_inside : c.length ≤ length s
         pass_inside = rw size_here here.inside
 
-        pub pass_again : (unanswered ≡ 0 → ⊥) → (u : ℕ) (l₁ : List ℕ) → l₁ ≡ pick (is_some c.cname) (marked k c.ssrc ssrcs l) l → u ≡ unanswered_in (length ssrcs) l₁ → length l₁ ≡ length l
+        pub pass_again : (unanswered ≡ 0 → ⊥) → (u : ℕ) (l₁ : List ℕ) → l₁ ≡ pick (ltb 0 c.cname) (marked k c.ssrc ssrcs l) l → u ≡ unanswered_in (length ssrcs) l₁ → length l₁ ≡ length l
             → Passing n body ssrcs l₀ u (take (length s - c.length) (drop c.length s)) (k + 1) l₁
         pass_again y u l₁ e w eq =
             let m : some missing g.found ≡ true = some_unanswered k g.found (drop (length ssrcs) l₀) (omega (arith, g.low)) g.below (λ z. y (sym opened ∙ z)) in
@@ -228,8 +228,8 @@ module _ (n : ℕ) (body ssrcs l₀ : List ℕ) (unanswered : ℕ) (s : List ℕ
                   ∙ ap (λ (m : ℕ). pass m here.others ssrcs (visit k here.chunk ssrcs g.found)) (sym (add-one k));
             }
           where
-            named : is_some c.cname ≡ chunk_has_cname here.chunk
-            named = ap (λ (c : SdesChunk). is_some c.cname) is_here ∙ chunk_cname here.chunk
+            named : ltb 0 c.cname ≡ chunk_has_cname here.chunk
+            named = ap (λ (c : SdesChunk). ltb 0 c.cname) is_here ∙ chunk_cname here.chunk
 
             laid : (t : Bool) → chunk_has_cname here.chunk ≡ t → l₁ ≡ map coded (visit k here.chunk ssrcs g.found) ++ drop (length ssrcs) l₀
             laid true x =

@@ -1,7 +1,7 @@
 // Which chunks of a source description name the SSRCs of a list (document 02, order 2).
 #![tactic(auto)]
 
-ghost use Rattle.std.specs.Prelude.{◌≡◌, List, ℕ, ◌<◌, ◌≤◌, is_some, length, drop};
+ghost use Rattle.std.specs.Prelude.{◌≡◌, List, ℕ, ◌<◌, ◌≤◌, ltb, length, drop};
 ghost use Rattle.rfc3550.specs.Answer.{ok, pick};
 ghost use Rattle.rfc3550.specs.Packet.{Chunk};
 ghost use Rattle.rfc3550.specs.Read.{read_chunks};
@@ -38,9 +38,9 @@ fn mark(answers: &mut [u8], ssrcs: &[u32], ssrc: u32, k: u8, unanswered: usize) 
 #[tactic(auto, using(crate::proofs::Marks::marks))]
 fn visit(answers: &mut [u8], ssrcs: &[u32], chunk: SdesChunk, k: u8, unanswered: usize) -> usize
     requires { (length ssrcs.now ≤ length answers.old) × (k < 255) × (unanswered ≡ unanswered_in (length ssrcs.now) answers.old) }
-    ensures { (answers.new ≡ pick (is_some chunk.cname) (marked k chunk.ssrc ssrcs.now answers.old) answers.old) × (result ≡ unanswered_in (length ssrcs.now) answers.new) }
+    ensures { (answers.new ≡ pick (ltb 0 chunk.cname) (marked k chunk.ssrc ssrcs.now answers.old) answers.old) × (result ≡ unanswered_in (length ssrcs.now) answers.new) }
 {
-    if chunk.cname.is_none() {
+    if chunk.cname == 0 {
         return unanswered;
     }
     mark(answers, ssrcs, chunk.ssrc, k, unanswered)
