@@ -13,20 +13,10 @@ use Rattle.sdes_chunk.specs.Walk.{item_stepped}
 use Rattle.sdes_chunk.proofs.Readings.{item_placed}
 use Rattle.sdes_chunk.specs.declared.item.SdesItem.{SdesItem}
 use Rattle.sdes_chunk.specs.declared.chunk.ItemWalk.{ItemWalk}
-use Rattle.rtcp.specs.Sdes.{prefix_start, item_parts}
+use Rattle.rtcp.specs.Sdes.{prefix_start}
 use Rattle.rtcp.proofs.Results.{viewed}
 
 -- ---- items
-
-pub start_priv : (i : SdesItem) → i.type_ ≡ 8 → 3 ≡ prefix_start i
-start_priv i h = rw (eq-eqb i.type_ 8 h)
-
-pub start_plain : (i : SdesItem) → (i.type_ ≡ 8 → ⊥) → 2 ≡ prefix_start i
-start_plain i h = rw (ne_eqb i.type_ 8 h)
-
-pub parts_of : (i : SdesItem) (at start : ℕ) → start ≡ prefix_start i
-    → record { prefix = at + start; value = at + (start + i.prefix_len); value_len = 2 + i.length - (start + i.prefix_len) } ≡ item_parts at i
-parts_of i at start h = rw h
 
 start_by : (b : Bool) → pick b 3 2 + 0 ≡ pick b 3 2
 start_by b = omega arith
@@ -77,4 +67,4 @@ module _ (o : Result (SdesItem × ItemWalk) RtcpParseError) (i : SdesItem) (w : 
       came (λ x. 2 + x.0.length ≤ length s - at) (λ y e. let g = item_placed (drop at s) (step_read s at e).1 in let d = length-drop at s in omega (arith, g.within))
       in omega arith
 
-pub ruleset descriptions = (rules, start_priv, start_plain, parts_of, item_order, item_fits, step_order, step_fits)
+pub ruleset descriptions = (rules, item_order, item_fits)

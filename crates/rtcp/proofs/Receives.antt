@@ -1,6 +1,5 @@
 -- What C gets of a source, and histories of what its functions returned.
-use Rattle.std.specs.Prelude.{Option}
-use Rattle.rfc3550.proofs.Prelude.{rules, ℕ, ◌/◌, ◌<◌, ◌≡◌, refl, sym, ap, ◌∙◌, subst, Bool, true, false, List, [], ◌∷◌, map, arith, eqb}
+use Rattle.rfc3550.proofs.Prelude.{ℕ, ◌/◌, ◌<◌, ◌≡◌, refl, sym, ap, ◌∙◌, subst, Bool, true, false, List, [], ◌∷◌, map, arith, eqb}
 use Rattle.rfc3550.specs.Answer.{refusal, Answer, ok, refused}
 use Rattle.rfc3550.specs.Packet.{Block, Reporter, All}
 use Rattle.rfc3550.specs.Write.{lists_of, give_report, write}
@@ -12,11 +11,7 @@ use Rattle.rfc3550.proofs.Answers.{true≢false, Never}
 use Rattle.rfc3550.proofs.Receptions.{Gave, write_never, call_never}
 use Rattle.rfc3550.proofs.Histories.{Follows, last, ran, returned}
 use Rattle.report.specs.Block.{block_view}
-use Rattle.report.specs.declared.report_block.ReportBlock.{ReportBlock}
-use Rattle.reception.specs.Reception.{reception_of, update_of, report_of}
-use Rattle.reception.specs.declared.reception.Update.{Update}
-use Rattle.reception.specs.declared.reception.Reception as code
-use Rattle.rtcp.specs.Result.{number_of, bit}
+use Rattle.rtcp.specs.Result.{number_of}
 use Rattle.rtcp.specs.WriteResult.{written_with_buffer}
 use Rattle.rtcp.specs.WriteCompound.{writer_in, call_with_buffer}
 use Rattle.rtcp.specs.declared.write_result.RtcpWritten.{RtcpWritten}
@@ -28,21 +23,6 @@ use Rattle.rtcp.specs.declared.receive.RtcpReception.{RtcpReception}
 use Rattle.rtcp.specs.declared.receive.RtcpReceptionUpdate.{RtcpReceptionUpdate}
 use Rattle.rtcp.specs.declared.receive.RtcpReceptionBlock.{RtcpReceptionBlock}
 use Rattle.rtcp.proofs.Injective.{bit_back}
-
--- ---- each call
-
-pub new_out : (seq : ℕ) (s : code.Reception) (r : RtcpReception) → reception_of s ≡ new_reception seq → r ≡ reception_result (reception_of s) → r ≡ reception_result (new_reception seq)
-new_out seq s r e h = h ∙ ap reception_result e
-
-pub update_out : (s : RtcpReception) (c : code.Reception) (seq timestamp arrival : ℕ) (u : Update) (r : RtcpReception) (a : ℕ) → reception_of c ≡ reception_in s → update_of u ≡ update (reception_of c) seq timestamp arrival
-    → r ≡ reception_result (reception_of u.reception) → a ≡ bit u.accepted → record { reception = r; accepted = a } ≡ update_result (update (reception_in s) seq timestamp arrival)
-update_out s c seq timestamp arrival u r a e m h k = rw (h, k) (ap update_result (m ∙ ap (λ (x : Reception). update x seq timestamp arrival) e))
-
-pub report_out : (s : RtcpReception) (c : code.Reception) (ssrc lsr dlsr : ℕ) (o : Option (ReportBlock × code.Reception)) (r : RtcpReceptionBlock) → reception_of c ≡ reception_in s → report_of (reception_of c) o ≡ report_block (reception_of c) ssrc lsr dlsr
-    → r ≡ report_result (report_of (reception_in s) o) → r ≡ report_result (report_block (reception_in s) ssrc lsr dlsr)
-report_out s c ssrc lsr dlsr o r e m h = h ∙ ap report_result (ap (λ (x : Reception). report_of x o) (sym e) ∙ m ∙ ap (λ (x : Reception). report_block x ssrc lsr dlsr) e)
-
-pub ruleset receives = (rules, new_out, update_out, report_out)
 
 -- ---- histories
 

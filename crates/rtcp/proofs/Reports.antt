@@ -1,6 +1,6 @@
 -- Reports: what C gets, from what the readers answer. Stated once, over the kind and its result.
 use Rattle.std.specs.Prelude.{Result, Ok, Err}
-use Rattle.rfc3550.proofs.Prelude.{◌≡◌, refl, sym, ap, ◌∙◌, List, ℕ, ◌*◌, ◌+◌, ◌≤◌, arith, rules, length, drop}
+use Rattle.rfc3550.proofs.Prelude.{◌≡◌, sym, ap, ◌∙◌, List, ℕ, ◌*◌, ◌+◌, ◌≤◌, arith, length, drop}
 use Rattle.rfc3550.specs.Answer.{Answer, ok, refused, map_ok}
 use Rattle.rfc3550.specs.Loss.{Loss}
 use Rattle.rfc3550.specs.Packet.{Packet}
@@ -16,13 +16,8 @@ use Rattle.report.specs.Report.{report_blocks}
 use Rattle.report.specs.Reporter.{ReportLaws}
 use Rattle.report.specs.declared.report.Places.{Places}
 use Rattle.report.proofs.Reports.{parsed_within, parsed_blocks}
-use Rattle.rtcp.specs.Report.{blocks_out, read_out, read_both}
-use Rattle.rtcp.specs.WriteResult.{written_result}
+use Rattle.rtcp.specs.Report.{read_out, read_both}
 use Rattle.rtcp.proofs.Results.{coded, viewed}
-use Rattle.rtcp.specs.declared.write_result.RtcpWritten.{RtcpWritten}
-
-pub lists_out : (q : Result ℕ ListError) (r : RtcpWritten) (f : List ℕ) (l : List Loss) (w : List ℕ) (x : Answer ℕ × List ℕ × List Loss × List ℕ) → r ≡ written_result (listed_of q) → (listed_of q, f, l, w) ≡ x → (r, f, l, w) ≡ blocks_out x
-lists_out q r f l w x h e = ap (λ (r : RtcpWritten). (r, f, l, w)) h ∙ ap blocks_out e
 
 module _ {k : Kind} {min type : ℕ} {O : Type 0} {none : O} {view : Packet → O} {places : O → Places} (laws : ReportLaws k min type none view places) (s : List ℕ)
     (q : Result O RtcpParseError) (h : parsed_of q ≡ map_ok view (read_as k s)) where
@@ -63,5 +58,3 @@ module _ {k : Kind} {min type : ℕ} {O : Type 0} {none : O} {view : Packet → 
           → (f₁ : List ℕ) (l₁ : List Loss) (w₁ f : List ℕ) (l : List Loss) (w : List ℕ) → (listed_of y, f₁, l₁, w₁) ≡ lay_blocks (ok (read_blocks at.n_reports (drop x s))) f l w
           → (r, f₁, l₁, w₁) ≡ read_both result (map_ok view (read_as k s)) (lay_blocks (map_ok report_blocks (read_as k s)) f l w)
       both_unlisted result y u i c j r p = both_read result y r (rw (i, j) p)
-
-pub ruleset reports = (rules, lists_out)

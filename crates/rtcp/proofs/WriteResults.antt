@@ -1,11 +1,9 @@
--- What C gets of a write and of a size, from what a kind's function answers. Stated once, over what is written.
+-- An SSRC does not bear on a size. Stated once, over what is given.
 use Rattle.rfc3550.proofs.Prelude.{ℕ, ◌≡◌, refl, sym, ap, ◌∙◌, List, length, length-append, rules}
 use Rattle.rfc3550.specs.Packet.{content_bytes, chunk_bytes}
 use Rattle.rfc3550.specs.Write.{Given, give_app, content_given, padding_given, packet_given, own_tests, tests, size_given, calculate_size, chunk_size}
 use Rattle.rfc3550.proofs.Bytes.{length_be}
 use Rattle.rfc3550.proofs.Packets.{length_layout}
-
--- ---- an SSRC does not bear on a size
 
 pub size_same : (g h : Given) → own_tests g ≡ own_tests h → length (content_bytes (content_given g)) ≡ length (content_bytes (content_given h)) → padding_given g ≡ padding_given h → calculate_size g ≡ calculate_size h
 unfolding calculate_size tests
