@@ -19,7 +19,7 @@ use Rattle.report.proofs.Reports.{parsed_within, parsed_blocks}
 use Rattle.rtcp.specs.Report.{read_out, read_both}
 use Rattle.rtcp.proofs.Results.{coded, viewed}
 
-module _ {k : Kind} {min type : ℕ} {O : Type 0} {none : O} {view : Packet → O} {places : O → Places} (laws : ReportLaws k min type none view places) (s : List ℕ)
+module _ {k : Kind} {min type : ℕ} {O : Type 0} {view : Packet → O} {places : O → Places} (laws : ReportLaws k min type view places) (s : List ℕ)
     (q : Result O RtcpParseError) (h : parsed_of q ≡ map_ok view (read_as k s)) where
   -- the packet is refused
   pub both_refused : {R : Type 0} (result : Answer O → R) (e : RtcpParseError) → q ≡ Err e → (c : Code) → code_refusal c ≡ parse_refusal e → (r : R) → r ≡ result (refused (code_refusal c))

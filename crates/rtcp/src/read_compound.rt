@@ -1,7 +1,7 @@
 // Datagrams, and the walk over their packets.
 ghost use Rattle.std.specs.Prelude.{◌≡◌};
 ghost use Rattle.rfc3550.specs.Answer.{map_ok, refused};
-ghost use Rattle.rfc3550.specs.Read.{kind_of, type_in, low_in};
+ghost use Rattle.rfc3550.specs.Read.{kind_of, type_in, low_in, read_as};
 ghost use Rattle.rfc3550.specs.Compound.{read_compound};
 ghost use Rattle.rfc3550.specs.Walk.{open_walk, step};
 ghost use Rattle.utils.specs.Error.{code_refusal, value_in, parsed_of};
