@@ -97,22 +97,23 @@ trait RtcpReport: Copy {
         requires { (Self.Parsed.places report).extension ≤ (Self.Parsed.places report).body }
         ensures { result ≡ shown (ok report) };
 
+    #[tactic(auto, using(utils::proofs::Values::values))]
     final fn parse(s: &[u8]) -> Self
         ensures { result ≡ shown (map_ok Self.Parsed.view (read_as Self.Parsed.kind s.now)) }
     {
-        match Self::Parsed::parse(s) {
-            Ok(report) => Self::accepted(report),
-            Err(e) => Self::refused(Code::from(e)),
+        match Self::Parsed::read(s) {
+            Some(report) => Self::accepted(report),
+            None => Self::refused(Code::from(Self::Parsed::why_unchecked(s))),
         }
     }
 
     // The report's own numbers, and its blocks as report_blocks lays them, in one reading of the packet.
+    #[tactic(auto, using(utils::proofs::Values::values))]
     final fn read(s: &[u8], fractions: &mut [u8], losses: &mut [i32], words: &mut [u32]) -> Self
         ensures { (result, fractions.new, losses.new, words.new) ≡ read_both shown (map_ok Self.Parsed.view (read_as Self.Parsed.kind s.now)) (lay_blocks (map_ok report_blocks (read_as Self.Parsed.kind s.now)) fractions.old losses.old words.old) }
     {
-        let report = match Self::Parsed::parse(s) {
-            Ok(report) => report,
-            Err(e) => return Self::refused(Code::from(e)),
+        let Some(report) = Self::Parsed::read(s) else {
+            return Self::refused(Code::from(Self::Parsed::why_unchecked(s)));
         };
         let n = report.places().n_reports;
         let mut lists = LentLists {
