@@ -29,7 +29,8 @@ fn has_value_alone(item_type: u8) -> bool
     item_type != SdesItem::PRIV
 }
 
-// The size of an item of a type and two lengths; None where it is refused.
+// The size of an item of a type and two lengths; None where it is refused. By three numbers: a struct of them would be made at each place to be taken
+// apart there.
 pub fn size_of_lengths(item_type: u8, prefix_len: u64, value_len: u64) -> Option<usize>
     ensures { result ≡ value_in (size_of item_type prefix_len value_len) }
 {

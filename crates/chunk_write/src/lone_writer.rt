@@ -1,4 +1,4 @@
-// A lone item or chunk to be written: of these what utils::packet_writer is of packets.
+// A lone item or chunk to be written: of these what utils::packet_writer is of packets. No trait above both: each kind of packet would have two impls.
 ghost use Rattle.std.specs.Prelude.{◌≡◌, ℕ, List, None, length};
 ghost use Rattle.rfc3550.specs.Answer.{Answer, refused};
 ghost use Rattle.rfc3550.specs.Bytes.{store};
