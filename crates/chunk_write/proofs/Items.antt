@@ -1,15 +1,13 @@
 -- The cases of an item's size and bytes, each from what the code has tested or called.
 use Rattle.std.specs.Prelude.{Option, None, Some}
-use Rattle.rfc3550.proofs.Prelude.{ℕ, suc, ◌+◌, ◌-◌, ◌<◌, ◌≤◌, ◌≡◌, refl, sym, ap, ◌∙◌, Bool, true, false, ◌||◌, ◌&&◌, not, List, [], ◌∷◌, ◌++◌, arith, le-leb, lt-leb, leb-true, leb-false, eq-eqb, ne_eqb, eqb-true, eqb-false, not-true, not-false, length, take, drop, set, length-append, take-append-drop, length-take-le, leb, eqb}
+use Rattle.rfc3550.proofs.Prelude.{rules, ℕ, suc, ◌+◌, ◌-◌, ◌<◌, ◌≤◌, ◌≡◌, refl, sym, ap, ◌∙◌, Bool, true, false, ◌||◌, ◌&&◌, not, List, [], ◌∷◌, ◌++◌, arith, le-leb, lt-leb, leb-true, leb-false, eq-eqb, ne_eqb, eqb-true, eqb-false, not-true, not-false, length, take, drop, set, length-append, take-append-drop, length-take-le, leb, eqb}
 use Rattle.rfc3550.specs.Answer.{Refusal, Answer, ok, refused, refusal, need, ◌>>◌, pick}
 use Rattle.rfc3550.specs.Bytes.{store}
 use Rattle.rfc3550.specs.Packet.{item, priv, item_bytes}
 use Rattle.rfc3550.specs.Write.{item_given, item_tests, item_size}
 use Rattle.rfc3550.proofs.Answers.{need_inv, and_inv, ok_injective}
 use Rattle.utils.specs.Error.{value_in}
-use Rattle.utils.proofs.WriterCases.{writer}
 use Rattle.utils.proofs.WriterStores.{store_puts, store_store}
-use Rattle.utils.proofs.Values.{values}
 use Rattle.chunk_write.specs.Sizes.{lent, item_length, size_of, priv_head, HasRoom}
 
 -- ---- the size
@@ -187,4 +185,4 @@ module _ (t : ℕ) (p v : List ℕ) where
   pub plain_done : (l l₁ : List ℕ) → (t ≡ 8 → ⊥) → l₁ ≡ store 0 (item_bytes (item t v)) l → l₁ ≡ store 0 (item_bytes (item_given (lent t p v))) l
   plain_done l l₁ e h = rw (ne_eqb _ _ e) h
 
-pub ruleset items = (writer, values, type_zero, type_zero_none, prefix_over, priv_why, plain_why, not_alone, alone, alone_over, alone_size, left_prefix_over, left_over, left_size, item_value, item_none, item_why, plain_laid, priv_head_laid, priv_text_laid, priv_laid, priv_fits, plain_fits, priv_done, plain_done)
+pub ruleset items = (rules, type_zero, type_zero_none, prefix_over, priv_why, plain_why, not_alone, alone, alone_over, alone_size, left_prefix_over, left_over, left_size, item_value, item_none, item_why, plain_laid, priv_head_laid, priv_text_laid, priv_laid, priv_fits, plain_fits, priv_done, plain_done)
