@@ -104,6 +104,14 @@ module _ (at : ℕ) (src l : List ℕ) (s : at + length src ≤ length l) where
       let z : length src - w + w ≡ length src = omega arith in
       rw (z, take-length) at (copied w (length src - w) k l₁ l₃ (omega arith) (omega arith) (omega arith) (rw d at e) c.laid)
 
+  -- w bytes and w more
+  pub copied_on : (w k j : ℕ) (l₁ l₂ : List ℕ) → j ≡ k + w → k + (w + w) ≤ length src → l₁ ≡ store (at + k) (take w (drop k src)) l → l₂ ≡ store (at + j) (take w (drop j src)) l₁ → l₂ ≡ store (at + k) (take (w + w) (drop k src)) l
+  copied_on w k j l₁ l₂ q h d e =
+      let n : length (take w (drop k src)) ≡ w = length-take-le w (drop k src) (rw length-drop (omega arith)) in
+      let m : length (take w (drop (k + w) src)) ≡ w = length-take-le w (drop (k + w) src) (rw length-drop (omega arith)) in
+      let t : take (w + w) (drop k src) ≡ take w (drop k src) ++ take w (drop (k + w) src) = take-add w w (drop k src) ∙ rw (drop-drop w k src) in
+      rw (q, d) at e ∙ rw t (store_store (at + k) (at + (k + w)) (take w (drop k src)) (take w (drop (k + w) src)) l (omega arith) (omega arith))
+
   -- the first and the last w bytes
   pub copied_twice : (w : ℕ) (l₁ l₂ : List ℕ) → l₁ ≡ store (at + 0) (take w (drop 0 src)) l → l₂ ≡ store (at + (length src - w)) (take w (drop (length src - w) src)) l₁ → w ≤ length src → length src ≤ w + w → l₂ ≡ store at src l
   copied_twice w l₁ l₂ d e h f = copying_last w (0 + w) l₁ l₁ l₂ (copying_again w 0 l l₁ (copying_start at src l) (omega arith) d) refl h (omega arith) e
