@@ -27,7 +27,8 @@ fn later_loss(loss: i32, b: ReportBlock) -> i32
     report_block::later_loss(loss, b.cumulative_lost)
 }
 
-// The loss that decides for all blocks: the first that does not fit 24 bits, or else the last one.
+// The loss that decides for all blocks: the first that does not fit 24 bits, or else the last one. By hand, as over a lent list of losses: a trait of what has
+// a loss would be longer than the two.
 fn tested_loss(blocks: &[ReportBlock]) -> i32
     ensures { result ≡ tested_of no_loss blocks.now }
 {
