@@ -1,5 +1,5 @@
 // Numbers, most significant byte first, and the header of a packet.
-ghost use Rattle.std.specs.Prelude.{◌≡◌, ◌||◌, None, ◌+◌, ◌-◌, ◌≤◌, ◌<◌, length, take, drop, eqb};
+ghost use Rattle.std.specs.Prelude.{◌≡◌, None, ◌+◌, ◌-◌, ◌≤◌, ◌<◌, length, take, drop, eqb};
 ghost use Rattle.rfc3550.specs.Answer.{refused};
 ghost use Rattle.rfc3550.specs.Bytes.{val};
 ghost use Rattle.rfc3550.specs.Read.{version_in, padded, low_in, type_in, stated, check_header};
@@ -7,20 +7,6 @@ ghost use Rattle.utils.specs.Error.{parse_refusal, value_in};
 ghost use Rattle.utils.specs.Parser.{check_padding};
 
 use super::error::RtcpParseError;
-
-// A byte, and that it is below 256.
-pub fn wide(b: u8) -> usize
-    ensures { (result ≡ b) × (result < 256) }
-{
-    b as usize
-}
-
-// One or the other, or both.
-pub fn either(a: bool, b: bool) -> bool
-    ensures { result ≡ (a || b) }
-{
-    a || b
-}
 
 // The bytes from a place on, as many as the array has.
 pub(crate) fn bytes_at<const N: usize>(s: &[u8], at: usize) -> [u8; N]
