@@ -4,10 +4,11 @@ use super::operation::{Walking, Way};
 use super::print::numbers;
 use super::row::Row;
 use super::write::{Blocks, Request};
-use compound_write::writer::{Call, Writer};
+use compound_write::writer::Call;
 use records::{Records, RecordsBuilder};
 use report::report_block::ReportBlock;
 use report_write::reporter::Reporter;
+use rtcp::write_compound::writer_in;
 use rtcp::write_result::RtcpWritten;
 use sdes::sdes::ChunkWalk;
 use sdes_chunk::chunk::SdesChunk;
@@ -60,16 +61,6 @@ fn called(to: &mut Vec<u8>, r: Call) -> io::Result<()> {
         to,
         &[u64::from(w.padded), u64::from(w.cname), u64::from(w.closed)],
     )
-}
-
-fn writer_in(state: &[u64; 4]) -> Writer {
-    let [len, padded, cname, closed] = *state;
-    Writer {
-        len: len as usize,
-        padded: padded != 0,
-        cname: cname != 0,
-        closed: closed != 0,
-    }
 }
 
 // As the C functions that write and add a report; the writer stays as it is.

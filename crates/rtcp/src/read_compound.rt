@@ -44,7 +44,7 @@ pub struct RtcpWalk {
 }
 
 // The packet has `len` bytes from `offset`. Every other place is counted from the packet's start, so the numbers are those that the function of
-// its kind gives of these bytes; 0 where its kind has no such field.
+// its kind gives of these bytes; 0 where its kind has no such field, since C has one struct for all kinds.
 #[repr(C)]
 #[derive(Clone, Copy, Default)]
 pub struct RtcpStep {
@@ -83,7 +83,7 @@ impl RtcpStep {
     }
 }
 
-// A packet of any kind as numbers. The kind is its packet type, or 0 where the type has no layout.
+// A packet of any kind as C's numbers. The kind is its packet type, or 0 where the type has no layout.
 #[derive(Clone, Copy, Default)]
 struct PacketNumbers {
     kind: u64,

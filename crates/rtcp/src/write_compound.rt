@@ -31,7 +31,7 @@ pub struct RtcpCall {
 }
 
 // No From, as in writer_out: neither type is of this crate.
-fn writer_in(state: &[u64; 4]) -> Writer
+pub fn writer_in(state: &[u64; 4]) -> Writer
     ensures { writer_of result ≡ writer_in state.now }
 {
     Writer {

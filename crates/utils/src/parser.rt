@@ -53,7 +53,7 @@ pub fn parse_padding_bit(s: &[u8]) -> bool
     s[0] / 32 % 2 == 1
 }
 
-// The low 5 bits of the first byte; 0 where there is no byte.
+// The low 5 bits of the first byte; 0 where there is no byte, and no Option: what is asked of a packet tests its length besides.
 #[tactic(auto, unfolding(rfc3550::specs::Read::low_in))]
 pub fn parse_count(s: &[u8]) -> u8
     ensures { (result ≡ low_in s.now) × (result < 32) }
@@ -61,7 +61,7 @@ pub fn parse_count(s: &[u8]) -> u8
     s.first().copied().unwrap_or(0) % 32
 }
 
-// The second byte; 0 where there is none.
+// The second byte; 0 where there is none, and no Option, as in parse_count.
 #[tactic(auto, unfolding(rfc3550::specs::Read::type_in))]
 pub fn parse_packet_type(s: &[u8]) -> u8
     ensures { result ≡ type_in s.now }
