@@ -63,6 +63,11 @@ fn called(to: &mut Vec<u8>, r: Call) -> io::Result<()> {
     )
 }
 
+fn alone(to: &mut Vec<u8>, buf: &mut [u8], report: impl RtcpPacketWriter) -> io::Result<()> {
+    RtcpWritten::from(report.calculate_size()).print(to)?;
+    RtcpWritten::from(report.write_into(buf)).print(to)
+}
+
 // As the C functions that write and add a report; the writer stays as it is.
 pub fn report(
     request: &mut Request,
@@ -78,10 +83,7 @@ pub fn report(
         padding,
     };
     match way {
-        Way::Alone => {
-            RtcpWritten::from(report.calculate_size()).print(request.to)?;
-            RtcpWritten::from(report.write_into(request.buf)).print(request.to)
-        }
+        Way::Alone => alone(request.to, request.buf, report),
         Way::Added => {
             let writer = writer_in(request.writer);
             called(request.to, writer.add(request.buf, report))

@@ -13,6 +13,7 @@ use rtcp::{read_app, read_bye, read_compound, read_report, read_sdes};
 use sdes::sdes::Sdes;
 use sdes_chunk::item::SdesItem;
 use std::io;
+use utils::packet_parser::RtcpPacketParser;
 
 fn value(to: &mut Vec<u8>, s: &[u8]) -> io::Result<()> {
     let parsed = SdesItem::parse(s);
@@ -27,21 +28,67 @@ fn prefix(to: &mut Vec<u8>, s: &[u8]) -> io::Result<()> {
     bytes(to, SdesItem::priv_prefix(s, &mut answer))
 }
 
+// Of a packet that is refused, no byte.
 pub fn part(to: &mut Vec<u8>, part: Part, s: &[u8]) -> io::Result<()> {
     match part {
-        Part::RrExtension => bytes(to, ReceiverReport::read(s).extension(s)),
-        Part::RrPadding => bytes(to, ReceiverReport::read(s).padding_bytes(s)),
-        Part::SrExtension => bytes(to, SenderReport::read(s).extension(s)),
-        Part::SrPadding => bytes(to, SenderReport::read(s).padding_bytes(s)),
-        Part::AppName => bytes(to, App::read(s).name(s)),
-        Part::AppData => bytes(to, App::read(s).data(s)),
-        Part::AppPadding => bytes(to, App::read(s).padding_bytes(s)),
-        Part::ByeReason => bytes(to, Bye::read(s).reason(s)),
-        Part::ByeTail => bytes(to, Bye::read(s).tail(s)),
-        Part::ByePadding => bytes(to, Bye::read(s).padding_bytes(s)),
-        Part::SdesPadding => bytes(to, Sdes::read(s).padding_bytes(s)),
-        Part::UnknownBody => bytes(to, Unknown::read(s).body_bytes(s)),
-        Part::UnknownPadding => bytes(to, Unknown::read(s).padding_bytes(s)),
+        Part::RrExtension => bytes(
+            to,
+            ReceiverReport::read(s)
+                .map(|it| it.extension(s))
+                .unwrap_or_default(),
+        ),
+        Part::RrPadding => bytes(
+            to,
+            ReceiverReport::read(s)
+                .map(|it| it.padding_bytes(s))
+                .unwrap_or_default(),
+        ),
+        Part::SrExtension => bytes(
+            to,
+            SenderReport::read(s)
+                .map(|it| it.extension(s))
+                .unwrap_or_default(),
+        ),
+        Part::SrPadding => bytes(
+            to,
+            SenderReport::read(s)
+                .map(|it| it.padding_bytes(s))
+                .unwrap_or_default(),
+        ),
+        Part::AppName => bytes(to, App::read(s).map(|it| it.name(s)).unwrap_or_default()),
+        Part::AppData => bytes(to, App::read(s).map(|it| it.data(s)).unwrap_or_default()),
+        Part::AppPadding => bytes(
+            to,
+            App::read(s)
+                .map(|it| it.padding_bytes(s))
+                .unwrap_or_default(),
+        ),
+        Part::ByeReason => bytes(to, Bye::read(s).map(|it| it.reason(s)).unwrap_or_default()),
+        Part::ByeTail => bytes(to, Bye::read(s).map(|it| it.tail(s)).unwrap_or_default()),
+        Part::ByePadding => bytes(
+            to,
+            Bye::read(s)
+                .map(|it| it.padding_bytes(s))
+                .unwrap_or_default(),
+        ),
+        Part::SdesPadding => bytes(
+            to,
+            Sdes::read(s)
+                .map(|it| it.padding_bytes(s))
+                .unwrap_or_default(),
+        ),
+        Part::UnknownBody => bytes(
+            to,
+            Unknown::read(s)
+                .map(|it| it.body_bytes(s))
+                .unwrap_or_default(),
+        ),
+        Part::UnknownPadding => bytes(
+            to,
+            Unknown::read(s)
+                .map(|it| it.padding_bytes(s))
+                .unwrap_or_default(),
+        ),
         Part::ItemValue => value(to, s),
         Part::ItemPrefix => prefix(to, s),
     }

@@ -173,7 +173,7 @@ fn first_byte(padding: u64, count: u8) -> u8
     160 + count
 }
 
-// The header of a packet of so many bytes, at the start of buf.
+// The header of a packet of so many bytes, at the start of buf. Four numbers, and no struct of them: each caller would make it only to be taken apart here.
 pub fn write_header_unchecked(buf: &mut [u8], padding: u64, count: u8, packet_type: u8, size: usize)
     requires { (count < 32) × (4 ≤ size) × (size ≤ 262144) × (4 ≤ length buf.old) }
     ensures { buf.new ≡ store 0 (header padding count packet_type size) buf.old }
