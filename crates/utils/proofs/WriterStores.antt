@@ -132,3 +132,23 @@ sets_puts at b bs l = puts_sets at 1 bs (set l at b) ∙ ap (λ (n : ℕ). sets 
 
 pub store_puts : (at b : ℕ) (bs l : List ℕ) → at + suc (length bs) ≤ length l → puts at 1 bs (set l at b) ≡ store at (b ∷ bs) l
 store_puts at b bs l h = sets_puts at b bs l ∙ store_sets at (b ∷ bs) l h
+
+-- the bytes of a number, taken out one by one
+abbrev pub digits : ℕ → ℕ → List ℕ
+digits zero v = []
+digits (suc w) v = v / 256 ^ w % 256 ∷ digits w v
+
+digits_are : (w v : ℕ) → bytes_high_first w v ≡ digits w v
+digits_are zero v = refl
+digits_are (suc w) v = rw (digits_are w v, ← byte_is w v)
+
+pub be_digits : (w v : ℕ) → v < 256 ^ w → be w v ≡ digits w v
+be_digits w v h = be_bytes w v h ∙ digits_are w v
+
+length_digits : (w v : ℕ) → length (digits w v) ≡ w
+length_digits zero v = refl
+length_digits (suc w) v = ap suc (length_digits w v)
+
+-- a number of suc w bytes, byte by byte
+pub store_number : (w at v : ℕ) (l : List ℕ) → v < 256 ^ suc w → at + suc w ≤ length l → puts at 1 (digits w v) (set l at (v / 256 ^ w % 256)) ≡ store at (be (suc w) v) l
+store_number w at v l f h = store_puts at (v / 256 ^ w % 256) (digits w v) l (rw length_digits h) ∙ ap (λ (bs : List ℕ). store at bs l) (sym (be_digits (suc w) v f))
