@@ -61,6 +61,7 @@ impl Bye {
         utils::parser::part(s, self.reason + self.reason_len, len - self.reason_len)
     }
 
+    // By hand, as `App::padding_bytes`.
     pub fn padding_bytes(self, s: &[u8]) -> &[u8]
         ensures { result.now ≡ take self.padding_len (drop self.body s.now) }
     {

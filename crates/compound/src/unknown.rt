@@ -27,6 +27,7 @@ impl Unknown {
         parser::between(s, Unknown::MIN_PACKET_LEN, self.body)
     }
 
+    // By hand, as `App::padding_bytes`.
     pub fn padding_bytes(self, s: &[u8]) -> &[u8]
         ensures { result.now ≡ take self.padding_len (drop self.body s.now) }
     {

@@ -96,6 +96,7 @@ pub trait Report: Copy {
         Some(Self::read_unchecked(s, places))
     }
 
+    // As RtcpPacketParser::parse, which it cannot be: a trait of another crate is implemented for one type at a time, and not for every Report.
     #[tactic(auto, using(crate::proofs::Reports::reports))]
     final fn parse(s: &[u8]) -> Result<Self, RtcpParseError>
         ensures { parsed_of result ≡ map_ok view (read_as kind s.now) }

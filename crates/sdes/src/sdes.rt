@@ -30,7 +30,7 @@ impl Sdes {
 
     pub const PACKET_TYPE: u8 = 202;
 
-    // The padding, of the bytes that were parsed.
+    // The padding, of the bytes that were parsed. By hand, as `App::padding_bytes`.
     pub fn padding_bytes(self, s: &[u8]) -> &[u8]
         ensures { result.now ≡ take self.padding_len (drop self.body s.now) }
     {
