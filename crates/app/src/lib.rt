@@ -37,10 +37,7 @@ impl App {
     pub fn data(self, s: &[u8]) -> &[u8]
         ensures { result.now ≡ take (self.body - 12) (drop 12 s.now) }
     {
-        if self.body < App::MIN_PACKET_LEN {
-            return &s[..0];
-        }
-        utils::parser::part(s, App::MIN_PACKET_LEN, self.body - App::MIN_PACKET_LEN)
+        utils::parser::between(s, App::MIN_PACKET_LEN, self.body)
     }
 
     // By hand in each kind, one line: a trait would ask the body and the padding's length of each.

@@ -13,7 +13,7 @@ use sdes_chunk::item::SdesItem;
 use utils::error::RtcpWriteError;
 use utils::writer;
 
-// The lists of items.
+// The lists of items, side by side as C lends them: there is no heap to put them together in.
 #[derive(Clone, Copy)]
 pub struct ItemLists<'a> {
     pub types: &'a [u8],

@@ -11,9 +11,7 @@ ghost use Rattle.utils.specs.List.{listed_of, lay_list};
 ghost use Rattle.compound.specs.Compound.{frame, padding_last, report_first, frame_at, with_length, compound_view, packet_rows, walk_at, step_view};
 
 use super::packet::Packet;
-use report::receiver::ReceiverReport;
-use report::report::Report;
-use report::sender::SenderReport;
+use report::report::is_report;
 use utils::error::RtcpParseError;
 use utils::list::ListError;
 
@@ -32,13 +30,7 @@ fn padding_last(rest: &[u8], stated: usize) -> bool
 fn report_first(first: bool, packet_type: u8) -> bool
     ensures { result ≡ report_first first packet_type }
 {
-    if !first {
-        return true;
-    }
-    if packet_type == SenderReport::PACKET_TYPE {
-        return true;
-    }
-    packet_type == ReceiverReport::PACKET_TYPE
+    !first || is_report(packet_type)
 }
 
 // The packet's length by the steps of its frame; None where one refuses.

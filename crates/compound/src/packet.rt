@@ -28,7 +28,7 @@ pub enum Packet {
 }
 
 impl Packet {
-    // The packet that the bytes are, from the first to the last.
+    // The packet that the bytes are, from the first to the last. By a match, here and below: the kinds are six and closed, and each arm calls another type.
     pub fn parse(s: &[u8]) -> Result<Packet, RtcpParseError>
         ensures { parsed_of result ≡ map_ok packet_view (read_as (kind_of (type_in s.now) (low_in s.now)) s.now) }
     {

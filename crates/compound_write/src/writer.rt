@@ -7,9 +7,7 @@ ghost use Rattle.utils.specs.Writer.{written_of};
 ghost use Rattle.utils.specs.Error.{value_in, write_refusal};
 ghost use Rattle.compound_write.specs.Writer.{writer_of, call_of, size_added, advanced};
 
-use report::receiver::ReceiverReport;
-use report::report::Report;
-use report::sender::SenderReport;
+use report::report::is_report;
 use utils::error::RtcpWriteError;
 use utils::packet_writer::RtcpPacketWriter;
 
@@ -34,13 +32,7 @@ pub struct Call {
 fn may_start(len: usize, packet_type: u8) -> bool
     ensures { result ≡ (ltb 0 len || is_report packet_type) }
 {
-    if 0 < len {
-        return true;
-    }
-    if packet_type == SenderReport::PACKET_TYPE {
-        return true;
-    }
-    packet_type == ReceiverReport::PACKET_TYPE
+    0 < len || is_report(packet_type)
 }
 
 impl Writer {

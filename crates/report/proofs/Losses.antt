@@ -139,21 +139,9 @@ module _ (word : ℕ) where
 
 -- ---- the low 32 bits
 
-low_below : (z : ℤ) → SFits w32 z → lt_z z (pos 0) ≡ true → 4294967295 - mag z ≡ loss_shown z
+pub shown_cast : (z : ℤ) → SFits w32 z → of_z w32 z ≡ loss_shown z
 unfolding loss_shown
-low_below (pos n) f h = let k : n < 0 = ltb-true n 0 h in absurd (omega arith)
-low_below (negsuc n) f h = let k : n < 2147483648 = f.sfits in omega arith
+shown_cast (pos n) f = let k : n < 2147483648 = f.sfits in omega arith
+shown_cast (negsuc n) f = let k : n < 2147483648 = f.sfits in omega arith
 
-low_above : (z : ℤ) → SFits w32 z → lt_z z (pos 0) ≡ false → mag z ≡ loss_shown z
-unfolding loss_shown
-low_above (pos n) f h = let k : n < 2147483648 = f.sfits in omega arith
-low_above (negsuc n) f h = absurd (subst T h tt)
-
-module _ (z : ℤ) (f : SFits w32 z) (m : ℕ) (e : m ≡ mag (to_z w32 (of_z w32 z))) where
-  pub shown_below : lt_z (to_z w32 (of_z w32 z)) (pos 0) ≡ true → 4294967295 - m ≡ loss_shown z
-  shown_below h = rw e (rw (to_z-of_z w32 z f) (low_below z f (subst (λ (x : ℤ). lt_z x (pos 0) ≡ true) (to_z-of_z w32 z f) h)))
-
-  pub shown_above : lt_z (to_z w32 (of_z w32 z)) (pos 0) ≡ false → m ≡ loss_shown z
-  shown_above h = e ∙ ap mag (to_z-of_z w32 z f) ∙ low_above z f (subst (λ (x : ℤ). lt_z x (pos 0) ≡ false) (to_z-of_z w32 z f) h)
-
-pub ruleset losses = (rules, bits_sign, bits_fit, bits_below, bits_are, turned, turned_fits, same, magnitude_fits, magnitude_tested, masked_sign, masked_fits, masked_is, loss_bits_lt, raised_fits, difference_fits, read_is, shown_below, shown_above)
+pub ruleset losses = (rules, bits_sign, bits_fit, bits_below, bits_are, turned, turned_fits, same, magnitude_fits, magnitude_tested, masked_sign, masked_fits, masked_is, loss_bits_lt, raised_fits, difference_fits, read_is, shown_cast)

@@ -43,9 +43,5 @@ pub fn loss_of(word: u32) -> i32
 pub fn loss_shown(loss: i32) -> u32
     ensures { result ≡ loss_shown loss }
 {
-    let magnitude = loss_magnitude(loss);
-    if loss < 0 {
-        return 4294967295 - magnitude;
-    }
-    magnitude
+    loss.cast_unsigned()
 }

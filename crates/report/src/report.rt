@@ -1,7 +1,7 @@
 // What sender and receiver reports have in common: the blocks after the fields, the extension after the blocks, the padding.
 ghost use Rattle.std.specs.Prelude.{◌≡◌, None, ℕ, ◌-◌, take, drop};
 ghost use Rattle.rfc3550.specs.Answer.{ok, refused, map_ok};
-ghost use Rattle.rfc3550.specs.Packet.{Packet};
+ghost use Rattle.rfc3550.specs.Packet.{Packet, is_report};
 ghost use Rattle.rfc3550.specs.Read.{Kind, read_as, read_block_at};
 ghost use Rattle.utils.specs.Error.{parse_refusal, value_in, parsed_of};
 ghost use Rattle.utils.specs.List.{listed_of};
@@ -11,9 +11,18 @@ ghost use Rattle.report.specs.Report.{report_body, report_blocks};
 ghost use Rattle.report.specs.Reporter.{places_of, ReportLaws};
 ghost use Rattle.report.specs.declared.report.Places.{Places};
 
+use super::receiver::ReceiverReport;
 use super::report_block::{LentLists, ReportBlock, parse_block_unchecked};
+use super::sender::SenderReport;
 use utils::error::RtcpParseError;
 use utils::list::ListError;
+
+// The packet type is a report's.
+pub fn is_report(packet_type: u8) -> bool
+    ensures { result ≡ is_report packet_type }
+{
+    packet_type == SenderReport::PACKET_TYPE || packet_type == ReceiverReport::PACKET_TYPE
+}
 
 // How many blocks a report has, and where its parts lie: the extension between the places extension and body, where the padding starts.
 #[derive(Clone, Copy)]

@@ -70,7 +70,7 @@ pub fn parse_block_unchecked(s: &[u8], at: usize) -> ReportBlock
     }
 }
 
-// Three lists, lent to be filled: a fraction and a loss for each block, and the five words that follow.
+// Three lists, lent by C to be filled: a fraction and a loss for each block, and the five words that follow.
 #[derive(Drop)]
 pub struct LentLists<'a> {
     pub fractions: &'a mut [u8],

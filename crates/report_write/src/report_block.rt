@@ -13,7 +13,7 @@ use report::report_block::ReportBlock;
 use utils::error::RtcpWriteError;
 use utils::writer;
 
-// A report's blocks as they are lent: a fraction lost and a cumulative lost for each, and five words.
+// A report's blocks as C lends them, side by side, since there is no heap: a fraction lost and a cumulative lost for each, and five words.
 #[derive(Clone, Copy)]
 pub struct BlockLists<'a> {
     pub fractions: &'a [u8],

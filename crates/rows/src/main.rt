@@ -22,7 +22,7 @@ use write::Request;
 // The most bytes that a buffer has.
 const ROOM: usize = 524288;
 
-// The place of a word among the names; how many there are where it is none of them.
+// The place of a word among the names; how many there are where it is none of them, which no operation has.
 fn place_of(word: &[u8], names: &[u8]) -> usize {
     names
         .split_inclusive(is_blank)

@@ -28,67 +28,28 @@ fn prefix(to: &mut Vec<u8>, s: &[u8]) -> io::Result<()> {
     bytes(to, SdesItem::priv_prefix(s, &mut answer))
 }
 
-// Of a packet that is refused, no byte.
+// A part of what is read; of a packet that is refused, no byte.
+macro_rules! shown {
+    ($to:ident, $kind:ident, $part:ident, $s:ident) => {
+        bytes($to, $kind::read($s).map(|it| it.$part($s)).unwrap_or_default())
+    };
+}
+
 pub fn part(to: &mut Vec<u8>, part: Part, s: &[u8]) -> io::Result<()> {
     match part {
-        Part::RrExtension => bytes(
-            to,
-            ReceiverReport::read(s)
-                .map(|it| it.extension(s))
-                .unwrap_or_default(),
-        ),
-        Part::RrPadding => bytes(
-            to,
-            ReceiverReport::read(s)
-                .map(|it| it.padding_bytes(s))
-                .unwrap_or_default(),
-        ),
-        Part::SrExtension => bytes(
-            to,
-            SenderReport::read(s)
-                .map(|it| it.extension(s))
-                .unwrap_or_default(),
-        ),
-        Part::SrPadding => bytes(
-            to,
-            SenderReport::read(s)
-                .map(|it| it.padding_bytes(s))
-                .unwrap_or_default(),
-        ),
-        Part::AppName => bytes(to, App::read(s).map(|it| it.name(s)).unwrap_or_default()),
-        Part::AppData => bytes(to, App::read(s).map(|it| it.data(s)).unwrap_or_default()),
-        Part::AppPadding => bytes(
-            to,
-            App::read(s)
-                .map(|it| it.padding_bytes(s))
-                .unwrap_or_default(),
-        ),
-        Part::ByeReason => bytes(to, Bye::read(s).map(|it| it.reason(s)).unwrap_or_default()),
-        Part::ByeTail => bytes(to, Bye::read(s).map(|it| it.tail(s)).unwrap_or_default()),
-        Part::ByePadding => bytes(
-            to,
-            Bye::read(s)
-                .map(|it| it.padding_bytes(s))
-                .unwrap_or_default(),
-        ),
-        Part::SdesPadding => bytes(
-            to,
-            Sdes::read(s)
-                .map(|it| it.padding_bytes(s))
-                .unwrap_or_default(),
-        ),
-        Part::UnknownBody => bytes(
-            to,
-            Unknown::read(s)
-                .map(|it| it.body_bytes(s))
-                .unwrap_or_default(),
-        ),
-        Part::UnknownPadding => bytes(
-            to,
-            Unknown::read(s)
-                .map(|it| it.padding_bytes(s))
-                .unwrap_or_default(),
-        ),
+        Part::RrExtension => shown!(to, ReceiverReport, extension, s),
+        Part::RrPadding => shown!(to, ReceiverReport, padding_bytes, s),
+        Part::SrExtension => shown!(to, SenderReport, extension, s),
+        Part::SrPadding => shown!(to, SenderReport, padding_bytes, s),
+        Part::AppName => shown!(to, App, name, s),
+        Part::AppData => shown!(to, App, data, s),
+        Part::AppPadding => shown!(to, App, padding_bytes, s),
+        Part::ByeReason => shown!(to, Bye, reason, s),
+        Part::ByeTail => shown!(to, Bye, tail, s),
+        Part::ByePadding => shown!(to, Bye, padding_bytes, s),
+        Part::SdesPadding => shown!(to, Sdes, padding_bytes, s),
+        Part::UnknownBody => shown!(to, Unknown, body_bytes, s),
+        Part::UnknownPadding => shown!(to, Unknown, padding_bytes, s),
         Part::ItemValue => value(to, s),
         Part::ItemPrefix => prefix(to, s),
     }

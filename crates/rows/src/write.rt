@@ -12,7 +12,8 @@ use rtcp::{read_lookup, write_app, write_bye, write_compound, write_report, writ
 use std::alloc::AllocError;
 use std::io;
 
-// A row, and what its call writes to: the text of the answers, the compound writer and a buffer. All but the row stay for the next call.
+// A row, and what its call writes to: the text of the answers, the compound writer's four numbers as C has them, and a buffer. All but the row stay for the
+// next call.
 #[derive(Drop)]
 pub struct Request<'row, 'to> {
     pub row: &'row Row,
@@ -41,7 +42,7 @@ impl<'a> Blocks<'a> {
         })
     }
 
-    // `ROOM PADDING SSRC LOSSES WORDS`, then these; the bytes are the fractions.
+    // `ROOM PADDING SSRC LOSSES WORDS`, then these; the bytes are the fractions. No From, here and below: it allocates.
     fn of_rr(row: &'a Row) -> Result<Blocks<'a>, AllocError> {
         Blocks::of(row, 5, row.number(3), row.number(4))
     }

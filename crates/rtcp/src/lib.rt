@@ -1,4 +1,5 @@
-// The C functions. Nothing here decides: each hands on what the crate of its kind answers, as numbers.
+// The C functions. Nothing here decides: each hands on what the crate of its kind answers, as numbers. Lists, numbers and the four numbers of a writer come
+// one by one, as C lends them.
 #![tactic(auto)]
 
 pub mod read_app;

@@ -118,7 +118,7 @@ impl PacketNumbers {
         }
     }
 
-    // None where the packet is refused.
+    // None where the packet is refused. By a match: the kinds are six and closed, and each arm calls another type.
     #[tactic(auto, using(crate::proofs::Datagrams::kinds))]
     fn read(s: &[u8]) -> Option<PacketNumbers>
         ensures { result ≡ value_in (map_ok packet_numbers (read_as (kind_of (type_in s.now) (low_in s.now)) s.now)) }

@@ -95,7 +95,8 @@ fn zeros_end(chunk: &[u8], from: usize, end: usize) -> usize
     end
 }
 
-// Whether zeros stand up to the boundary. By hand, since there are four at most: as `all` over them it takes up to 14 instructions more a chunk.
+// Whether zeros stand up to the boundary. By hand, since there are four at most: as `all` over them it takes up to 14 instructions more a chunk, and
+// so the lookup of 31 chunks misses its bar.
 fn filled(chunk: &[u8], at: usize, end: usize) -> bool
     requires { (get_or chunk.now at 0 ≡ 0) × (end ≡ at + fill at) × (end ≤ length chunk.now) }
     ensures { result ≡ filled_at chunk.now at }

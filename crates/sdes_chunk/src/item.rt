@@ -12,7 +12,8 @@ ghost use Rattle.sdes_chunk.specs.Item.{item_first, item_size, read_end, step_en
 use utils::error::{Code, RtcpParseError};
 use utils::parser;
 
-// The type, the length of what follows the first two bytes, and of that the prefix (0 where the type is not PRIV, and no Option: a length of 0 is one, of PRIV too).
+// The type, the length of what follows the first two bytes, and of that the prefix (0 where the type is not PRIV, and no Option: C is given
+// this number).
 #[derive(Clone, Copy)]
 pub struct SdesItem {
     pub type_: u8,

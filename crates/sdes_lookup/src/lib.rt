@@ -17,6 +17,7 @@ use utils::packet_parser::RtcpPacketParser;
 // The answer for an SSRC that no chunk names.
 pub const NO_CHUNK: u8 = 255;
 
+// That there is an answer for each SSRC stands at each function, since C lends the two lists side by side.
 // Chunk k, with this SSRC and a CNAME, is the answer where there is none yet. Says how many have none after it.
 #[tactic(auto, using(crate::proofs::Marks::marks))]
 #[inline(never)]

@@ -131,16 +131,16 @@ module _ (at : ℕ) (l : List ℕ) where
   unfolding be
   fill_four z l₁ e = rw z e
 
-  pub fill_two : at % 2 ≡ 0 → (at % 4 ≡ 0 → ⊥) → (l₁ : List ℕ) → l₁ ≡ store at (be 2 0) l → l₁ ≡ store at (replicate (fill at) 0) l
+  pub fill_two : at % 4 ≡ 2 → (l₁ : List ℕ) → l₁ ≡ store at (be 2 0) l → l₁ ≡ store at (replicate (fill at) 0) l
   unfolding be
-  fill_two z n l₁ e = let q : at % 4 ≡ 2 = omega arith in rw q e
+  fill_two z l₁ e = rw z e
 
   pub fill_three : at % 4 ≡ 1 → at + fill at ≤ length l → (l₁ : List ℕ) → l₁ ≡ store (at + 1) (be 2 0) (set l at 0) → l₁ ≡ store at (replicate (fill at) 0) l
   unfolding be
   fill_three z h l₁ e = rw z (e ∙ rw (store_puts at 0 [] l (omega arith)) (store_store at (at + 1) (0 ∷ []) (0 ∷ 0 ∷ []) l (omega arith) (omega arith)))
 
-  pub fill_one : (at % 2 ≡ 0 → ⊥) → (at % 4 ≡ 1 → ⊥) → at + fill at ≤ length l → set l at 0 ≡ store at (replicate (fill at) 0) l
-  fill_one z n h = let q : at % 4 ≡ 3 = omega arith in rw q (store_puts at 0 [] l (omega arith))
+  pub fill_one : (at % 4 ≡ 0 → ⊥) → (at % 4 ≡ 1 → ⊥) → (at % 4 ≡ 2 → ⊥) → at + fill at ≤ length l → set l at 0 ≡ store at (replicate (fill at) 0) l
+  fill_one y z n h = let q : at % 4 ≡ 3 = omega arith in rw q (store_puts at 0 [] l (omega arith))
 
 pub ruleset writer = (rules, padding_odd, padding_even, first_plain, first_padded, padding_none, padding_laid, header_laid, number_laid, part_laid, zeros_laid, same_laid, byte_alone, bytes_none)
 

@@ -85,7 +85,8 @@ pub fn parse_ssrc(s: &[u8]) -> u32
     u32_from_be_bytes(s, 4)
 }
 
-// The length of the body by the padding's step; None where it is refused.
+// The length of the body by the padding's step; None where it is refused. That a packet has 4 bytes at least stands at each function of a header: a struct
+// of a kind's least length and the bytes would be made at each call.
 #[tactic(auto, using(crate::proofs::Headers::bodies))]
 fn padded_body(s: &[u8], min_packet_len: usize) -> Option<usize>
     requires { (4 ≤ min_packet_len) × (min_packet_len ≤ length s.now) }

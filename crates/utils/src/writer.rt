@@ -53,28 +53,25 @@ pub fn write_zeros_unchecked(buf: &mut [u8], at: usize, n: usize)
     buf[at..at + n].fill(0);
 }
 
-// The zeros from an index up to the word boundary after it, one to four. Without a loop: a loop over so few is compiled to a call. By hand: a `match` of
-// the remainder takes up to 2 instructions more.
+// The zeros from an index up to the word boundary after it, one to four. Without a loop: a loop over so few is compiled to a call.
 #[tactic(auto, using(crate::proofs::WriterCases::fills))]
 pub fn write_fill_unchecked(buf: &mut [u8], at: usize)
     requires { at + fill at ≤ length buf.old }
     ensures { buf.new ≡ store at (replicate (fill at) 0) buf.old }
 {
-    if at % 2 == 0 {
-        if at % 4 == 0 {
-            write_u32_unchecked(buf, at, 0);
-            return;
+    match at % 4 {
+        0 => write_u32_unchecked(buf, at, 0),
+        1 => {
+            buf[at] = 0;
+            write_u16_unchecked(buf, at + 1, 0);
         }
-        write_u16_unchecked(buf, at, 0);
-        return;
-    }
-    buf[at] = 0;
-    if at % 4 == 1 {
-        write_u16_unchecked(buf, at + 1, 0);
+        2 => write_u16_unchecked(buf, at, 0),
+        _ => buf[at] = 0,
     }
 }
 
-// N bytes of src from index k on, each laid as far behind index at as it stands in src.
+// N bytes of src from index k on, each laid as far behind index at as it stands in src. That there is room for src stands at each function down from
+// write_bytes_unchecked, and in no struct, which would hold the buffer, the index and the bytes only to be taken apart here.
 fn copy<const N: usize>(buf: &mut [u8], at: usize, src: &[u8], k: usize)
     requires { (k + N ≤ length src.now) × (at + length src.now ≤ length buf.old) }
     ensures { buf.new ≡ store (at + k) (take N (drop k src.now)) buf.old }
