@@ -30,6 +30,13 @@ struct Row {
     value_len: u32,
 }
 
+// The body of an accepted packet, which has at most 65536 words of four bytes.
+#[derive(Clone, Copy)]
+struct Body<'a> {
+    bytes: &'a [u8],
+    ghost short: { length bytes.now ≤ 262144 },
+}
+
 // A place where an item stands, or the zero that ends a chunk's items, and the SSRC of the chunk.
 #[derive(Clone, Copy)]
 struct Place {
@@ -51,13 +58,13 @@ fn chunk_place(body: &[u8], start: usize) -> Place
 }
 
 // The place of the next row.
-fn after(body: &[u8], place: Place) -> Place
-    requires { (length body.now ≤ 262144) × HasRow body.now place.at }
-    ensures { result ≡ place_after body.now place }
+fn after(body: Body, place: Place) -> Place
+    requires { HasRow body.bytes.now place.at }
+    ensures { result ≡ place_after body.entry.bytes.now place }
 {
     let at = place.at;
-    let Some(end) = item::item_end(body, at) else {
-        return chunk_place(body, chunk::word_boundary_unchecked(at));
+    let Some(end) = item::item_end(body.bytes, at) else {
+        return chunk_place(body.bytes, chunk::word_boundary_unchecked(at));
     };
     Place {
         ssrc: place.ssrc,
@@ -66,12 +73,12 @@ fn after(body: &[u8], place: Place) -> Place
 }
 
 // The row of an item, which is read from the part that starts with it.
-fn item_row(body: &[u8], place: Place) -> Row
-    requires { (length body.now ≤ 262144) × (step_end body.now place.at ≡ None → ⊥) }
-    ensures { row_of result ≡ row_at body.now place }
+fn item_row(body: Body, place: Place) -> Row
+    requires { step_end body.bytes.now place.at ≡ None → ⊥ }
+    ensures { row_of result ≡ row_at body.entry.bytes.now place }
 {
     let at = place.at;
-    let item = item::item_of_unchecked(&body[at..]);
+    let item = item::item_of_unchecked(&body.bytes[at..]);
     let type_ = item.type_;
     let length = item.length;
     if type_ != SdesItem::PRIV {
@@ -105,9 +112,9 @@ fn write_row(rows: &mut [u32], i: usize, row: Row)
 }
 
 // Lays the row of a zero that ends a chunk's items, and gives the first place of the next chunk.
-fn lay_end(body: &[u8], place: Place, rows: &mut [u32], i: usize) -> Place
-    requires { (length body.now ≤ 262144) × HasRow body.now place.at × (get_or body.now place.at 0 ≡ 0) × (i + 5 ≤ length rows.old) }
-    ensures { (result ≡ place_after body.now place) × (rows.new ≡ store i (row_at body.now place) rows.old) }
+fn lay_end(body: Body, place: Place, rows: &mut [u32], i: usize) -> Place
+    requires { HasRow body.bytes.now place.at × (get_or body.bytes.now place.at 0 ≡ 0) × (i + 5 ≤ length rows.old) }
+    ensures { (result ≡ place_after body.entry.bytes.now place) × (rows.new ≡ store i (row_at body.entry.bytes.now place) rows.old) }
 {
     let at = place.at;
     let row = Row {
@@ -118,18 +125,18 @@ fn lay_end(body: &[u8], place: Place, rows: &mut [u32], i: usize) -> Place
         value_len: 0,
     };
     write_row(rows, i, row);
-    chunk_place(body, chunk::word_boundary_unchecked(at))
+    chunk_place(body.bytes, chunk::word_boundary_unchecked(at))
 }
 
 // How many rows there are.
-fn count_rows(body: &[u8]) -> usize
-    requires { (length body.now ≤ 262144) × ((n : ℕ) × RowsAt n body.now (chunk_place body.now 4)) }
-    ensures { (result ≤ 262144) × RowsAt result body.now (chunk_place body.now 4) }
+fn count_rows(body: Body) -> usize
+    requires { (n : ℕ) × RowsAt n body.bytes.now (chunk_place body.bytes.now 4) }
+    ensures { (result ≤ 262144) × RowsAt result body.entry.bytes.now (chunk_place body.entry.bytes.now 4) }
 {
-    let mut place = chunk_place(body, Sdes::MIN_PACKET_LEN);
+    let mut place = chunk_place(body.bytes, Sdes::MIN_PACKET_LEN);
     let mut n = 0;
     // A while: how many rows there are is what it finds out.
-    while place.at < body.len() {
+    while place.at < body.bytes.len() {
         place = after(body, place);
         n += 1;
     }
@@ -137,11 +144,11 @@ fn count_rows(body: &[u8]) -> usize
 }
 
 // How long the list has to be, where this room is too short. A row takes two bytes of the body at least: room for so many is enough, and spares the count.
-fn needed(body: &[u8], room: usize) -> Option<usize>
-    requires { (length body.now ≤ 262144) × ((n : ℕ) × RowsAt n body.now (chunk_place body.now 4)) }
-    ensures { Needed body.now room result }
+fn needed(body: Body, room: usize) -> Option<usize>
+    requires { (n : ℕ) × RowsAt n body.bytes.now (chunk_place body.bytes.now 4) }
+    ensures { Needed body.entry.bytes.now room result }
 {
-    if body.len() / 2 * ITEM_ROW <= room {
+    if body.bytes.len() / 2 * ITEM_ROW <= room {
         return None;
     }
     let size = count_rows(body) * ITEM_ROW;
@@ -159,14 +166,14 @@ struct Next {
 }
 
 // Lays the rows of a chunk's items, up to the zero that ends them.
-fn lay_items(body: &[u8], first: Next, rows: &mut [u32]) -> Next
-    requires { (length body.now ≤ 262144) × (first.place.at < length body.now) × RoomFor body.now first.place rows.old first.i }
-    ensures { (get_or body.now result.place.at 0 ≡ 0) × ItemsLaid body.now first.place first.i rows.old result.place result.i rows.new }
+fn lay_items(body: Body, first: Next, rows: &mut [u32]) -> Next
+    requires { (first.place.at < length body.bytes.now) × RoomFor body.bytes.now first.place rows.old first.i }
+    ensures { (get_or body.entry.bytes.now result.place.at 0 ≡ 0) × ItemsLaid body.entry.bytes.now first.place first.i rows.old result.place result.i rows.new }
 {
     let mut next = first;
     // A loop: how many items there are is what it finds out.
     loop {
-        let Some(end) = item::item_end(body, next.place.at) else {
+        let Some(end) = item::item_end(body.bytes, next.place.at) else {
             return next;
         };
         write_row(rows, next.i, item_row(body, next.place));
@@ -176,9 +183,9 @@ fn lay_items(body: &[u8], first: Next, rows: &mut [u32]) -> Next
 }
 
 // Lays the rows of a chunk.
-fn lay_chunk(body: &[u8], first: Next, rows: &mut [u32]) -> Next
-    requires { (length body.now ≤ 262144) × (first.place.at < length body.now) × RoomFor body.now first.place rows.old first.i }
-    ensures { (first.place.at < result.place.at) × LaidUpTo body.now first.place first.i rows.old result.place result.i rows.new }
+fn lay_chunk(body: Body, first: Next, rows: &mut [u32]) -> Next
+    requires { (first.place.at < length body.bytes.now) × RoomFor body.bytes.now first.place rows.old first.i }
+    ensures { (first.place.at < result.place.at) × LaidUpTo body.entry.bytes.now first.place first.i rows.old result.place result.i rows.new }
 {
     let end = lay_items(body, first, rows);
     let place = lay_end(body, end.place, rows, end.i);
@@ -189,16 +196,16 @@ fn lay_chunk(body: &[u8], first: Next, rows: &mut [u32]) -> Next
 }
 
 // Lays the rows from the list's start on, and says how many numbers they are.
-fn lay_rows(body: &[u8], rows: &mut [u32]) -> usize
-    requires { (length body.now ≤ 262144) × RoomFor body.now (chunk_place body.now 4) rows.old 0 }
-    ensures { AllLaid body.now rows.old result rows.new }
+fn lay_rows(body: Body, rows: &mut [u32]) -> usize
+    requires { RoomFor body.bytes.now (chunk_place body.bytes.now 4) rows.old 0 }
+    ensures { AllLaid body.entry.bytes.now rows.old result rows.new }
 {
     let mut next = Next {
-        place: chunk_place(body, Sdes::MIN_PACKET_LEN),
+        place: chunk_place(body.bytes, Sdes::MIN_PACKET_LEN),
         i: 0,
     };
     // A while: a chunk says where the next one starts.
-    while next.place.at < body.len() {
+    while next.place.at < body.bytes.len() {
         next = lay_chunk(body, next, rows);
     }
     next.i
@@ -212,7 +219,9 @@ pub fn items(s: &[u8], rows: &mut [u32]) -> Result<usize, ListError>
     ensures { (listed_of result, rows.new) ≡ lay_list (map_ok sdes_rows (read_as SDES s.now)) rows.old }
 {
     let sdes = Sdes::parse(s)?;
-    let body = &s[..sdes.body];
+    let body = Body {
+        bytes: &s[..sdes.body],
+    };
     if let Some(size) = needed(body, rows.len()) {
         return Err(ListError::TooShort(size));
     }

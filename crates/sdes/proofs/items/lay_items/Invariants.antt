@@ -3,7 +3,7 @@ use Rattle.sdes.specs.ItemPlaces.{ItemsLaid}
 use Rattle.sdes.proofs.items.lay_items.Given as goal
 
 abbrev pub invariant-loop-end : goal.invariant-loop-end
-invariant-loop-end l = ItemsLaid l.body l.fn.first.place l.fn.first.i l.initial.rows l.next.place l.next.i l.rows
+invariant-loop-end l = ItemsLaid l.body.bytes.now l.fn.first.place l.fn.first.i l.initial.rows l.next.place l.next.i l.rows
 
 abbrev pub decreases-loop-end : goal.decreases-loop-end
-decreases-loop-end l = length l.body - l.next.place.at
+decreases-loop-end l = length l.body.bytes.now - l.next.place.at
