@@ -24,8 +24,7 @@ fn value(to: &mut Vec<u8>, s: &[u8]) -> io::Result<()> {
 }
 
 fn prefix(to: &mut Vec<u8>, s: &[u8]) -> io::Result<()> {
-    let mut answer = [0u64; 3];
-    bytes(to, SdesItem::priv_prefix(s, &mut answer))
+    bytes(to, SdesItem::priv_prefix(s).unwrap_or_default())
 }
 
 // A part of what is read; of a packet that is refused, no byte.

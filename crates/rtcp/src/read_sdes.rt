@@ -233,26 +233,18 @@ pub fn rtcp_item_parse(s: &[u8]) -> RtcpItem
     }
 }
 
-// The prefix of a lone item.
-#[tactic(auto, using(sdes_chunk::proofs::Readings::prefix_numbered), unfolding(rfc3550::specs::Answer::map_ok))]
+// The prefix of a lone item. No From, since another part need not stand behind three bytes.
+#[tactic(auto, unfolding(rfc3550::specs::Answer::map_ok))]
 pub fn rtcp_item_priv_prefix(s: &[u8]) -> RtcpPart
     ensures { result ≡ prefix_result (map_ok length (read_prefix s.now)) }
 {
-    let mut answer: [u64; 3] = [0, 0, 0];
-    let prefix = SdesItem::priv_prefix(s, &mut answer);
-    let number = answer[0];
-    if number != 0 {
-        return RtcpPart {
-            number,
-            first: answer[1],
-            second: answer[2],
+    match SdesItem::priv_prefix(s) {
+        Ok(prefix) => RtcpPart {
+            offset: 3,
+            len: prefix.len() as u64,
             ..RtcpPart::default()
-        };
-    }
-    RtcpPart {
-        offset: 3,
-        len: prefix.len() as u64,
-        ..RtcpPart::default()
+        },
+        Err(e) => refused!(RtcpPart, e),
     }
 }
 

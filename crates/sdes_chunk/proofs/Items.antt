@@ -7,11 +7,10 @@ use Rattle.rfc3550.specs.Packet.{Item, item, priv, item_type, item_bytes}
 use Rattle.rfc3550.specs.Read.{read_item, item_of, read_prefix}
 use Rattle.rfc3550.specs.Walk.{item_step}
 use Rattle.rfc3550.proofs.Answers.{map_ok_inv, true≢false}
-use Rattle.utils.specs.declared.error.Code.{Code}
-use Rattle.utils.specs.Error.{code_refusal, value_in}
+use Rattle.utils.specs.Error.{value_in}
 use Rattle.utils.proofs.Values.{none_refused, none_below, refused_viewed}
 use Rattle.sdes_chunk.specs.declared.item.SdesItem.{SdesItem}
-use Rattle.sdes_chunk.specs.Item.{item_view, item_first, item_size, item_end, read_end, step_end, value_of, value_start, value_len, prefix_in, answer_of}
+use Rattle.sdes_chunk.specs.Item.{item_view, item_first, item_size, item_end, read_end, step_end, value_of, value_start, value_len}
 use Rattle.sdes_chunk.proofs.Answers.{rest_is, map_ok_lem}
 use Rattle.sdes_chunk.proofs.Readings.{is_priv, item_in, item_length_lem, item_placed, prefix_not, prefix_length_lem, prefix_taken}
 
@@ -365,11 +364,8 @@ module _ (s : List ℕ) where
   unfolding read_prefix ◌>>=◌
   no_prefix r w = rw w
 
-  pub prefix_refused : None ≡ size s → [] ≡ prefix_in (read_prefix s)
-  prefix_refused e = let w = none_refused (read_item s) (parse_none s e) in sym (ap prefix_in (no_prefix w.0 w.1))
-
-  pub answer_refused : (l : List ℕ) (c : Code) (k : Refusal) → l ≡ c.number ∷ c.first ∷ c.second ∷ [] → code_refusal c ≡ k → refused k ≡ read_item s → l ≡ answer_of (read_prefix s)
-  answer_refused l c k q r y = q ∙ ap (λ (r : Refusal). answer_of (refused r)) r ∙ sym (ap answer_of (no_prefix k (sym y)))
+  pub prefix_refused : (k : Refusal) → refused k ≡ read_item s → refused k ≡ read_prefix s
+  prefix_refused k e = sym (no_prefix k (sym e))
 
   module _ (i : SdesItem) (h : ok i ≡ seen s) where
     read_prefix_lem : (x : Item × List ℕ) × (read_item s ≡ ok x) × (item_first x ≡ i)
@@ -382,11 +378,8 @@ module _ (s : List ℕ) where
           let y : item_type w.0.0 ≡ i.type_ = ap (λ (i : SdesItem). i.type_) w.2 in
           prefix_not s w.1 (λ q. t (sym y ∙ q)) ∙ ap (λ (t : ℕ). refuse 30 t 0) y
 
-      pub prefix_none : [] ≡ prefix_in (read_prefix s)
-      prefix_none = sym (ap prefix_in not_priv)
-
-      pub answer_none : (l : List ℕ) (c : Code) → l ≡ c.number ∷ c.first ∷ c.second ∷ [] → code_refusal c ≡ refusal 30 i.type_ 0 → l ≡ answer_of (read_prefix s)
-      answer_none l c q r = q ∙ ap (λ (r : Refusal). answer_of (refused r)) r ∙ sym (ap answer_of not_priv)
+      pub prefix_none : refused (refusal 30 i.type_ 0) ≡ read_prefix s
+      prefix_none = sym not_priv
 
     module _ (t : i.type_ ≡ 8) where
       is_priv_lem : (p : List ℕ) × (read_prefix s ≡ ok p) × (length p ≡ i.prefix_len)
@@ -402,10 +395,7 @@ module _ (s : List ℕ) where
       pub prefix_fits : length s < 2 ^ 64 → 3 + i.prefix_len < 2 ^ 64
       prefix_fits l = let p = prefix_end in omega arith
 
-      pub prefix_part : take (3 + i.prefix_len - 3) (drop 3 s) ≡ prefix_in (read_prefix s)
-      prefix_part = let m = is_priv_lem in (prefix_taken s i.prefix_len m.1 m.2).1 ∙ sym (ap prefix_in m.1)
+      pub prefix_part : ok (take (3 + i.prefix_len - 3) (drop 3 s)) ≡ read_prefix s
+      prefix_part = let m = is_priv_lem in ap ok (prefix_taken s i.prefix_len m.1 m.2).1 ∙ sym m.1
 
-      pub answer_some : 0 ∷ 0 ∷ 0 ∷ [] ≡ answer_of (read_prefix s)
-      answer_some = sym (ap answer_of is_priv_lem.1)
-
-pub ruleset items = (rules, size_short, size_end, why_short, why_past, why_empty, why_third, why_over, end_past, end_plain, end_empty, end_third, end_over, end_whole, end_few, end_last, end_stop, end_goes, step_none, step_zero, why_step, item_asked, parse_none, parse_refused, parse_some, item_first_lem, item_second, parse_plain, item_third, parse_whole, value_plain, value_none, value_priv, prefix_refused, answer_refused, prefix_none, answer_none, prefix_end, prefix_fits, prefix_part, answer_some)
+pub ruleset items = (rules, size_short, size_end, why_short, why_past, why_empty, why_third, why_over, end_past, end_plain, end_empty, end_third, end_over, end_whole, end_few, end_last, end_stop, end_goes, step_none, step_zero, why_step, item_asked, parse_none, parse_refused, parse_some, item_first_lem, item_second, parse_plain, item_third, parse_whole, value_plain, value_none, value_priv, prefix_refused, prefix_none, prefix_end, prefix_fits)

@@ -1,6 +1,6 @@
 -- What an accepted item and an accepted chunk say of the bytes that they were read from, whatever these are.
-use Rattle.rfc3550.proofs.Prelude.{ℕ, zero, suc, ◌+◌, ◌-◌, ◌<◌, ◌≤◌, ◌≡◌, refl, sym, ap, ◌∙◌, subst, Bool, true, false, List, [], ◌∷◌, ◌++◌, append_assoc, arith, add-zero, add_assoc, length, take, drop, replicate, length-append, length-drop, take-append-drop, length-take-le, take-append_seam, drop-append_seam, drop-drop, leb, eqb, leb-true, eqb-true, eq-eqb}
-use Rattle.rfc3550.specs.Answer.{refusal, Answer, ok, refused, refuse, need, ◌>>=◌, ◌>>◌, map_ok}
+use Rattle.rfc3550.proofs.Prelude.{ℕ, zero, suc, ◌+◌, ◌-◌, ◌<◌, ◌≤◌, ◌≡◌, refl, sym, ap, ◌∙◌, subst, Bool, true, false, List, [], ◌∷◌, ◌++◌, append_assoc, arith, add-zero, add_assoc, length, take, drop, replicate, length-append, length-drop, take-append-drop, length-take-le, take-append_seam, drop-append_seam, drop-drop, eqb, leb-true, eqb-true, eq-eqb}
+use Rattle.rfc3550.specs.Answer.{ok, refuse, ◌>>=◌, map_ok}
 use Rattle.rfc3550.specs.Packet.{Item, item, priv, item_type, item_rest, item_bytes, items_bytes, fill, Chunk, chunk_bytes, chunks_bytes}
 use Rattle.rfc3550.specs.Read.{item_of, read_item, read_items, read_chunk, read_chunks, prefix_of, read_prefix}
 use Rattle.rfc3550.proofs.Answers.{need_inv, bind_elim, ok_injective, refused≢ok, true≢false}
@@ -111,42 +111,6 @@ prefix_in_lem s {p} e = bind_elim _ _ e (λ x q e₁. subst (PrefixIn p) (item_i
 -- the part from 3 on that has the prefix's length
 pub prefix_taken : (s : List ℕ) (n : ℕ) {p : List ℕ} → read_prefix s ≡ ok p → length p ≡ n → (3 + n ≤ length s) × (take (3 + n - 3) (drop 3 s) ≡ p)
 prefix_taken s n {p} e h = let m : 3 + length p - 3 ≡ length p = omega arith in rw (← h) ((prefix_in_lem s e).0, rw m (prefix_in_lem s e).1)
-
--- ---- a refusal has a number that is not 0
-
-abbrev pub Numbered : {A : Type 0} → Answer A → Type 0
-Numbered (ok a) = Unit {0}
-Numbered (refused (refusal number first second)) = 0 < number
-
-need_numbered : {A : Type 0} (b : Bool) (n x y : ℕ) (m : Answer A) → 0 < n → Numbered m → Numbered (need b n x y >> m)
-unfolding need ◌>>◌
-need_numbered true n x y m h g = g
-need_numbered false n x y m h g = h
-
-bind_numbered : {A B : Type 0} (m : Answer A) (f : A → Answer B) → Numbered m → ((a : A) → Numbered (f a)) → Numbered (m >>= f)
-unfolding ◌>>=◌
-bind_numbered (ok a) f g h = h a
-bind_numbered (refused (refusal number first second)) f g h = g
-
-item_of_numbered : (b : Bool) (t : ℕ) (v : List ℕ) → Numbered (item_of b t v)
-unfolding item_of
-item_of_numbered false t v = tt
-item_of_numbered true t [] = omega arith
-item_of_numbered true t (p ∷ v) = need_numbered (leb p (length v)) 5 p (length v) (ok (priv (take p v) (drop p v))) (omega arith) tt
-
-item_numbered : (s : List ℕ) → Numbered (read_item s)
-unfolding read_item
-item_numbered [] = omega arith
-item_numbered (t ∷ []) = omega arith
-item_numbered (t ∷ n ∷ s) = need_numbered _ _ _ _ _ (omega arith) (bind_numbered (item_of (eqb t 8) t (take n s)) _ (item_of_numbered (eqb t 8) t (take n s)) (λ i. tt))
-
-prefix_of_numbered : (i : Item) → Numbered (prefix_of i)
-prefix_of_numbered (item t v) = omega arith
-prefix_of_numbered (priv p v) = tt
-
-pub prefix_numbered : (s : List ℕ) → Numbered (read_prefix s)
-unfolding read_prefix
-prefix_numbered s = bind_numbered (read_item s) _ (item_numbered s) (λ x. prefix_of_numbered x.0)
 
 -- ---- a chunk
 

@@ -9,12 +9,14 @@
 --     +-+-+-+-+-+-+-+-+-+-+-+-+-+-+-+-+-+-+-+-+-+-+-+-+-+-+-+-+-+-+-+-+
 --
 -- What the code hands over of an item: numbers that its layout fixes.
-use Rattle.std.specs.Prelude.{ℕ, ◌+◌, ◌-◌, List, [], ◌∷◌, Option, length, drop, eqb}
-use Rattle.rfc3550.specs.Answer.{refusal, Answer, ok, refused, map_ok, pick}
+use Rattle.std.specs.Prelude.{ℕ, ◌+◌, ◌-◌, List, Option, Result, Ok, Err, length, drop, eqb}
+use Rattle.std.specs.Borrow.{Bor}
+use Rattle.rfc3550.specs.Answer.{Answer, ok, refused, map_ok, pick}
 use Rattle.rfc3550.specs.Packet.{Item, item, priv, item_type, item_rest, item_bytes}
 use Rattle.rfc3550.specs.Read.{read_item}
 use Rattle.rfc3550.specs.Walk.{item_step}
-use Rattle.utils.specs.Error.{value_in}
+use Rattle.utils.specs.declared.error.RtcpParseError.{RtcpParseError}
+use Rattle.utils.specs.Error.{parse_refusal, value_in}
 use Rattle.sdes_chunk.specs.declared.item.SdesItem.{SdesItem}
 
 -- ---- views
@@ -60,12 +62,7 @@ value_len i = 2 + i.length - value_start i
 
 -- ---- answers
 
--- the part that is handed over for a prefix: none where it is refused
-abbrev pub prefix_in : Answer (List ℕ) → List ℕ
-prefix_in (ok p) = p
-prefix_in (refused r) = []
-
--- the three numbers beside it
-abbrev pub answer_of : Answer (List ℕ) → List ℕ
-answer_of (ok p) = 0 ∷ 0 ∷ 0 ∷ []
-answer_of (refused (refusal number first second)) = number ∷ first ∷ second ∷ []
+-- what a function that hands over a part says
+abbrev pub part_of : Result (Bor (List ℕ)) RtcpParseError → Answer (List ℕ)
+part_of (Ok part) = ok part.now
+part_of (Err e) = refused (parse_refusal e)

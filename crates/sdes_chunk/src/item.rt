@@ -7,9 +7,9 @@ ghost use Rattle.rfc3550.specs.Packet.{is_cname};
 ghost use Rattle.rfc3550.specs.Read.{read_item, read_prefix};
 ghost use Rattle.rfc3550.specs.Walk.{item_step};
 ghost use Rattle.utils.specs.Error.{parse_refusal, value_in, parsed_of};
-ghost use Rattle.sdes_chunk.specs.Item.{item_first, item_size, read_end, step_end, value_start, value_len, prefix_in, answer_of};
+ghost use Rattle.sdes_chunk.specs.Item.{item_first, item_size, read_end, step_end, value_start, value_len, part_of};
 
-use utils::error::{Code, RtcpParseError};
+use utils::error::RtcpParseError;
 use utils::parser;
 
 // The type, the length of what follows the first two bytes, and of that the prefix (0 where the type is not PRIV, and no Option: C is given
@@ -144,13 +144,6 @@ pub fn is_cname(type_: u8, length: usize) -> bool
     type_ == SdesItem::CNAME
 }
 
-// Sets the answer to the numbers of a refusal.
-fn set_answer(answer: &mut [u64; 3], code: Code)
-    ensures { answer.new ≡ code.number ∷ code.first ∷ code.second ∷ [] }
-{
-    *answer = [code.number, code.first, code.second];
-}
-
 impl SdesItem {
     pub const CNAME: u8 = 1;
 
@@ -203,24 +196,19 @@ impl SdesItem {
         parser::part(rest, start, len)
     }
 
-    // The prefix of the item at the start of the rest, and an answer of zeros; where there is none an empty part, and the refusal's number and details.
-    pub fn priv_prefix<'a>(rest: &'a [u8], answer: &mut [u64; 3]) -> &'a [u8]
-        ensures { (result.now ≡ prefix_in (read_prefix rest.now)) × (answer.new ≡ answer_of (read_prefix rest.now)) }
+    // The prefix of the item at the start of the rest.
+    pub fn priv_prefix(rest: &[u8]) -> Result<&[u8], RtcpParseError>
+        ensures { part_of result ≡ read_prefix rest.now }
     {
         let Some(_) = item_size(rest) else {
-            let why = why_item_unchecked(rest);
-            set_answer(answer, Code::from(why));
-            return &rest[..0];
+            return Err(why_item_unchecked(rest));
         };
         let item = item_of_unchecked(rest);
         let type_ = item.type_;
         if type_ != SdesItem::PRIV {
-            let why = RtcpParseError::NotPriv(type_);
-            set_answer(answer, Code::from(why));
-            return &rest[..0];
+            return Err(RtcpParseError::NotPriv(type_));
         }
-        *answer = [0, 0, 0];
         let end = 3 + item.prefix_len;
-        &rest[3..end]
+        Ok(&rest[3..end])
     }
 }
