@@ -91,11 +91,12 @@ pub fn report(
     }
 }
 
-fn opened(to: &mut Vec<u8>, answer: Result<ChunkWalk, RtcpParseError>) -> io::Result<()> {
+fn opened(to: &mut Vec<u8>, answer: Result<SdesWalk, RtcpParseError>) -> io::Result<()> {
     match answer {
         Ok(walk) => {
             numbers(to, &[0u64, 0, 0])?;
-            numbers(to, &[walk.at, walk.end])
+            let position = walk.position;
+            numbers(to, &[position.at, position.end])
         }
         Err(e) => {
             let code = Code::from(e);
@@ -126,9 +127,7 @@ fn stepped(
 
 // The answer to step n, counted from 0, of a walk that is opened on the bytes; after so many steps as there are bytes it has come to its end.
 fn chunk(s: &[u8], n: u64) -> Result<(SdesChunk, ChunkWalk), RtcpParseError> {
-    let first = SdesWalk::open(s);
-    let _ = first.answer?;
-    let mut walk = first.walk;
+    let mut walk = SdesWalk::open(s)?;
     for _ in 0..s.len().min(n as usize) {
         walk = walk.step().walk;
     }
@@ -141,7 +140,7 @@ pub fn walk(to: &mut Vec<u8>, walking: Walking, row: &Row) -> io::Result<()> {
     let at: u64 = row.number(0);
     let end: u64 = row.number(1);
     match walking {
-        Walking::Open => opened(to, SdesWalk::open(s).answer),
+        Walking::Open => opened(to, SdesWalk::open(s)),
         Walking::Step => {
             let position = ChunkWalk {
                 at: at as usize,

@@ -1,5 +1,5 @@
 -- The answers of a walk that holds its bytes, from a walk just opened: answer i gives chunk i, its fields and its bytes, and 25 once all are given.
-use Rattle.std.specs.Prelude.{Ok}
+use Rattle.std.specs.Prelude.{Result, Ok}
 use Rattle.rfc3550.proofs.Prelude.{ℕ, ◌≡◌, refl, sym, ap, ◌∙◌, List, length, take, drop}
 use denote.Ref.{Bor}
 use Rattle.rfc3550.specs.Answer.{Answer, ok, refused, map_ok}
@@ -12,16 +12,16 @@ use Rattle.rfc3550.proofs.Answers.{ok_injective, map_ok_inv}
 use Rattle.rfc3550.proofs.Walks.{sdes_walk_gives}
 use Rattle.rfc3550.proofs.Places.{chunk_at_lem}
 use Rattle.rfc3550.proofs.Returned.{Steps, runs}
+use Rattle.utils.specs.declared.error.RtcpParseError.{RtcpParseError}
 use Rattle.utils.specs.Error.{parsed_of}
 use Rattle.sdes_chunk.specs.Chunk.{chunk_view}
-use Rattle.sdes.specs.Walk.{chunk_walk, sdes_walk, chunk_stepped}
+use Rattle.sdes.specs.Walk.{sdes_walk, chunk_stepped}
 use Rattle.sdes.specs.Returned.{chunk_seen, chunk_is}
 use Rattle.sdes.specs.declared.sdes.ChunkWalk.{ChunkWalk}
 use Rattle.sdes.proofs.Returned.{short, packet_of_lem}
-use Rattle.sdes_walk.specs.Walk.{start_of, step_at, opened_on}
+use Rattle.sdes_walk.specs.Walk.{walk_on, step_at}
 use Rattle.sdes_walk.specs.Returned.{held_steps, held_seen}
 use Rattle.sdes_walk.specs.declared.SdesWalk.{SdesWalk}
-use Rattle.sdes_walk.specs.declared.OpenedWalk.{OpenedWalk}
 use Rattle.sdes_walk.specs.declared.SteppedWalk.{SteppedWalk}
 
 module _ (d : Bor (List ℕ)) (h : Bytes d.now) (p : Packet) (e : read_as SDES d.now ≡ ok p) where
@@ -61,11 +61,10 @@ module _ (d : Bor (List ℕ)) (h : Bytes d.now) (p : Packet) (e : read_as SDES d
       (λ i. ap (λ (v : rfc.SdesWalk). rfc.gave (rfc.sdes_step d.now (rfc.walked (rfc.sdes_step d.now) v i))) k ∙ g.2 i) rs t
 
 -- what `SdesWalk::open` returned on data that it accepts, and the answers of `SdesWalk::step` in turn
-pub held_returned : (d : Bor (List ℕ)) → Bytes d.now → (o : OpenedWalk) (w : ChunkWalk) → o.answer ≡ Ok w → parsed_of o.answer ≡ map_ok chunk_walk (rfc.open_sdes d.now) → o.walk ≡ opened_on d
+pub held_returned : (d : Bor (List ℕ)) → Bytes d.now → (o : Result SdesWalk RtcpParseError) (w : SdesWalk) → o ≡ Ok w → parsed_of o ≡ map_ok (walk_on d) (rfc.open_sdes d.now)
     → (p : Packet) × (read_as SDES d.now ≡ ok p)
-    × ((rs : List SteppedWalk) → Ran held_steps rs o.walk → shown_of held_steps held_seen rs o.walk ≡ firsts (length rs) (λ (i : ℕ). map_ok chunk_is (nth i (chunks_of p.content))))
+    × ((rs : List SteppedWalk) → Ran held_steps rs w → shown_of held_steps held_seen rs w ≡ firsts (length rs) (λ (i : ℕ). map_ok chunk_is (nth i (chunks_of p.content))))
 unfolding map_ok
-held_returned d h o w q e k =
-    let m = map_ok_inv chunk_walk (rfc.open_sdes d.now) (sym (sym (ap parsed_of q) ∙ e)) in
-    let z : (opened_on d).position ≡ chunk_walk m.0 = ap (λ (a : Answer rfc.SdesWalk). start_of (map_ok chunk_walk a)) m.1 in
-    packet_of_lem d.now h m.1 (λ p r. (p, r, run_held d h p r o.walk (ap (λ (w : SdesWalk). w.«data») k) (m.1 ∙ ap (λ (w : ChunkWalk). ok (sdes_walk w)) (sym (ap (λ (w : SdesWalk). w.position) k ∙ z)))))
+held_returned d h o w q e =
+    let m = map_ok_inv (walk_on d) (rfc.open_sdes d.now) (sym (sym (ap parsed_of q) ∙ e)) in
+    packet_of_lem d.now h m.1 (λ p r. (p, r, run_held d h p r w (sym (ap (λ (w : SdesWalk). w.«data») m.2)) (m.1 ∙ ap (λ (w : SdesWalk). ok (sdes_walk w.position)) m.2)))

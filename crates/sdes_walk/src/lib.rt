@@ -5,8 +5,7 @@ ghost use Rattle.std.specs.Prelude.{◌≡◌};
 ghost use Rattle.rfc3550.specs.Answer.{map_ok};
 ghost use Rattle.rfc3550.specs.Walk.{open_sdes, walk_after};
 ghost use Rattle.utils.specs.Error.{parsed_of};
-ghost use Rattle.sdes.specs.Walk.{chunk_walk};
-ghost use Rattle.sdes_walk.specs.Walk.{start_of, step_at, opened_on, moved_on};
+ghost use Rattle.sdes_walk.specs.Walk.{walk_on, step_at, moved_on};
 
 use sdes::sdes::ChunkWalk;
 use sdes_chunk::chunk::SdesChunk;
@@ -18,27 +17,11 @@ pub struct SdesWalk<'a> {
     pub position: ChunkWalk,
 }
 
-// The answer to opening, and the walk. Of a packet that is refused there is nothing to walk.
-#[derive(Clone, Copy)]
-pub struct OpenedWalk<'a> {
-    pub answer: Result<ChunkWalk, RtcpParseError>,
-    pub walk: SdesWalk<'a>,
-}
-
-// The answer to a step, and the walk after it. A refusal leaves the walk as it was.
+// The answer to a step, and the walk after it. No Result of both: a refusal hands the walk back too, as it was.
 #[derive(Clone, Copy)]
 pub struct SteppedWalk<'a> {
     pub answer: Result<(SdesChunk, ChunkWalk), RtcpParseError>,
     pub walk: SdesWalk<'a>,
-}
-
-fn start(answer: Result<ChunkWalk, RtcpParseError>) -> ChunkWalk
-    ensures { result ≡ start_of (parsed_of answer) }
-{
-    match answer {
-        Ok(walk) => walk,
-        Err(_) => ChunkWalk { at: 0, end: 0 },
-    }
 }
 
 fn after(answer: Result<(SdesChunk, ChunkWalk), RtcpParseError>, position: ChunkWalk) -> ChunkWalk
@@ -52,15 +35,12 @@ fn after(answer: Result<(SdesChunk, ChunkWalk), RtcpParseError>, position: Chunk
 
 impl<'a> SdesWalk<'a> {
     // Opens only on an accepted packet.
-    pub fn open(data: &'a [u8]) -> OpenedWalk<'a>
-        ensures { (parsed_of result.answer ≡ map_ok chunk_walk (open_sdes «data».now)) × (result.walk ≡ opened_on «data».entry) }
+    #[tactic(auto, using(crate::proofs::Walks::held))]
+    pub fn open(data: &'a [u8]) -> Result<SdesWalk<'a>, RtcpParseError>
+        ensures { parsed_of result ≡ map_ok (walk_on «data».entry) (open_sdes «data».now) }
     {
-        let answer = ChunkWalk::open(data);
-        let position = start(answer);
-        OpenedWalk {
-            answer,
-            walk: SdesWalk { data, position },
-        }
+        let position = ChunkWalk::open(data)?;
+        Ok(SdesWalk { data, position })
     }
 
     // The chunk at the walk's place, and the walk after it.
