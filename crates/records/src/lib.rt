@@ -1,16 +1,52 @@
-// The blocks of a report, lent as one run of records: they are read where they stand, one at a time, without a copy. All else of a report that is made of
-// them is `report_write`'s.
+// Who reports, of either kind in one type, and the blocks of a report, lent as one run of records: they are read where they stand, one at a time, without
+// a copy. All else of a report that is made of them is `report_write`'s.
 #![tactic(auto)]
 
 ghost use Rattle.std.specs.Prelude.{◌≡◌};
 ghost use Rattle.rfc3550.specs.Loss.{no_loss};
-ghost use Rattle.records.specs.Records.{lists_in, later_of, tested_of};
+ghost use Rattle.records.specs.Records.{reporter_of, lists_in, later_of, tested_of};
 
 use report::report_block::ReportBlock;
 use report_write::builder::ReportBuilder;
+use report_write::receiver::ReceiverInfo;
 use report_write::report_block;
 use report_write::report_block::ReportBlocks;
+use report_write::reporter::Reporter as _;
+use report_write::sender::SenderInfo;
 use utils::error::RtcpWriteError;
+
+// Who reports: a receiver, by its SSRC, or a sender.
+#[derive(Clone, Copy)]
+pub enum Reporter {
+    Receiver(u32),
+    Sender(SenderInfo),
+}
+
+impl report_write::reporter::Reporter for Reporter {
+    ghost reporter = { reporter_of };
+
+    fn packet_type(self) -> u8 {
+        match self {
+            Reporter::Receiver(ssrc) => ReceiverInfo { ssrc }.packet_type(),
+            Reporter::Sender(info) => info.packet_type(),
+        }
+    }
+
+    fn min_packet_len(self) -> u8 {
+        match self {
+            Reporter::Receiver(ssrc) => ReceiverInfo { ssrc }.min_packet_len(),
+            Reporter::Sender(info) => info.min_packet_len(),
+        }
+    }
+
+    #[inline(always)]
+    fn write_info_unchecked(self, buf: &mut [u8]) {
+        match self {
+            Reporter::Receiver(ssrc) => ReceiverInfo { ssrc }.write_info_unchecked(buf),
+            Reporter::Sender(info) => info.write_info_unchecked(buf),
+        }
+    }
+}
 
 #[derive(Clone, Copy)]
 pub struct Records<'a> {
