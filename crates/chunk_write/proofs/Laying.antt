@@ -515,14 +515,12 @@ module _ (ssrc : ℕ) (ts ps vs bs : List ℕ) where
       let k = length_chunk_of ssrc (lent_items ts ps vs bs) in
       (sym m, λ space f. record { listed = record { prefixes = y.prefixes; values = y.values }; bytes = omega (arith, y.bytes); tests = b.0; room = omega arith })
 
-  lone_fits : (space : ℕ) → HasRoom (chunk_size ssrc ts ps vs bs) space → ChunkFits ts ps vs bs space
+  pub lone_fits : (space : ℕ) → HasRoom (chunk_size ssrc ts ps vs bs) space → ChunkFits ts ps vs bs space
   lone_fits space f = (lone_known f.n f.is).1 space f.room
 
-  pub lone_chunks : (space : ℕ) → HasRoom (chunk_size ssrc ts ps vs bs) space → ChunksFit 0 (ssrc ∷ []) (length ts ∷ []) ts ps vs bs space
+  pub lone_chunks : (space : ℕ) → ChunkFits ts ps vs bs space → ChunksFit 0 (ssrc ∷ []) (length ts ∷ []) ts ps vs bs space
   unfolding sum
-  lone_chunks space h =
-      let f = lone_fits space h in
-      record { counts = refl; items = omega arith; listed = f.listed; bytes = f.bytes; tests = f.tests; room = rw (only ssrc ts ps vs bs) (omega (arith, f.room, length_chunk_of ssrc (lent_items ts ps vs bs))) }
+  lone_chunks space f = record { counts = refl; items = omega arith; listed = f.listed; bytes = f.bytes; tests = f.tests; room = rw (only ssrc ts ps vs bs) (omega (arith, f.room, length_chunk_of ssrc (lent_items ts ps vs bs))) }
 
   pub lone_laid : (l l₁ : List ℕ) → l₁ ≡ store 0 (laid_chunks (ssrc ∷ []) (length ts ∷ []) ts ps vs bs) l → l₁ ≡ store 0 (laid_chunk ssrc ts ps vs bs) l
   lone_laid l l₁ e = rw (only ssrc ts ps vs bs) at e

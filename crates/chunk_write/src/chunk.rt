@@ -1,8 +1,10 @@
 // A lone SDES chunk, written (sdes.rs, `SdesChunkBuilder`).
 #![tactic(auto, using(crate::proofs::Laying::lone))]
 
+ghost use Rattle.std.specs.Prelude.{◌≡◌, length};
+ghost use Rattle.rfc3550.specs.Bytes.{store};
 ghost use Rattle.rfc3550.specs.Write.{chunk_size};
-ghost use Rattle.chunk_write.specs.Lists.{laid_chunk};
+ghost use Rattle.chunk_write.specs.Lists.{laid_chunk, ChunkFits};
 
 use crate::chunks;
 use crate::chunks::ItemLists;
@@ -46,7 +48,10 @@ impl<'a> LoneWriter for SdesChunkBuilder<'a> {
     }
 
     #[inline(always)]
-    fn write_into_unchecked(self, buf: &mut [u8]) {
+    fn write_into_unchecked(self, buf: &mut [u8])
+        requires { ChunkFits self.items.types.now self.items.prefixes.now self.items.values.now self.items.bytes.now (length buf.old) }
+        ensures { buf.new ≡ store 0 (laid_chunk self.entry.ssrc self.entry.items.types.now self.entry.items.prefixes.now self.entry.items.values.now self.entry.items.bytes.now) buf.old }
+    {
         let ssrcs = [self.ssrc];
         let counts = [self.items.types.len() as u64];
         chunks::write_chunks_unchecked(buf, 0, &ssrcs, &counts, self.items);
