@@ -6,6 +6,7 @@ use Rattle.rfc3550.specs.Read.{version_in, padded, type_in, stated, padding_coun
 use Rattle.rfc3550.proofs.Answers.{need_inv, ok_injective, and_inv, or_inv}
 use Rattle.utils.specs.Error.{value_in}
 use Rattle.utils.specs.Parser.{check_padding}
+use Rattle.utils.proofs.Values.{value_is}
 
 -- ---- the padding's step
 
@@ -138,6 +139,15 @@ unnamed least false a b s = go (leb least (length s)) (eqb (version_in s) 2)
     go false u = refl
     go true false = refl
     go true true = refl
+
+module _ (least : ℕ) (wanted : Bool) (a r : ℕ) (s : List ℕ) where
+  pub body_told : (n : ℕ) → Some n ≡ value_in (check_header least wanted (0, 0) s) → ok n ≡ check_header least wanted (a, r) s
+  body_told n h = value_is _ n (h ∙ unnamed least wanted (0, 0) (a, r) s)
+
+  pub none_told : None ≡ value_in (check_header least wanted (0, 0) s) → value_in (check_header least wanted (a, r) s) ≡ None
+  none_told h = sym (h ∙ unnamed least wanted (0, 0) (a, r) s)
+
+pub ruleset checks = (rules, body_told, none_told)
 
 module _ (least type : ℕ) (s : List ℕ) (t : ℕ) (e : t ≡ type_in s) where
   pub of_type : (o : Option ℕ) → o ≡ value_in (check_header least (eqb t type) (0, 0) s) → o ≡ value_in (check_header least (eqb (type_in s) type) (type_in s, type) s)

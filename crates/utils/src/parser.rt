@@ -3,7 +3,7 @@ ghost use Rattle.std.specs.Prelude.{◌≡◌, None, ◌+◌, ◌-◌, ◌≤◌
 ghost use Rattle.rfc3550.specs.Answer.{refused};
 ghost use Rattle.rfc3550.specs.Bytes.{val};
 ghost use Rattle.rfc3550.specs.Read.{version_in, padded, low_in, type_in, stated, check_header};
-ghost use Rattle.utils.specs.Error.{parse_refusal, value_in};
+ghost use Rattle.utils.specs.Error.{parse_refusal, value_in, parsed_of};
 ghost use Rattle.utils.specs.Parser.{check_padding};
 
 use super::error::RtcpParseError;
@@ -175,6 +175,24 @@ pub fn why_header_if_unchecked(
     RtcpParseError::InvalidPadding
 }
 
+// The length of the body by these steps, or why one refuses.
+#[tactic(auto, using(crate::proofs::Headers::checks))]
+pub fn check_header_if(
+    s: &[u8],
+    min_packet_len: usize,
+    wanted: bool,
+    actual: u8,
+    requested: u8,
+) -> Result<usize, RtcpParseError>
+    requires { 4 ≤ min_packet_len }
+    ensures { parsed_of result ≡ check_header min_packet_len wanted (actual, requested) s.now }
+{
+    match body_if(s, min_packet_len, wanted) {
+        Some(body) => Ok(body),
+        None => Err(why_header_if_unchecked(s, min_packet_len, wanted, actual, requested)),
+    }
+}
+
 // The same of a kind that its type alone names: the length of the body, or None.
 #[tactic(auto, using(crate::proofs::Headers::types))]
 pub fn body_of(s: &[u8], min_packet_len: usize, packet_type: u8) -> Option<usize>
@@ -200,6 +218,22 @@ pub fn why_header_unchecked(s: &[u8], min_packet_len: usize, packet_type: u8) ->
         actual,
         packet_type,
     )
+}
+
+// The length of the body of a kind that its type alone names, or why the packet is refused.
+#[tactic(auto, using(crate::proofs::Values::values))]
+pub fn check_header(
+    s: &[u8],
+    min_packet_len: usize,
+    packet_type: u8,
+) -> Result<usize, RtcpParseError>
+    requires { 4 ≤ min_packet_len }
+    ensures { parsed_of result ≡ check_header min_packet_len (eqb (type_in s.now) packet_type) (type_in s.now, packet_type) s.now }
+{
+    match body_of(s, min_packet_len, packet_type) {
+        Some(body) => Ok(body),
+        None => Err(why_header_unchecked(s, min_packet_len, packet_type)),
+    }
 }
 
 // The part of the bytes from a place on, of a length, cut where the bytes end.
