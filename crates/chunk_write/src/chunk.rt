@@ -36,7 +36,13 @@ impl<'a> LoneWriter for SdesChunkBuilder<'a> {
             return None;
         }
         let counts = [self.items.types.len() as u64];
-        chunks::chunks_end_unchecked(0, MAX_CHUNK_LEN, &counts, self.items)
+        chunks::chunks_end_unchecked(
+            0,
+            MAX_CHUNK_LEN,
+            &counts,
+            self.items,
+            self.items.bytes.len(),
+        )
     }
 
     #[inline(always)]

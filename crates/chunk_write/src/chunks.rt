@@ -4,8 +4,8 @@ ghost use Rattle.std.specs.Prelude.{◌≡◌, ◌+◌, ◌-◌, ◌<◌, ◌≤
 ghost use Rattle.rfc3550.specs.Answer.{refused};
 ghost use Rattle.rfc3550.specs.Bytes.{sum, store};
 ghost use Rattle.utils.specs.Error.{write_refusal};
-ghost use Rattle.chunk_write.specs.Sizes.{at_most, ItemsMeasured, ChunksMeasured};
-ghost use Rattle.chunk_write.specs.Lists.{agree_in, listed_in, refused_in, items_end_in, chunks_end_in, FirstItems, LaterItems, PartFits, PartLaid, ItemsFitIn, ItemsLaidIn, ChunkFitsIn, ChunkLaidIn, laid_in, ChunksFitIn};
+ghost use Rattle.chunk_write.specs.Sizes.{at_most, chunks_end, ItemsMeasured, ChunksMeasured};
+ghost use Rattle.chunk_write.specs.Lists.{agree_in, listed_in, refused_in, items_end_in, FirstItems, LaterItems, PartFits, PartLaid, ItemsFitIn, ItemsLaidIn, ChunkFitsIn, ChunkLaidIn, laid_in, ChunksFitIn};
 
 use crate::item;
 use sdes_chunk::chunk::word_boundary_unchecked;
@@ -136,19 +136,21 @@ fn items_end(at: usize, bytes_left: u64, items: ItemLists) -> Option<ItemsEnd>
     Some(ItemsEnd { end, left })
 }
 
-// The index after the chunks, if they start at index start; None where an item is refused, the lists disagree or that index is past the limit.
+// The index after the chunks, if they start at index start; None where an item is refused, the lists disagree or that index is past the limit. By the
+// number of the bytes, and not by what is lent of them: a caller may have the lengths alone.
 #[tactic(auto, using(crate::proofs::Sizes::counting))]
 pub fn chunks_end_unchecked(
     start: usize,
     limit: usize,
     counts: &[u64],
     items: ItemLists,
+    bytes_len: usize,
 ) -> Option<usize>
-    requires { ChunksMeasured start counts.now items.types.now items.prefixes.now items.values.now (length items.bytes.now) }
-    ensures { result ≡ at_most limit (chunks_end_in start counts.now items.entry) }
+    requires { ChunksMeasured start counts.now items.types.now items.prefixes.now items.values.now bytes_len }
+    ensures { result ≡ at_most limit (chunks_end start bytes_len counts.now items.entry.types.now items.entry.prefixes.now items.entry.values.now) }
 {
     let mut at = start;
-    let mut left = items.bytes.len() as u64;
+    let mut left = bytes_len as u64;
     let mut rest = items;
     for count in counts {
         let c = *count as usize;

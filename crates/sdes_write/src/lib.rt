@@ -76,6 +76,7 @@ impl<'a> SdesBuilder<'a> {
             writer::MAX_PACKET_LEN - self.padding as usize,
             self.counts,
             self.items,
+            self.items.bytes.len(),
         )
     }
 }

@@ -21,6 +21,9 @@ loop-count-preserved c =
 pub returns-then-rest-c : goal.returns-then-rest-c
 returns-then-rest-c c = search counting
 
+pub returns-then-left-ne0 : goal.returns-then-left-ne0
+returns-then-left-ne0 c = search counting
+
 pub returns-then-limit-at : goal.returns-then-limit-at
 returns-then-limit-at c = search counting
 

@@ -1,6 +1,5 @@
-use Rattle.std.specs.Prelude.{length}
 use Rattle.chunk_write.proofs.Sizes.{Counting}
 use Rattle.chunk_write.proofs.chunks.chunks_end_unchecked.Given as goal
 
 abbrev pub invariant-loop-count : goal.invariant-loop-count
-invariant-loop-count l = Counting l.start (length l.items.bytes.now) l.counts l.items.types.now l.items.prefixes.now l.items.values.now l.count-index l.at l.left l.rest.types.now l.rest.prefixes.now l.rest.values.now
+invariant-loop-count l = Counting l.start l.bytes_len l.counts l.items.types.now l.items.prefixes.now l.items.values.now l.count-index l.at l.left l.rest.types.now l.rest.prefixes.now l.rest.values.now
