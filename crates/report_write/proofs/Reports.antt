@@ -13,7 +13,7 @@ use Rattle.rfc3550.proofs.Answers.{true≢false, need_inv, refused≢ok}
 use Rattle.rfc3550.proofs.Writes.{length_lent_blocks}
 use Rattle.utils.specs.Error.{value_in}
 use Rattle.utils.specs.Writer.{header}
-use Rattle.utils.proofs.Values.{none_refused}
+use Rattle.utils.proofs.Values.{value_is, none_refused}
 use Rattle.utils.proofs.WriterStores.{stores}
 use Rattle.utils.proofs.WriterPackets.{writes, padding_most, sized, size_ok, size_refused, parts_laid, header_long, packet_laid}
 use Rattle.report_write.specs.declared.receiver.ReceiverInfo.{ReceiverInfo}
@@ -101,6 +101,21 @@ reason_same p q n x k r = go (leb n 31) (padding_ok k) (loss_in x)
     go true false c e = e
     go true true false e = e
     go true true true e = absurd (refused≢ok e)
+
+module _ (n : ℕ) (x : Loss) (k : ℕ) (g : mag x < 2147483648) where
+  counted_back : (least : ℕ) → counted_size least n (to_z w32 (of_z w32 x)) k ≡ counted_size least n x k
+  counted_back least = ap (λ (y : Loss). counted_size least n y k) (bits_back x g)
+
+  pub size_told : (least m : ℕ) → Some m ≡ value_in (counted_size least n (to_z w32 (of_z w32 x)) k) → ok m ≡ counted_size least n x k
+  size_told least m h = value_is _ m h ∙ counted_back least
+
+  pub none_told : (least : ℕ) → None ≡ value_in (counted_size least n (to_z w32 (of_z w32 x)) k) → value_in (counted_size 0 n (to_z w32 (of_z w32 x)) k) ≡ None
+  none_told least h = let r = none_refused _ (sym h) in ap value_in (sym (reason_same least 0 n (to_z w32 (of_z w32 x)) k r.0 (sym r.1)))
+
+  pub why_told : (least : ℕ) (r : Refusal) → refused r ≡ counted_size 0 n (to_z w32 (of_z w32 x)) k → refused r ≡ counted_size least n x k
+  why_told least r h = reason_same 0 least n x k r (h ∙ counted_back 0)
+
+pub ruleset checks = (rules, size_told, none_told, why_told)
 
 module _ (l : BlockLists) (k : ℕ) where
   lists_same : (p q : ℕ) (r : Refusal) → refused r ≡ lists_size p l k → refused r ≡ lists_size q l k

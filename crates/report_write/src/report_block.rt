@@ -6,6 +6,7 @@ ghost use Rattle.rfc3550.specs.Loss.{no_loss, loss_in};
 ghost use Rattle.rfc3550.specs.Packet.{block_widths, block_fields, blocks_bytes};
 ghost use Rattle.rfc3550.specs.Write as rfc;
 ghost use Rattle.utils.specs.Error.{value_in, write_refusal};
+ghost use Rattle.utils.specs.Writer.{written_of};
 ghost use Rattle.report_write.specs.Report.{lists_in, block_of, later_loss, tested_loss, counted_size, lists_size};
 
 use report::loss;
@@ -87,6 +88,22 @@ pub fn why_count_unchecked(count: usize, loss: i32, padding: u64) -> RtcpWriteEr
     RtcpWriteError::CumulativeLostTooLarge {
         value: loss::loss_shown(loss),
         max: loss::MAX_LOSS,
+    }
+}
+
+// The size of such a report, or why it is refused.
+#[tactic(auto, using(crate::proofs::Reports::checks))]
+pub fn check_count(
+    count: usize,
+    loss: i32,
+    padding: u64,
+    least: u8,
+) -> Result<usize, RtcpWriteError>
+    ensures { written_of result ≡ counted_size least count loss padding }
+{
+    match size_of_count(count, loss, padding, least) {
+        Some(size) => Ok(size),
+        None => Err(why_count_unchecked(count, loss, padding)),
     }
 }
 
