@@ -104,8 +104,8 @@ pub fn why_items_unchecked(items: ItemLists) -> RtcpWriteError
     for (i, item_type) in items.types.iter().enumerate() {
         let p = items.prefixes[i];
         let v = items.values[i];
-        if item::size_of_lengths(*item_type, p, v).is_none() {
-            return item::why_lengths_unchecked(*item_type, p, v);
+        if let Err(why) = item::check_lengths(*item_type, p, v) {
+            return why;
         }
     }
     RtcpWriteError::PacketTooLarge

@@ -7,6 +7,7 @@ ghost use Rattle.rfc3550.specs.Bytes.{store};
 ghost use Rattle.rfc3550.specs.Packet.{priv, item, item_bytes};
 ghost use Rattle.rfc3550.specs.Write.{item_given, item_size};
 ghost use Rattle.utils.specs.Error.{value_in, write_refusal};
+ghost use Rattle.utils.specs.Writer.{written_of};
 ghost use Rattle.chunk_write.specs.Sizes.{lent, size_of, priv_head};
 
 use crate::lone_writer::LoneWriter;
@@ -77,6 +78,21 @@ pub fn why_lengths_unchecked(item_type: u8, prefix_len: u64, value_len: u64) -> 
     RtcpWriteError::SdesValueTooLarge {
         len: value_len as usize,
         max: max as u8,
+    }
+}
+
+// The size of an item of a type and two lengths, or why it is refused.
+#[tactic(auto, using(utils::proofs::Values::values))]
+pub fn check_lengths(
+    item_type: u8,
+    prefix_len: u64,
+    value_len: u64,
+) -> Result<usize, RtcpWriteError>
+    ensures { written_of result ≡ size_of item_type prefix_len value_len }
+{
+    match size_of_lengths(item_type, prefix_len, value_len) {
+        Some(size) => Ok(size),
+        None => Err(why_lengths_unchecked(item_type, prefix_len, value_len)),
     }
 }
 
