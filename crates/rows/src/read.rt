@@ -1,4 +1,6 @@
 // Rows that read: the C function, then its answer's fields in their order.
+ghost use Rattle.std.specs.Prelude.{◌≡◌, take, drop};
+
 use super::answer::Answer;
 use super::operation::{Part, Reading};
 use super::print::bytes;
@@ -34,13 +36,20 @@ macro_rules! shown {
     };
 }
 
+// An APP's name by its place, whatever the packet: of one that is refused, bytes 8 to 11 too, as many of them as it has.
+fn app_name(s: &[u8]) -> &[u8]
+    ensures { result.now ≡ take 4 (drop 8 s.now) }
+{
+    utils::parser::part(s, App::NAME, App::NAME_LEN)
+}
+
 pub fn part(to: &mut Vec<u8>, part: Part, s: &[u8]) -> io::Result<()> {
     match part {
         Part::RrExtension => shown!(to, ReceiverReport, extension, s),
         Part::RrPadding => shown!(to, ReceiverReport, padding_bytes, s),
         Part::SrExtension => shown!(to, SenderReport, extension, s),
         Part::SrPadding => shown!(to, SenderReport, padding_bytes, s),
-        Part::AppName => shown!(to, App, name, s),
+        Part::AppName => bytes(to, app_name(s)),
         Part::AppData => shown!(to, App, data, s),
         Part::AppPadding => shown!(to, App, padding_bytes, s),
         Part::ByeReason => shown!(to, Bye, reason, s),
