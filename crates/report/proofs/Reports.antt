@@ -237,9 +237,6 @@ module _ {k : Kind} {min type : ℕ} {R : Type 0} {view : Packet → R} {places 
     count : at.n_reports ≡ low_in s
     count = placed_count l.maker s at parsed
 
-    pub parsed_past : (i : ℕ) → at.n_reports ≤ i → refuse 25 0 0 ≡ map_ok block_view (read_block_at k s i)
-    parsed_past = index_past l.maker s at.body body_in at.n_reports count
-
     module _ (x : ℕ) (f : x ≡ min) where
       min_is : x ≡ least k
       min_is = f ∙ l.least_len
@@ -249,13 +246,6 @@ module _ {k : Kind} {min type : ℕ} {R : Type 0} {view : Packet → R} {places 
 
       pub parsed_blocks : (fs : List ℕ) (ls : List Loss) (ws : List ℕ) (a : Answer ℕ × List ℕ × List Loss × List ℕ) → a ≡ lay_blocks (ok (read_blocks at.n_reports (drop x s))) fs ls ws → a ≡ lay_blocks (map_ok report_blocks (read_as k s)) fs ls ws
       parsed_blocks fs ls ws a q = lists_all l.maker s at.body body_in at.n_reports count fs ls ws a (rw min_is at q)
-
-      module _ (i : ℕ) (n : i < at.n_reports) where
-        pub parsed_at : x + 24 * i + 24 ≤ length s
-        parsed_at = index_within l.maker s at.body body_in at.n_reports count i n (x + 24 * i) (ap (λ (x : ℕ). x + 24 * i) min_is)
-
-        pub parsed_block : (b : ReportBlock) → b ≡ block_view (block_from (get block_widths (drop (x + 24 * i) s))) → ok b ≡ map_ok block_view (read_block_at k s i)
-        parsed_block b q = index_there l.maker s at.body body_in at.n_reports count i n b (rw min_is at q)
 
 -- a refusal of the packet, handed on
 pub index_handed : {B : Type 0} (view : Packet → B) (k : Kind) (s : List ℕ) (i : ℕ) (r : Refusal) → refused r ≡ map_ok view (read_as k s) → refused r ≡ map_ok block_view (read_block_at k s i)

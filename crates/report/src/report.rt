@@ -121,8 +121,11 @@ pub trait Report: Copy {
     final fn report_block(s: &[u8], i: usize) -> Result<ReportBlock, RtcpParseError>
         ensures { parsed_of result ≡ map_ok block_view (read_block_at kind s.now i) }
     {
-        let report = Self::parse(s)?;
-        if report.places().n_reports <= i {
+        let Some(_body) = Self::body_of(s) else {
+            return Err(Self::why_unchecked(s));
+        };
+        let n_reports = utils::parser::parse_count(s) as usize;
+        if n_reports <= i {
             return Err(RtcpParseError::NothingLeft);
         }
         let at = Self::MIN_PACKET_LEN + ReportBlock::EXPECTED_SIZE * i;
