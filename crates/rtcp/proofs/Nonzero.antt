@@ -2,8 +2,8 @@
 use Rattle.rfc3550.proofs.Prelude.{ℕ, zero, suc, ◌+◌, ◌<◌, ◌≡◌, refl, Bool, true, false, List, [], ◌∷◌, arith, length, drop}
 use Rattle.rfc3550.specs.Answer.{Answer, ok, refused, need, ◌>>◌, ◌>>=◌, map_ok}
 use Rattle.rfc3550.specs.Loss.{Loss}
-use Rattle.rfc3550.specs.Packet.{item_bytes}
-use Rattle.rfc3550.specs.Read.{Kind, SR, RR, SDES, BYE, APP, UNKNOWN, stated, check_header, item_of, read_item, read_fill, read_items, read_chunk, read_chunks, read_leaving, read_report, read_content, read_as}
+use Rattle.rfc3550.specs.Packet.{Item, item, priv, item_bytes}
+use Rattle.rfc3550.specs.Read.{Kind, SR, RR, SDES, BYE, APP, UNKNOWN, stated, check_header, item_of, read_item, read_fill, read_items, read_chunk, read_chunks, read_leaving, read_report, read_content, read_as, prefix_of, read_prefix}
 use Rattle.rfc3550.specs.Lookup.{lookup, lookup_with}
 use Rattle.rfc3550.specs.Compound.{read_packet, read_packets, read_compound}
 use Rattle.rfc3550.specs.Write.{LentItem, Given, give_report, give_sdes, give_bye, give_app, loss_tests, item_tests, items_tests, own_tests, tests}
@@ -85,6 +85,14 @@ unfolding read_item
 one_item [] = omega arith
 one_item (t ∷ []) = omega arith
 one_item (t ∷ len ∷ s) = then _ _ (test _ 2 _ _ (omega arith)) (bind _ _ (item_of_lem _ t _) (λ i. tt))
+
+prefix_of_lem : (i : Item) → Nonzero (prefix_of i)
+prefix_of_lem (item t v) = omega arith
+prefix_of_lem (priv p v) = tt
+
+pub prefix_nonzero : (s : List ℕ) → Nonzero (read_prefix s)
+unfolding read_prefix
+prefix_nonzero s = bind _ _ (one_item s) (λ x. prefix_of_lem x.0)
 
 zeros : (k at : ℕ) (s : List ℕ) → Nonzero (read_fill k at s)
 unfolding read_fill
