@@ -5,7 +5,7 @@ ghost use Rattle.std.specs.Prelude.{◌≡◌};
 ghost use Rattle.rfc3550.specs.Answer.{map_ok};
 ghost use Rattle.rfc3550.specs.Walk.{open_sdes, walk_after};
 ghost use Rattle.utils.specs.Error.{parsed_of};
-ghost use Rattle.sdes_walk.specs.Walk.{walk_on, step_at, moved_on};
+ghost use Rattle.sdes_walk.specs.Walk.{walk_on, ended_on, step_at, moved_on};
 
 use sdes::sdes::ChunkWalk;
 use sdes_chunk::chunk::SdesChunk;
@@ -41,6 +41,16 @@ impl<'a> SdesWalk<'a> {
     {
         let position = ChunkWalk::open(data)?;
         Ok(SdesWalk { data, position })
+    }
+
+    // The walk of a packet that is refused: each of its steps gives 25.
+    pub fn ended(data: &'a [u8]) -> SdesWalk<'a>
+        ensures { result ≡ ended_on «data».entry }
+    {
+        SdesWalk {
+            data,
+            position: ChunkWalk { at: 0, end: 0 },
+        }
     }
 
     // The chunk at the walk's place, and the walk after it.
