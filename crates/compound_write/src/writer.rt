@@ -5,7 +5,7 @@ ghost use Rattle.rfc3550.specs.Packet.{is_report};
 ghost use Rattle.rfc3550.specs.Writer.{fresh, add, add_tests, close, call};
 ghost use Rattle.utils.specs.Writer.{written_of};
 ghost use Rattle.utils.specs.Error.{value_in, write_refusal};
-ghost use Rattle.compound_write.specs.Writer.{writer_of, call_of, size_added, advanced};
+ghost use Rattle.compound_write.specs.Writer.{writer_of, call_of, size_added, admitted, advanced};
 
 use report::report::is_report;
 use utils::error::RtcpWriteError;
@@ -95,6 +95,37 @@ impl Writer {
             return RtcpWriteError::OutputTooSmall(len);
         }
         RtcpWriteError::OutputTooSmall(len.saturating_add(size as u64))
+    }
+
+    // The size of a packet of this type, where it may be laid down in so much space, or why it may not: 26, 29, 27, its own refusal, then 10. A sum past
+    // 64 bits is given as 2^64 - 1.
+    #[tactic(auto, using(crate::proofs::Checks::checks))]
+    pub fn check(
+        self,
+        packet_type: u8,
+        size: Result<usize, RtcpWriteError>,
+        space: usize,
+    ) -> Result<usize, RtcpWriteError>
+        ensures { written_of result ≡ admitted (writer_of self) packet_type (written_of size) space }
+    {
+        if self.closed {
+            return Err(RtcpWriteError::WriterClosed);
+        }
+        if self.padded {
+            return Err(RtcpWriteError::AlreadyPadded);
+        }
+        if !may_start(self.len, packet_type) {
+            return Err(RtcpWriteError::FirstPacketNoReport);
+        }
+        let size = size?;
+        let start = self.len as u64;
+        if space < self.len {
+            return Err(RtcpWriteError::OutputTooSmall(start));
+        }
+        if space - self.len < size {
+            return Err(RtcpWriteError::OutputTooSmall(start.saturating_add(size as u64)));
+        }
+        Ok(size)
     }
 
     // A refusal leaves the writer as it was.
