@@ -26,12 +26,12 @@ pub fn rtcp_rr_write(
         losses,
         words,
     };
-    let report = ReceiverReportBuilder {
+    let rr = ReceiverReportBuilder {
         reporter: ReceiverInfo { ssrc },
         blocks,
         padding,
     };
-    RtcpWritten::from(report.write_into(buf))
+    RtcpWritten::from(rr.write_into(buf))
 }
 
 // The size is the same for every SSRC.
@@ -44,12 +44,12 @@ pub fn rtcp_rr_size(fractions: &[u8], losses: &[i32], words: &[u32], padding: u6
         losses,
         words,
     };
-    let report = ReceiverReportBuilder {
+    let rr = ReceiverReportBuilder {
         reporter: ReceiverInfo { ssrc: 0 },
         blocks,
         padding,
     };
-    RtcpWritten::from(report.calculate_size())
+    RtcpWritten::from(rr.calculate_size())
 }
 
 pub fn rtcp_sr_write(
@@ -78,12 +78,12 @@ pub fn rtcp_sr_write(
         losses,
         words,
     };
-    let report = SenderReportBuilder {
+    let sr = SenderReportBuilder {
         reporter,
         blocks,
         padding,
     };
-    RtcpWritten::from(report.write_into(buf))
+    RtcpWritten::from(sr.write_into(buf))
 }
 
 // The size is the same for everything that a sender says of itself.
@@ -103,10 +103,10 @@ pub fn rtcp_sr_size(fractions: &[u8], losses: &[i32], words: &[u32], padding: u6
         losses,
         words,
     };
-    let report = SenderReportBuilder {
+    let sr = SenderReportBuilder {
         reporter,
         blocks,
         padding,
     };
-    RtcpWritten::from(report.calculate_size())
+    RtcpWritten::from(sr.calculate_size())
 }
