@@ -36,7 +36,7 @@ impl<'a> LoneWriter for SdesChunkBuilder<'a> {
             return None;
         }
         let counts = [self.items.types.len() as u64];
-        chunks::chunks_end_unchecked(
+        chunks::chunks_end_of_lengths_unchecked(
             0,
             MAX_CHUNK_LEN,
             &counts,

@@ -5,7 +5,7 @@ ghost use Rattle.rfc3550.specs.Answer.{refused};
 ghost use Rattle.rfc3550.specs.Bytes.{sum, store};
 ghost use Rattle.utils.specs.Error.{write_refusal};
 ghost use Rattle.chunk_write.specs.Sizes.{at_most, chunks_end, ItemsMeasured, ChunksMeasured};
-ghost use Rattle.chunk_write.specs.Lists.{agree_in, listed_in, refused_in, items_end_in, FirstItems, LaterItems, PartFits, PartLaid, ItemsFitIn, ItemsLaidIn, ChunkFitsIn, ChunkLaidIn, laid_in, ChunksFitIn};
+ghost use Rattle.chunk_write.specs.Lists.{agree_in, listed_in, refused_in, items_end_in, chunks_end_in, FirstItems, LaterItems, PartFits, PartLaid, ItemsFitIn, ItemsLaidIn, ChunkFitsIn, ChunkLaidIn, laid_in, ChunksFitIn};
 
 use crate::item;
 use sdes_chunk::chunk::word_boundary_unchecked;
@@ -139,7 +139,7 @@ fn items_end(at: usize, bytes_left: u64, items: ItemLists) -> Option<ItemsEnd>
 // The index after the chunks, if they start at index start; None where an item is refused, the lists disagree or that index is past the limit. By the
 // number of the bytes, and not by what is lent of them: a caller may have the lengths alone.
 #[tactic(auto, using(crate::proofs::Sizes::counting))]
-pub fn chunks_end_unchecked(
+pub fn chunks_end_of_lengths_unchecked(
     start: usize,
     limit: usize,
     counts: &[u64],
@@ -172,6 +172,19 @@ pub fn chunks_end_unchecked(
         return None;
     }
     Some(at)
+}
+
+// The same where the bytes are lent.
+pub fn chunks_end_unchecked(
+    start: usize,
+    limit: usize,
+    counts: &[u64],
+    items: ItemLists,
+) -> Option<usize>
+    requires { ChunksMeasured start counts.now items.types.now items.prefixes.now items.values.now (length items.bytes.now) }
+    ensures { result ≡ at_most limit (chunks_end_in start counts.now items.entry) }
+{
+    chunks_end_of_lengths_unchecked(start, limit, counts, items, items.bytes.len())
 }
 
 // Lays the item whose bytes start at index from, at index at, and returns its size.
@@ -268,5 +281,42 @@ pub fn write_chunks_unchecked(
         at += laid.end;
         from = laid.taken;
         first = last;
+    }
+}
+
+#[cfg(test)]
+mod tests {
+    use super::*;
+
+    // The chunk of a CNAME of two bytes takes 12, and one without an item 8.
+    #[test]
+    fn chunks_end_after_their_closing_zeros(rt: HostRuntime) {
+        let (counts, types, prefixes, values) = ([1u64, 0], [1u8], [0u64], [2u64]);
+        let items = ItemLists {
+            types: &types,
+            prefixes: &prefixes,
+            values: &values,
+            bytes: b"ab",
+        };
+        assert_eq!(rt; chunks_end_unchecked(4, 16, &counts[..1], items), Some(16));
+        assert_eq!(rt; chunks_end_unchecked(4, 24, &counts, items), Some(24));
+        assert_eq!(rt; chunks_end_unchecked(4, 23, &counts, items), None);
+        // an item of no chunk, and bytes left over
+        assert_eq!(rt; chunks_end_unchecked(4, 24, &counts[1..], items), None);
+        let over = items.after_unchecked(1);
+        assert_eq!(rt; chunks_end_unchecked(4, 24, &counts[1..], over), None);
+    }
+
+    #[test]
+    fn lists_without_an_item_end_too(rt: HostRuntime) {
+        let none = ItemLists {
+            types: &[],
+            prefixes: &[],
+            values: &[],
+            bytes: &[],
+        };
+        assert_eq!(rt; chunks_end_unchecked(4, 4, &[], none), Some(4));
+        assert_eq!(rt; chunks_end_unchecked(4, 20, &[0u64, 0], none), Some(20));
+        assert_eq!(rt; chunks_end_unchecked(4, 3, &[], none), None);
     }
 }

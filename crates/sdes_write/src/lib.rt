@@ -71,7 +71,7 @@ impl<'a> SdesBuilder<'a> {
         if !writer::check_padding(self.padding) {
             return None;
         }
-        chunks::chunks_end_unchecked(
+        chunks::chunks_end_of_lengths_unchecked(
             Sdes::MIN_PACKET_LEN,
             writer::MAX_PACKET_LEN - self.padding as usize,
             self.counts,

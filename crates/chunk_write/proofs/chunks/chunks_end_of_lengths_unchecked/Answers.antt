@@ -1,7 +1,7 @@
 use Rattle.chunk_write.proofs.Sizes.{counting}
 use Rattle.rfc3550.proofs.Prelude.{refl, ◌∙◌}
 use Rattle.chunk_write.proofs.Sizes.{first_end, counting_refused, counting_end, counting_again}
-use Rattle.chunk_write.proofs.chunks.chunks_end_unchecked.Goals as goal
+use Rattle.chunk_write.proofs.chunks.chunks_end_of_lengths_unchecked.Goals as goal
 
 pub returns-in_err-here : goal.returns-in_err-here
 returns-in_err-here c =
